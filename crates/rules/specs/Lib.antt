@@ -1,3 +1,5 @@
 pub mod Numbers
 pub mod Words
+pub mod Syntax
+pub mod Reading
 pub mod Answers
