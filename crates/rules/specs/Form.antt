@@ -90,13 +90,13 @@ comesBack byOut = true
 comesBack byInout = true
 
 pub data Entering : Type 0 where
-  theValue thePlace nothing : Entering
+  enterValue enterPlace enterZero : Entering
 
 unfoldable pub entering : Direction → Entering
-entering byNone = theValue
-entering byIn = theValue
-entering byOut = nothing
-entering byInout = thePlace
+entering byNone = enterValue
+entering byIn = enterValue
+entering byOut = enterZero
+entering byInout = enterPlace
 
 unfoldable pub tableGives : Direction → Bool
 tableGives byNone = true

@@ -4,4 +4,6 @@ pub mod Syntax
 pub mod Reading
 pub mod Form
 pub mod Ceiling
+pub mod Lists
+pub mod Running
 pub mod Answers

@@ -40,14 +40,17 @@ unfoldable pub number : Reader ℕ
 number [] at = bad 4 at
 number (n ∷ left) at = got n left (suc at)
 
--- a number that stands for something: 4 where it stands for nothing
-unfoldable pub meaning : {A : Type 0} → Option A → Reader A
-meaning none left at = bad 4 at
-meaning (some a) left at = got a left (suc at)
+-- a number that stands for something, with the fault that is given where it stands for nothing or is missing
+unfoldable pub meaning : {A : Type 0} → ℕ → Option A → Reader A
+meaning fault none left at = bad fault at
+meaning fault (some a) left at = got a left (suc at)
+
+unfoldable pub lookedUp : {A : Type 0} → ℕ → (ℕ → Option A) → Reader A
+lookedUp fault what [] at = bad fault at
+lookedUp fault what (n ∷ left) at = meaning fault (what n) left at
 
 unfoldable pub standsFor : {A : Type 0} → (ℕ → Option A) → Reader A
-standsFor what [] at = bad 4 at
-standsFor what (n ∷ left) at = meaning (what n) left at
+standsFor = lookedUp 4
 
 -- a number from a least to a most
 unfoldable pub within : ℕ → ℕ → ℕ → Option ℕ
