@@ -1,17 +1,30 @@
 -- What the public operations answer and leave in the slots lent to them (document 01, "The answers"). An answer is a list of numbers:
 -- 0, a refusal's number and its place; or 1 (2 where a run ends by exit) and what is told.
 -- Answers depend on the bytes or numbers given and on how many slots are lent: what the slots held occurs only in what is left.
-use mathlib.Core.Bool.{Bool, true, false}
+use mathlib.Core.Bool.{Bool, true, false, _&&_}
 use Prim.Native.Nat.{ℕ}
 use mathlib.Core.List.{List, [], _∷_, _++_}
 use lib.Dec.{leb}
-use lib.ListN.{length, drop}
+use lib.ListN.{length, drop, replicate}
 use Rattle.rules.specs.declared.Refusal.{Refusal}
+use Rattle.rules.specs.declared.Signal.{Signal}
+use Rattle.rules.specs.declared.Signal.the-variants.{Done, Exit}
 use Rattle.rules.specs.declared.ReadAnswer.{ReadAnswer}
 use Rattle.rules.specs.declared.ReadAnswer.the-variants.{Count, Unread}
 use Rattle.rules.specs.declared.WriteAnswer.{WriteAnswer}
 use Rattle.rules.specs.declared.WriteAnswer.the-variants.{Length, Unwritten}
-use Rattle.rules.specs.Numbers.{Stream, numbers, broken, streamOf, bytesOf}
+use Rattle.rules.specs.declared.JudgeAnswer.{JudgeAnswer}
+use Rattle.rules.specs.declared.JudgeAnswer.the-variants.{Accepted, Refused}
+use Rattle.rules.specs.declared.RunAnswer.{RunAnswer}
+use Rattle.rules.specs.declared.RunAnswer.the-variants.{Ended, Unrun}
+use Rattle.rules.specs.Numbers.{Stream, numbers, broken, streamOf, bytesOf, placeOf}
+use Rattle.rules.specs.Syntax.{Program}
+use Rattle.rules.specs.Reading.{Got, got, bad, Reader, _>>=_, pure, readProgram}
+use Rattle.rules.specs.Form.{Res, ok, fault, need, judgeProgram}
+use Rattle.rules.specs.Ceiling.{mostSteps, ceilingOf}
+use Rattle.rules.specs.Lists.{Entry, Cell, readEntries, readStore, nothingLeft, slotsOf}
+use Rattle.rules.specs.Running.{Out, done, stuck, full, runProgram}
+use Rattle.rules.specs.Computing.{computed}
 
 -- the cases of the answers in the paper's numbers
 unfoldable pub ofRefusal : Refusal → List ℕ
@@ -24,6 +37,18 @@ ofRead (Unread r) = ofRefusal r
 unfoldable pub ofWrite : WriteAnswer → List ℕ
 ofWrite (Length length) = 1 ∷ length ∷ []
 ofWrite (Unwritten r) = ofRefusal r
+
+unfoldable pub ofJudge : JudgeAnswer → List ℕ
+ofJudge (Accepted ceiling length) = 1 ∷ ceiling ∷ length ∷ []
+ofJudge (Refused r) = ofRefusal r
+
+unfoldable pub ofSignal : Signal → ℕ
+ofSignal Done = 1
+ofSignal Exit = 2
+
+unfoldable pub ofRun : RunAnswer → List ℕ
+ofRun (Ended signal steps ceiling length) = ofSignal signal ∷ steps ∷ ceiling ∷ length ∷ []
+ofRun (Unrun r) = ofRefusal r
 
 -- so many slots or bytes are wanted and so many lent: the answer, or 13
 unfoldable pub withRoom : ℕ → ℕ → List ℕ → List ℕ
@@ -54,3 +79,147 @@ writeSays ns lent = withRoom (length (bytesOf ns)) lent (1 ∷ length (bytesOf n
 
 unfoldable pub writeLeaves : List ℕ → List ℕ → List ℕ
 writeLeaves ns bytes = filled (bytesOf ns) bytes
+
+-- the judge: the checks in their order
+pub record Bench : Type 0 where
+  pub program : Program
+  pub entries : List Entry
+  pub store : List Cell
+
+unfoldable pub checked : {A : Type 0} → Res A → Reader A
+checked (ok a) left at = got a left at
+checked (fault number index) left at = bad number index
+
+unfoldable pub judging : Reader Bench
+judging = do
+  program ← readProgram
+  formed ← checked (judgeProgram program)
+  bounded ← checked (need 9 0 (leb (ceilingOf program) mostSteps))
+  entries ← readEntries true program
+  store ← readStore program
+  ended ← nothingLeft
+  pure (record { program = program; entries = entries; store = store })
+
+pub data Judged : Type 0 where
+  accepted : Bench → Judged
+  refused : ℕ → ℕ → Judged
+
+-- a fault's index becomes the place of that number
+unfoldable pub placed : List ℕ → Got Bench → Judged
+placed bytes (got bench left at) = accepted bench
+placed bytes (bad number index) = refused number (placeOf bytes index)
+
+unfoldable pub judgedStream : List ℕ → Stream → Judged
+judgedStream bytes (numbers ns) = placed bytes (judging ns 0)
+judgedStream bytes (broken number place) = refused number place
+
+unfoldable pub judged : List ℕ → Judged
+judged bytes = judgedStream bytes (streamOf bytes)
+
+unfoldable pub toldByJudge : Judged → List ℕ
+toldByJudge (accepted bench) = 1 ∷ ceilingOf (bench .program) ∷ length (slotsOf (bench .store)) ∷ []
+toldByJudge (refused number place) = 0 ∷ number ∷ place ∷ []
+
+unfoldable pub judgeSays : List ℕ → List ℕ
+judgeSays bytes = toldByJudge (judged bytes)
+
+-- how a run comes out: refused; ended, with steps, ceiling and the store's numbers; full, which is 14; stuck, which is no answer
+pub data Outcome : Type 0 where
+  refusal : ℕ → ℕ → Outcome
+  ended : Signal → ℕ → ℕ → List ℕ → Outcome
+  fills sticks : Outcome
+
+unfoldable pub outcomeOf : ℕ → Out (List Cell) Signal → Outcome
+outcomeOf ceiling (done signal store steps) = ended signal steps ceiling (slotsOf store)
+outcomeOf ceiling stuck = sticks
+outcomeOf ceiling full = fills
+
+unfoldable pub runBench : ℕ → Bench → Outcome
+runBench capacity bench = outcomeOf (ceilingOf (bench .program)) (runProgram capacity (bench .program) (bench .entries) (bench .store))
+
+-- the working slots that a run asks for, and the first so many of which it leaves at 0
+abbrev pub workingSlots : ℕ
+workingSlots = 8192
+
+-- with so many result and working slots lent: 13 comes behind the judge's refusals
+unfoldable pub runWith : ℕ → ℕ → ℕ → Judged → Outcome
+runWith capacity results working (refused number place) = refusal number place
+runWith capacity results working (accepted bench) = elim (leb capacity working && leb (length (slotsOf (bench .store))) results) [
+  | true ↦ runBench capacity bench
+  | false ↦ refusal 13 0
+]
+
+unfoldable pub toldByRun : Outcome → List ℕ
+toldByRun (refusal number place) = 0 ∷ number ∷ place ∷ []
+toldByRun (ended signal steps ceiling store) = ofSignal signal ∷ steps ∷ ceiling ∷ length store ∷ []
+toldByRun fills = 0 ∷ 14 ∷ 0 ∷ []
+toldByRun sticks = 3 ∷ []
+
+-- the result slots take the store of a finished run
+unfoldable pub resultsAfter : Outcome → List ℕ → List ℕ
+resultsAfter (refusal number place) results = results
+resultsAfter (ended signal steps ceiling store) results = filled store results
+resultsAfter fills results = results
+resultsAfter sticks results = results
+
+-- a finished run and 14 zero the working slots
+unfoldable pub cleared : ℕ → List ℕ → List ℕ
+cleared capacity working = replicate capacity 0 ++ drop capacity working
+
+unfoldable pub workingAfter : ℕ → Outcome → List ℕ → List ℕ
+workingAfter capacity (refusal number place) working = working
+workingAfter capacity (ended signal steps ceiling store) working = cleared capacity working
+workingAfter capacity fills working = cleared capacity working
+workingAfter capacity sticks working = working
+
+unfoldable pub runOutcome : List ℕ → ℕ → ℕ → Outcome
+runOutcome bytes results working = runWith workingSlots results working (judged bytes)
+
+unfoldable pub runSays : List ℕ → ℕ → ℕ → List ℕ
+runSays bytes results working = toldByRun (runOutcome bytes results working)
+
+unfoldable pub runLeavesResults : List ℕ → List ℕ → ℕ → List ℕ
+runLeavesResults bytes results working = resultsAfter (runOutcome bytes (length results) working) results
+
+unfoldable pub runLeavesWorking : List ℕ → ℕ → List ℕ → List ℕ
+runLeavesWorking bytes results working = workingAfter workingSlots (runOutcome bytes results (length working)) working
+
+-- a file's result by these rules, as the marking program has it: with all the slots that it asks for
+unfoldable pub fileOutcome : ℕ → Judged → Outcome
+fileOutcome capacity (accepted bench) = runBench capacity bench
+fileOutcome capacity (refused number place) = refusal number place
+
+-- the running rules alone, with 1 to 5 asked: entries and a store are cut out of the numbers, and what is left over does not matter
+unfoldable pub cutting : Program → Reader Bench
+cutting program = do
+  entries ← readEntries false program
+  store ← readStore program
+  pure (record { program = program; entries = entries; store = store })
+
+unfoldable pub runCut : ℕ → Got Bench → Outcome
+runCut capacity (got bench left at) = outcomeOf 0 (runProgram capacity (bench .program) (bench .entries) (bench .store))
+runCut capacity (bad number index) = sticks
+
+unfoldable pub runRead : ℕ → List ℕ → Got Program → Outcome
+runRead capacity bytes (got program left at) = runCut capacity (cutting program left at)
+runRead capacity bytes (bad number index) = refusal number (placeOf bytes index)
+
+unfoldable pub runStream : ℕ → List ℕ → Stream → Outcome
+runStream capacity bytes (numbers ns) = runRead capacity bytes (readProgram ns 0)
+runStream capacity bytes (broken number place) = refusal number place
+
+-- results as numbers
+unfoldable pub numbersOf : Outcome → List ℕ
+numbersOf (refusal number place) = 0 ∷ number ∷ place ∷ []
+numbersOf (ended signal steps ceiling store) = ofSignal signal ∷ steps ∷ ceiling ∷ store
+numbersOf fills = 0 ∷ 14 ∷ 0 ∷ []
+numbersOf sticks = 3 ∷ []
+
+-- what a file gives, and what its program gives unjudged; whoever unfolds one of them computes
+unfoldable pub marked : List ℕ → List ℕ
+unfolding computed checked judging placed judgedStream judged outcomeOf runBench fileOutcome numbersOf ofSignal
+marked bytes = numbersOf (fileOutcome workingSlots (judged bytes))
+
+unfoldable pub unjudged : List ℕ → List ℕ
+unfolding computed cutting runCut runRead runStream outcomeOf numbersOf ofSignal
+unjudged bytes = numbersOf (runStream workingSlots bytes (streamOf bytes))

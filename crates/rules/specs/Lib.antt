@@ -6,4 +6,7 @@ pub mod Form
 pub mod Ceiling
 pub mod Lists
 pub mod Running
+pub mod Computing
 pub mod Answers
+pub mod Lines
+pub mod Checks

@@ -9,6 +9,8 @@ use mathlib.Core.List.{List, [], _∷_, map}
 use lib.Dec.{ltb, leb, eqb}
 use lib.Bits.{bitAnd, bitOr, bitXor}
 use lib.ListN.{getElem?, length}
+use Rattle.rules.specs.declared.Signal.{Signal}
+use Rattle.rules.specs.declared.Signal.the-variants.{Done, Exit}
 use Rattle.rules.specs.Words.{fitsWidth, sum, difference, product, complementOf, shiftedLeft, shiftedRight, castTo, sliceWidth, sliceOf, joined, prefixMatches, prefixFits, maskMatches, maskFits}
 use Rattle.rules.specs.Syntax.{Ty, bool, bits, Value, value, Direction, KeyKind, exact, lpm, ternary}
 use Rattle.rules.specs.Syntax.{Arithmetic, plus, minus, times, and, or, xor, Order, less, lessOrEqual, Shift, shiftLeft, shiftRight, Equality, equal, unequal, Logic, both, either}
@@ -17,7 +19,7 @@ use Rattle.rules.specs.Syntax.{Expr, boolLiteral, bitsLiteral, readOf, v
 use Rattle.rules.specs.Syntax.{Stmt, empty, assign, ifElse, block, callStmt, apply, returnValue, return, exit, setValid, setInvalid, Stmts, noStmts, stmt}
 use Rattle.rules.specs.Syntax.{Parameter, Callable, Numeral, Key, Table, Program, placeIn}
 use Rattle.rules.specs.Form.{Res, ok, fault, andLook, onlyIf, sameTy, fits, Shape, aVariable, aHeader, globalAt, callableBelow, comesBack, Entering, enterValue, enterPlace, enterZero, entering}
-use Rattle.rules.specs.Form.{Body, inFunction, inAction, inApply, Scope, seesGlobals, writable, mayCall, isFunction, bodyOf, scopeOf, applyScope, isLpm, oneLpm, listable}
+use Rattle.rules.specs.Form.{Body, inFunction, inAction, inApply, Scope, seesGlobals, writable, mayCall, isFunction, scopeOf, applyScope, isLpm, oneLpm, listable}
 use Rattle.rules.specs.Lists.{Pattern, exactly, prefixed, masked, Entry, Cell, variableCell, headerCell, actionAt, markOf, slotsOf}
 
 infixl 20 _>>=_
@@ -292,16 +294,15 @@ afterCall (returnedValue v) = onward
 afterCall exited = exited
 
 -- a function's body ends with a value, an action's without
-unfoldable pub bodyEnded : Body → Ending → Option Ending
-bodyEnded (inFunction t) ending = andLook (valueOf ending) λ v. some (returnedValue v)
-bodyEnded inAction onward = some onward
-bodyEnded inAction returned = some returned
-bodyEnded inAction (returnedValue v) = none
-bodyEnded inAction exited = some exited
-bodyEnded inApply onward = some onward
-bodyEnded inApply returned = some returned
-bodyEnded inApply (returnedValue v) = none
-bodyEnded inApply exited = some exited
+unfoldable pub bodyEnded : Option Ty → Ending → Option Ending
+bodyEnded none onward = some onward
+bodyEnded none returned = some returned
+bodyEnded none (returnedValue v) = none
+bodyEnded none exited = some exited
+bodyEnded (some t) onward = none
+bodyEnded (some t) returned = none
+bodyEnded (some t) (returnedValue v) = some (returnedValue v)
+bodyEnded (some t) exited = none
 
 -- what calls do: with so many slots in use, callable f is given its parameters' numbers. It ends, and leaves its parameters' numbers
 abbrev pub Calls : Type 0
@@ -407,16 +408,20 @@ module _ (Γ : Scope) (used : ℕ) (calls : Calls) (applied : ℕ → M State En
     runStmts (stmt s ss) = runStmt s >>= λ ending. andThenRun ending (runStmts ss)
 
 -- a callable's body: locals start at 0 or false; what it leaves is the store and its parameters' numbers
-unfoldable pub leave : Body → Out State Ending → Out (List Cell) (Ending × List ℕ)
-leave body (done ending s n) = next (orStuck (bodyEnded body ending) (s .store)) λ e. λ cells. done (e, s .parameters) cells n
-leave body stuck = stuck
-leave body full = full
+unfoldable pub left : List ℕ → List Cell → ℕ → Option Ending → Out (List Cell) (Ending × List ℕ)
+left ns cells n none = stuck
+left ns cells n (some ending) = done (ending, ns) cells n
+
+unfoldable pub leave : Option Ty → Out State Ending → Out (List Cell) (Ending × List ℕ)
+leave returns (done ending s n) = left (s .parameters) (s .store) n (bodyEnded returns ending)
+leave returns stuck = stuck
+leave returns full = full
 
 module _ (capacity : ℕ) (P : Program) where
   -- its slots: one for each parameter and local, above those in use
   unfoldable pub runBody : ℕ → Calls → Callable → ℕ → List ℕ → M (List Cell) (Ending × List ℕ)
   runBody n lower c used ns cells = let taken = used + (length (c .parameters) + length (c .locals)) in elim (leb taken capacity) [
-    | true ↦ leave (bodyOf (c .returns)) (runStmt (scopeOf P n c) taken lower (λ t. nowhere) (c .body) (record { store = cells; parameters = ns; locals = map (λ _. 0) (c .locals) }))
+    | true ↦ leave (c .returns) (runStmt (scopeOf P n c) taken lower (λ t. nowhere) (c .body) (record { store = cells; parameters = ns; locals = map (λ _. 0) (c .locals) }))
     | false ↦ full
   ]
 
@@ -535,12 +540,22 @@ module _ (P : Program) (entries : List Entry) (used : ℕ) (calls : Calls) where
       must (isFine (oneLpm false (T .keys)) && entriesFit T (map (λ k. k .width) ks) (entriesOf t entries)) >>= λ _.
       runFound T (lookUp (longestWins (T .keys)) ks nothing (entriesOf t entries))
 
--- the whole run: the apply body, with the store's slots in use
-unfoldable pub finish : Out State Ending → Out (List Cell) Ending
-finish (done ending s n) = done ending (s .store) n
+-- the whole run: the apply body, with the store's slots in use; return ends it as its last statement does
+unfoldable pub signalOf : Ending → Option Signal
+signalOf onward = some Done
+signalOf returned = some Done
+signalOf (returnedValue v) = none
+signalOf exited = some Exit
+
+unfoldable pub finished : List Cell → ℕ → Option Signal → Out (List Cell) Signal
+finished cells n none = stuck
+finished cells n (some signal) = done signal cells n
+
+unfoldable pub finish : Out State Ending → Out (List Cell) Signal
+finish (done ending s n) = finished (s .store) n (signalOf ending)
 finish stuck = stuck
 finish full = full
 
-unfoldable pub runProgram : ℕ → Program → List Entry → List Cell → Out (List Cell) Ending
+unfoldable pub runProgram : ℕ → Program → List Entry → List Cell → Out (List Cell) Signal
 runProgram capacity P entries store = let used = length (slotsOf store) in let calls = callsBelow capacity P (length (P .callables)) in
     finish (runStmt (applyScope P) used calls (runTable P entries used calls) (P .body) (record { store = store; parameters = []; locals = [] }))
