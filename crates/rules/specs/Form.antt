@@ -14,7 +14,6 @@ use Rattle.rules.specs.Syntax.{Stmt, empty, assign, ifElse, block, callS
 use Rattle.rules.specs.Syntax.{HeaderTy, Global, Parameter, Callable, Numeral, Key, Table, Program, atOf, placeIn}
 
 infixl 20 _>>=_
-
 -- fine, with what is known; or a fault and its index
 pub data Res (A : Type 0) : Type 0 where
   ok : A → Res A

@@ -23,7 +23,6 @@ use Rattle.rules.specs.Form.{Body, inFunction, inAction, inApply, Scope,
 use Rattle.rules.specs.Lists.{Pattern, exactly, prefixed, masked, Entry, Cell, variableCell, headerCell, actionAt, markOf, slotsOf}
 
 infixl 20 _>>=_
-
 -- the store, and the numbers that a body's parameters and locals hold
 pub record State : Type 0 where
   pub store : List Cell
