@@ -1,0 +1,21 @@
+// Comparisons of unsigned patterns.
+ghost use mathlib.Core.Path.{_≡_};
+ghost use lib.Dec.{ltb, leb, eqb};
+
+pub fn less(a: u64, b: u64) -> bool
+    ensures { λ r. ⌜ r ≡ ltb a b ⌝ }
+{
+    a < b
+}
+
+pub fn less_or_equal(a: u64, b: u64) -> bool
+    ensures { λ r. ⌜ r ≡ leb a b ⌝ }
+{
+    a <= b
+}
+
+pub fn equal(a: u64, b: u64) -> bool
+    ensures { λ r. ⌜ r ≡ eqb a b ⌝ }
+{
+    a == b
+}
