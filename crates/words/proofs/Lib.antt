@@ -1,2 +1,6 @@
 pub mod Masks
+pub mod Matching
+pub mod Pieces
+pub mod Shifts
 pub mod Tables
+pub mod Wrapping

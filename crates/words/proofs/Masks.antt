@@ -1,11 +1,11 @@
 -- The largest number of a width as a mask: it takes the remainder by 2^width, at every width.
 -- Assumes nothing.
 use mathlib.Core.Path.{_≡_, sym, ap, ap₂, _∙_, subst}
-use Prim.Native.Nat.{ℕ, suc, _-_, _%_, _^_, _≤_}
+use Prim.Native.Nat.{ℕ, suc, _-_, _%_, _^_, _≤_, _<_}
 use native.Mathlib.Nat.{sub-add-cancel}
 use lib.Bits.{bitAnd, and-mask}
 use lib.Dec.{ltb, leb, leb·suc-suc}
-use lib.Pow.{mod-mod-pow, suc-ones}
+use lib.Pow.{mod-mod-pow, suc-ones, le-ones}
 use Rattle.rules.specs.Words.{largest, fitsWidth}
 
 pub mask : (width n m : ℕ) → m ≡ largest width → bitAnd n m ≡ n % 2 ^ width
@@ -26,3 +26,7 @@ pub at-most-largest : (width n m : ℕ) → m ≡ largest width → leb n m ≡ 
 unfolding largest fitsWidth
 at-most-largest width n m e =
     ap (leb n) e ∙ sym (leb·suc-suc n (2 ^ width - 1)) ∙ ap (leb (suc n)) (suc-ones width)
+
+pub below-largest : (width n m : ℕ) → n < 2 ^ width → m ≡ largest width → n ≤ m
+unfolding largest
+below-largest width n m h e = subst (λ (k : ℕ). n ≤ k) (sym e) (le-ones width h)

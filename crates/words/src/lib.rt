@@ -2,5 +2,7 @@
 // equation about such numbers, for every width.
 pub mod arithmetic;
 pub mod bits;
+pub mod keys;
 pub mod order;
+pub mod parts;
 pub mod widths;
