@@ -2,7 +2,7 @@
 -- Assumes nothing.
 use borrow.Author.Needs.{needs}
 use Rattle.rules.specs.Words.{complementOf}
-use Rattle.words.proofs.Masks.{below-largest}
+use Rattle.words.proofs.Masks.{largest-bound}
 use Rattle.words.proofs.bits.complement.Statement.{statement}
 use Rattle.words.proofs.bits.complement.Tie as tie
 
@@ -10,7 +10,7 @@ largest-requires : tie.Need-largest-requires
 largest-requires c κs = search needs
 
 sub-result : tie.Need-sub-result
-sub-result c = search (below-largest, needs)
+sub-result c = search (largest-bound, needs)
 
 returns : tie.Need-returns
 unfolding complementOf

@@ -1,7 +1,7 @@
--- `words::widths::fits` meets its contract, by the law `at-most-largest`.
+-- `words::widths::fits` meets its contract, by the law `largest-test`.
 -- Assumes nothing.
 use borrow.Author.Needs.{needs}
-use Rattle.words.proofs.Masks.{at-most-largest}
+use Rattle.words.proofs.Masks.{largest-test}
 use Rattle.words.proofs.widths.fits.Statement.{statement}
 use Rattle.words.proofs.widths.fits.Tie as tie
 
@@ -9,7 +9,7 @@ largest-requires : tie.Need-largest-requires
 largest-requires c κs = search needs
 
 returns : tie.Need-returns
-returns c = search (at-most-largest, needs)
+returns c = search (largest-test, needs)
 
 pub fits-spec : {M : Type 1} → statement M
 fits-spec = tie.close (tie.spec largest-requires returns)
