@@ -4,7 +4,6 @@ use mathlib.Core.Bool.{Bool, true, false}
 use mathlib.Core.Path.{_≡_, refl, sym, subst}
 use Prim.Native.Nat.{ℕ, _+_, _-_, _*_, _/_, _^_, _≤_, _<_}
 use native.Mathlib.Nat.{lt-of-lt-of-le, lt-of-le-of-lt, mod-lt}
-use native.Mathlib.Omega.{arith}
 use lib.Arith.{digits-lt}
 use lib.Dec.{ltb}
 use lib.Pow.{pow-pos, pow-add, pow-mono, ones-sub-lt, shr-le}
@@ -56,8 +55,7 @@ unfolding joined
 joined-fits front width a b h l =
     subst (λ (n : ℕ). a * 2 ^ width + b < n) (sym (pow-add 2 front width)) (digits-lt h l)
 
--- what `join` requires of two patterns that have at most 64 bits together
-pub join-asks : (front width a b : ℕ) → 1 ≤ front → front + width ≤ 64 → a < 2 ^ front → b < 2 ^ width
-    → (width < 64) × (joined width a b < 2 ^ 64)
-join-asks front width a b one most h l =
-    (omega arith, lt-of-lt-of-le (joined-fits front width a b h l) (pow-mono most))
+-- as `join` requires
+pub joined-in-word : (front width a b : ℕ) → front + width ≤ 64 → a < 2 ^ front → b < 2 ^ width
+    → joined width a b < 2 ^ 64
+joined-in-word front width a b most h l = lt-of-lt-of-le (joined-fits front width a b h l) (pow-mono most)
