@@ -3,6 +3,7 @@ ghost use mathlib.Core.Path.{_≡_};
 ghost use Prim.Native.Nat.{_≤_};
 ghost use Rattle.rules.specs.Words.{prefixMatches, prefixFits, maskMatches, maskFits};
 use super::bits::shift_right;
+use super::widths::WIDEST;
 use super::widths::fits;
 use super::widths::largest;
 
@@ -12,7 +13,7 @@ pub fn prefix_matches(width: u64, prefix: u64, value: u64, key: u64) -> bool
     ensures { λ r. ⌜ r ≡ prefixMatches width prefix value key ⌝ }
 {
     let outside = width - prefix;
-    shift_right(64, key, outside) == shift_right(64, value, outside)
+    shift_right(WIDEST, key, outside) == shift_right(WIDEST, value, outside)
 }
 
 // Whether a prefix is within the width and `value` is 0 outside it.

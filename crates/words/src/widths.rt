@@ -3,7 +3,10 @@ ghost use mathlib.Core.Path.{_≡_};
 ghost use Prim.Native.Nat.{_≤_};
 ghost use Rattle.rules.specs.Words.{largest, fitsWidth};
 
-// The largest number of each width from 0 to 64.
+// The widest pattern has so many bits.
+pub const WIDEST: u64 = 64;
+
+// The largest number of each width from 0 to the widest.
 const LARGEST_VALUES: [u64; 65] = [
     0,
     1,

@@ -1,4 +1,4 @@
--- `words::arithmetic::wrapping_product` meets its contract, by the law `product-halves`. Each product of two halves fits 64 bits.
+-- `words::arithmetic::wrapping_product` meets its contract, by the laws of halves.
 -- Assumes nothing.
 use borrow.Author.Needs.{needs}
 use Rattle.words.proofs.Halves.{half-product-fits, high-half-small, low-half-small, product-halves}
