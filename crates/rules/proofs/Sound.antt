@@ -1,0 +1,364 @@
+-- Soundness of bodies: what is well formed runs, within its ceiling, and keeps every parameter, local and global within its type.
+use mathlib.Core.Path.{_≡_, refl, sym, ap, subst}
+use mathlib.Core.Bool.{Bool, true, false, not, _&&_, _||_, false≢true}
+use mathlib.Core.Option.{Option, none, some}
+use Prim.Native.Nat.{ℕ, zero, suc, _+_, _<_, _≤_, max}
+use native.Mathlib.Omega.{arith}
+use mathlib.Core.List.{List, [], _∷_, _++_, map}
+use lib.Dec.{ltb, leb, eqb}
+use lib.ListN.{getElem?, getD, length}
+use borrow.Author.Tests.{eqb-true, eqb-false, ltb-true, ltb-false, lt-ltb, le-ltb}
+use Rattle.rules.specs.Syntax.{Ty, bool, bits, Value, value, Direction, byNone, byIn, byOut, byInout, Operator, arithmetic, order, shift, equality, logic, Logic, both, either, Place}
+use Rattle.rules.specs.Syntax.{Expr, boolLiteral, bitsLiteral, readOf, validOf, negation, complement, binary, cast, slice, concatenation, callExpr, Args, noArgs, arg}
+use Rattle.rules.specs.Syntax.{Stmt, empty, assign, ifElse, block, callStmt, apply, returnValue, return, exit, setValid, setInvalid, Stmts, noStmts, stmt}
+use Rattle.rules.specs.Syntax.{Parameter, Callable, Program, placeIn}
+use Rattle.rules.specs.Form.{Res, ok, fault, _>>=_, named, need, andLook, onlyIf, sameTy, fits, aHeader, globalAt, callableBelow, wantsPlace, comesBack, Entering, enterValue, enterPlace, enterZero, entering, Body, inFunction, inAction, inApply, Scope, writable, writableIn}
+use Rattle.rules.specs.Form.{judgePlace, judgeHeaderAt, judgeOperator, Given, typesAgree, placesAgree, judgeGiven, functionTy, mayCall, judgeExpr, judgeArgs, judgeReturned, isApply, isFunction, judgeStmt, judgeStmts, returnsOn, someReturns, bodyOf, scopeOf, judgeCallable, judgeCallables}
+use Rattle.rules.specs.Ceiling.{ceilingExpr, ceilingArgs, ceilingStmt, ceilingStmts, calleeIn, noTable, ceilingAt, ceilingsBelow}
+use Rattle.rules.specs.Lists.{Cell}
+use Rattle.rules.specs.Running.{State, Ending, onward, returned, returnedValue, exited, Out, done, stuck, full, M, pure, tick, orStuck, must, gets, puts, nowhere, held, put, declared, shapeFor, headerOnly, readAt, writeAt, changeHeader, validAt, validIn, numberOf, truth, withStore, changeStore, makeValid, makeInvalid}
+use Rattle.rules.specs.Running.{choose, logicWith, binaryWith, andThenRun, valueOf, afterCall, bodyEnded, Calls, enter, onStore, outPlace, goIn, writeBack, comeBack, afterBody, runCall, runExpr, runArgs, returnedFrom, notInFunction, runStmt, runStmts, left, leave, runBody, runNumber, callsBelow}
+use Rattle.rules.specs.Running as Running
+use Rattle.rules.proofs.Predicates.{and-both, All2, nil, cons, IfOk, isOk, isFault, IfSome, ifNone, ifSome, SomeOf, isSome, ok-then, ok-map, ok-self, ok-and, ok-named, ok-found, ok-need, from-ok, some-then, if-then, if-map, if-self, from-some, look-fits}
+use Rattle.rules.proofs.Predicates.{Counts, at-most, Good, good, isFull, Runs, runs-then, runs-tick, runs-pure, runs-some, runs-must, runs-gets, runs-puts, runs-map, runs-le}
+use Rattle.rules.proofs.Fits.{Fit, HasTy, has, FitParameter, CellFits, variableFits, validFits, invalidFits, StoreFits, StateFits, sameTy-true, sameTy-refl, ok-type, ok-bits, zero-fits, number-of, truth-has, make-valid, make-invalid, store-look, store-change, with-store, held-at, put-at, declared-ok, header-at}
+use Rattle.rules.proofs.Fits.{arithmetic-ok, order-ok, shift-ok, equality-ok, not-ok, complement-ok, cast-ok, slice-ok, concatenation-ok, bool-ok}
+
+-- how a body may end: `must` says that it has to return a value
+pub data EndOk : Body → Bool → Ending → Type 0 where
+  okOnward : {b : Body} → EndOk b false onward
+  okValue : {t : Ty} {must : Bool} {v : Value} → HasTy t v → EndOk (inFunction t) must (returnedValue v)
+  okEnd : {b : Body} {must : Bool} → isFunction b ≡ false → EndOk b must onward
+  okReturn : {b : Body} {must : Bool} → isFunction b ≡ false → EndOk b must returned
+  okExit : {b : Body} {must : Bool} → isFunction b ≡ false → EndOk b must exited
+
+end-weak : {b : Body} {m : Bool} {e : Ending} → EndOk b m e → EndOk b false e
+end-weak okOnward = okOnward
+end-weak (okValue h) = okValue h
+end-weak (okEnd q) = okEnd q
+end-weak (okReturn q) = okReturn q
+end-weak (okExit q) = okExit q
+
+end-left : {b : Body} {m : Bool} (k : Bool) {e : Ending} → EndOk b m e → EndOk b (m && k) e
+end-left k okOnward = okOnward
+end-left k (okValue h) = okValue h
+end-left k (okEnd q) = okEnd q
+end-left k (okReturn q) = okReturn q
+end-left k (okExit q) = okExit q
+
+end-right : {b : Body} (m : Bool) {k : Bool} {e : Ending} → EndOk b k e → EndOk b (m && k) e
+end-right true h = h
+end-right false h = end-weak h
+
+-- where no value has to be returned, none has to be
+end-any : {b : Body} {m : Bool} (k : Bool) {e : Ending} → isFunction b ≡ false → EndOk b m e → EndOk b k e
+end-any k q okOnward = okEnd q
+end-any k q (okValue h) = okValue h
+end-any k q (okEnd p) = okEnd p
+end-any k q (okReturn p) = okReturn p
+end-any k q (okExit p) = okExit p
+
+module _ {S : Type 0} {F : S → Type 0} where
+  choose-ok : {A : Type 0} {R : A → Type 0} {c d : ℕ} {m n : M S A} {v : Value} → HasTy bool v → Runs _≤_ F R c m → Runs _≤_ F R d n → Runs _≤_ F R (max c d) (choose v m n)
+  unfolding choose
+  choose-ok {c} {d} (has {n = zero} e) h k = runs-le (omega arith) k
+  choose-ok {c} {d} (has {n = suc n} e) h k = runs-le (omega arith) h
+
+  logic-ok : {c : ℕ} {m : M S Value} {v : Value} (o : Logic) → HasTy bool v → Runs _≤_ F (HasTy bool) c m → Runs _≤_ F (HasTy bool) c (logicWith o v m)
+  unfolding logicWith
+  logic-ok both h k = runs-le (omega arith) (choose-ok h k (runs-pure at-most _ (truth-has false)))
+  logic-ok either h k = runs-le (omega arith) (choose-ok h (runs-pure at-most _ (truth-has true)) k)
+
+  binary-ok : {c d : ℕ} {a b : M S Value} (at : ℕ) (o : Operator) (t u : Ty) → Runs _≤_ F (HasTy t) c a → Runs _≤_ F (HasTy u) d b
+      → IfOk (λ r. Runs _≤_ F (HasTy r) (c + d) (binaryWith o a b)) (judgeOperator at o t u)
+  unfolding judgeOperator binaryWith
+  binary-ok at (arithmetic o) t u h k = ok-then (ok-bits at t) λ w e. ok-then (ok-type at t u) λ _ q.
+      isOk (runs-le (omega arith) (runs-then at-most h λ v hv. runs-then at-most k λ x hx. runs-some at-most (arithmetic-ok o (rw e at hv) (rw (← q, e) at hx))))
+  binary-ok at (order o) t u h k = ok-then (ok-bits at t) λ w e. ok-then (ok-type at t u) λ _ q.
+      isOk (runs-le (omega arith) (runs-then at-most h λ v hv. runs-then at-most k λ x hx. runs-some at-most (order-ok o (rw e at hv) (rw (← q, e) at hx))))
+  binary-ok at (shift o) t u h k = ok-then (ok-bits at t) λ w e. ok-then (ok-bits at u) λ z q.
+      isOk (runs-le (omega arith) (runs-then at-most h λ v hv. runs-then at-most k λ x hx. runs-some at-most (shift-ok o (rw e at hv) (rw q at hx))))
+  binary-ok at (equality o) t u h k = ok-then (ok-type at t u) λ _ q.
+      isOk (runs-le (omega arith) (runs-then at-most h λ v hv. runs-then at-most k λ x hx. runs-some at-most (equality-ok o hv (rw (← q) at hx))))
+  binary-ok at (logic o) t u h k = ok-then (ok-type at bool t) λ _ e. ok-then (ok-type at bool u) λ _ q.
+      isOk (runs-le (omega arith) (runs-then at-most h λ v hv. logic-ok o (rw (← e) at hv) (runs-then at-most k λ x hx. runs-some at-most (bool-ok (rw (← q) at hx)))))
+
+  literal-ok : (at : ℕ) (t : Ty) (n : ℕ) → IfOk (λ u. Runs _≤_ F (HasTy u) 1 (tick (orStuck (onlyIf (fits t n) (some (value t n)))))) (need 7 at (fits t n) >>= λ _. ok t)
+  unfolding onlyIf
+  literal-ok at t n = ok-then (ok-need 7 at (fits t n)) λ _ e. isOk (rw e (runs-tick at-most (runs-some at-most (isSome (has e)))))
+
+  and-then-ok : {b : Body} {m k : Bool} {c : ℕ} {n : M S Ending} {e : Ending} → EndOk b m e → Runs _≤_ F (EndOk b k) c n → Runs _≤_ F (EndOk b (m || k)) c (andThenRun e n)
+  unfolding andThenRun
+  and-then-ok okOnward h = h
+  and-then-ok (okValue v) h = runs-le (omega arith) (runs-pure at-most _ (okValue v))
+  and-then-ok (okEnd q) h = runs-map h λ e. end-any _ q
+  and-then-ok (okReturn q) h = runs-le (omega arith) (runs-pure at-most _ (okReturn q))
+  and-then-ok (okExit q) h = runs-le (omega arith) (runs-pure at-most _ (okExit q))
+
+  not-in-function : (at : ℕ) (b : Body) (e : Ending) → (isFunction b ≡ false → EndOk b false e) → IfOk (λ _. Runs _≤_ F (EndOk b false) 0 (notInFunction b e)) (need 8 at (not (isFunction b)))
+  unfolding notInFunction
+  not-in-function at b e h = ok-map (ok-need 8 at (not (isFunction b))) λ _ q. runs-then at-most (runs-must at-most _ q) λ _ _. runs-pure at-most e (h (not-true (isFunction b) q))
+    where
+      not-true : (t : Bool) → not t ≡ true → t ≡ false
+      not-true true p = absurd (false≢true p)
+      not-true false p = refl
+
+-- what the meaning of calls below `reach` gives: each callable there runs on numbers that fit its parameters
+abbrev pub CallResult : Callable → Ending × List ℕ → Type 0
+CallResult c r = EndOk (bodyOf (c .returns)) true (r .0) × All2 FitParameter (c .parameters) (r .1)
+
+abbrev pub CallOk : Program → Calls → ℕ → ℕ → Callable → Type 0
+CallOk P calls f ceiling c = (used : ℕ) (ns : List ℕ) → All2 FitParameter (c .parameters) ns → Runs _≤_ (StoreFits P) (CallResult c) ceiling (calls used f ns)
+
+abbrev pub CallsOk : Program → ℕ → Calls → (ℕ → ℕ) → Type 0
+CallsOk P reach calls callee = (f : ℕ) → IfSome (CallOk P calls f (callee f)) (callableBelow P reach f)
+
+value-ok : {t : Ty} {e : Ending} → EndOk (inFunction t) true e → SomeOf (HasTy t) (valueOf e)
+unfolding valueOf isFunction
+value-ok (okValue h) = isSome h
+value-ok (okEnd q) = absurd (false≢true (sym q))
+value-ok (okReturn q) = absurd (false≢true (sym q))
+value-ok (okExit q) = absurd (false≢true (sym q))
+
+may-call : (b : Body) (r : Option Ty) → mayCall b r ≡ true → isFunction (bodyOf r) ≡ false → isFunction b ≡ false
+unfolding mayCall bodyOf isFunction
+may-call (inFunction t) none e q = absurd (false≢true e)
+may-call (inFunction t) (some u) e q = absurd (false≢true (sym q))
+may-call inAction r e q = refl
+may-call inApply r e q = refl
+
+after-call : (b : Body) {called : Body} {e : Ending} → EndOk called true e → (isFunction called ≡ false → isFunction b ≡ false) → EndOk b false (afterCall e)
+unfolding afterCall
+after-call b (okValue h) k = okOnward
+after-call b (okEnd q) k = okOnward
+after-call b (okReturn q) k = okOnward
+after-call b (okExit q) k = okExit (k q)
+
+function-body : {r : Option Ty} {t : Ty} {e : Ending} → r ≡ some t → EndOk (bodyOf r) true e → EndOk (inFunction t) true e
+unfolding bodyOf
+function-body q h = rw q at h
+
+function-ok : (at : ℕ) (r : Option Ty) → IfOk (λ t. r ≡ some t) (functionTy at r)
+unfolding functionTy
+function-ok at none = isFault
+function-ok at (some t) = isOk refl
+
+returned-ok : (at : ℕ) (b : Body) (u : Ty) → IfOk (λ _. (v : Value) → HasTy u v → SomeOf (EndOk b true) (returnedFrom b v)) (judgeReturned at b u)
+unfolding judgeReturned returnedFrom
+returned-ok at (inFunction t) u = ok-map (ok-type at t u) λ _ e v hv. some-then (number-of (rw (← e) at hv)) λ n hn. isSome (okValue (has hn))
+returned-ok at inAction u = isFault
+returned-ok at inApply u = isFault
+
+mark-in : {widths : List ℕ} {c : Cell} → CellFits (aHeader widths) c → SomeOf (λ _. Unit {0}) (validIn c)
+unfolding validIn
+mark-in (validFits h) = isSome tt
+mark-in (invalidFits h) = isSome tt
+
+no-place : {p : Place} → none ≡ some p → ⊥
+no-place e = let z : _≡_ {A = ℕ} 0 1 = cc in omega arith
+
+same-place : {p q : Place} → some p ≡ some q → p ≡ q
+same-place e = cc
+
+-- what comes back goes to a place
+back-place : (d : Direction) → comesBack d ≡ true → wantsPlace d ≡ true
+unfolding comesBack wantsPlace
+back-place byNone e = e
+back-place byIn e = e
+back-place byOut e = refl
+back-place byInout e = refl
+
+either-true : (a b : Bool) → (not a || b) ≡ true → a ≡ true → b ≡ true
+either-true true b e q = e
+either-true false b e q = absurd (false≢true q)
+
+module _ (Γ : Scope) where
+  abbrev Fine : State → Type 0
+  Fine = StateFits Γ
+
+  read-ok : (at : ℕ) (p : Place) → IfOk (λ t. Runs _≤_ Fine (HasTy t) 0 (readAt Γ p)) (judgePlace Γ at p)
+  unfolding readAt
+  read-ok at p = ok-map (declared-ok Γ at p) λ t e. rw e (runs-then at-most (runs-some at-most {R = λ u. u ≡ t} (isSome refl)) λ u q.
+      runs-then at-most (runs-gets at-most {R = Fit t} λ s f. from-some (rw e at (held-at Γ p s f))) λ n hn. runs-pure at-most _ (rw q (has hn)))
+
+  write-runs : (p : Place) (t : Ty) → declared Γ p ≡ some t → writable Γ p ≡ true → (v : Value) → HasTy t v → Runs _≤_ Fine (λ _. Unit {0}) 0 (writeAt Γ p v)
+  unfolding writeAt onlyIf
+  write-runs p t e w v hv = rw (w, e) (runs-then at-most (runs-some at-most {R = λ u. u ≡ t} (isSome refl)) λ u q.
+      runs-then at-most (runs-some at-most {R = Fit t} (rw q (number-of hv))) λ n hn. runs-puts at-most λ s f. (from-some (rw e at (put-at Γ p s f))) n hn)
+
+  valid-ok : (at g : ℕ) → IfOk (λ _. Runs _≤_ Fine (HasTy bool) 0 (validAt Γ g)) (judgeHeaderAt Γ at g)
+  unfolding validAt
+  valid-ok at g = ok-map (header-at Γ at g) λ _ h. runs-then at-most (runs-some at-most h) λ widths e.
+      runs-then at-most (runs-gets at-most λ s f. some-then (from-some (rw e at (store-look (f .store-fits) g))) λ c hc. mark-in hc) λ b _. runs-pure at-most _ (truth-has b)
+
+  header-changes : (at g : ℕ) (f : Cell → Option Cell) → ((widths : List ℕ) (c : Cell) → CellFits (aHeader widths) c → SomeOf (CellFits (aHeader widths)) (f c))
+      → IfOk (λ _. Runs _≤_ Fine (λ _. Unit {0}) 0 (changeHeader Γ g f)) (judgeHeaderAt Γ at g)
+  unfolding changeHeader changeStore
+  header-changes at g f k = ok-map (header-at Γ at g) λ _ h. runs-then at-most (runs-some at-most h) λ widths e.
+      runs-puts at-most λ s fine. some-then ((from-some (rw e at (store-change (fine .store-fits) g))) f (k widths)) λ cells hc. isSome (with-store Γ fine hc)
+
+  -- what the judge says of an expression that names a place is the place's declared type
+  named-place : (e : Expr) (t : Ty) → judgeExpr Γ e ≡ ok t → (p : Place) → placeIn e ≡ some p → declared Γ p ≡ some t
+  unfolding judgeExpr placeIn
+  named-place (boolLiteral at n) t e p q = absurd (no-place q)
+  named-place (bitsLiteral at w n) t e p q = absurd (no-place q)
+  named-place (readOf at r) t e p q = rw (same-place q) at (from-ok (rw e at (declared-ok Γ at r)))
+  named-place (validOf at g) t e p q = absurd (no-place q)
+  named-place (negation at a) t e p q = absurd (no-place q)
+  named-place (complement at a) t e p q = absurd (no-place q)
+  named-place (binary at o a b) t e p q = absurd (no-place q)
+  named-place (cast at w a) t e p q = absurd (no-place q)
+  named-place (slice at h l a) t e p q = absurd (no-place q)
+  named-place (concatenation at a b) t e p q = absurd (no-place q)
+  named-place (callExpr at f xs) t e p q = absurd (no-place q)
+
+  -- an argument that has to be a place is one, and can be written
+  out-place : (t : Ty) (place : Option Place) → writableIn Γ place ≡ true → ((p : Place) → place ≡ some p → declared Γ p ≡ some t) → SomeOf (λ p. place ≡ some p) (outPlace Γ t place)
+  unfolding writableIn outPlace andLook onlyIf
+  out-place t none w h = absurd (false≢true w)
+  out-place t (some p) w h = rw (h p refl, w, sameTy-refl t) (isSome refl)
+
+  module _ (t : Ty) (place : Option Place) (declares : (p : Place) → place ≡ some p → declared Γ p ≡ some t) where
+    go-in : (d : Direction) {c : ℕ} {run : M State Value} → (not (wantsPlace d) || writableIn Γ place) ≡ true → Runs _≤_ Fine (HasTy t) c run → 1 ≤ c
+        → Runs _≤_ Fine (Fit t) c (goIn Γ (entering d) t place run)
+    unfolding goIn entering wantsPlace
+    go-in byNone w h k = runs-le (omega arith) (runs-then at-most h λ v hv. runs-some at-most (number-of hv))
+    go-in byIn w h k = runs-le (omega arith) (runs-then at-most h λ v hv. runs-some at-most (number-of hv))
+    go-in byOut w h k = runs-le k (runs-tick at-most (runs-then at-most (runs-some at-most (out-place t place w declares)) λ _ _. runs-pure at-most 0 (zero-fits t)))
+    go-in byInout w h k = runs-le (omega arith) (runs-then at-most (runs-some at-most (out-place t place w declares)) λ _ _. runs-then at-most h λ v hv. runs-some at-most (number-of hv))
+
+    write-place : (place : Option Place) → writableIn Γ place ≡ true → ((p : Place) → place ≡ some p → declared Γ p ≡ some t) → (n : ℕ) → Fit t n → Runs _≤_ Fine (λ _. Unit {0}) 0 (writeBack Γ place (value t n))
+    unfolding writableIn writeBack
+    write-place none w h n hn = absurd (false≢true w)
+    write-place (some p) w h n hn = write-runs p t (h p refl) w (value t n) (has hn)
+
+    write-back : (d : Direction) → (not (wantsPlace d) || writableIn Γ place) ≡ true → comesBack d ≡ true → (n : ℕ) → Fit t n → Runs _≤_ Fine (λ _. Unit {0}) 0 (writeBack Γ place (value t n))
+    write-back d w b n hn = write-place place (either-true (wantsPlace d) (writableIn Γ place) w (back-place d b)) declares n hn
+
+  abbrev Back : Args → List Parameter → Type 0
+  Back xs ps = (ns : List ℕ) → All2 FitParameter ps ns → Runs _≤_ Fine (λ _. Unit {0}) 0 (comeBack Γ xs ps ns)
+
+  back-nil : Back noArgs []
+  unfolding comeBack
+  back-nil _ nil = runs-pure at-most tt tt
+
+  back-cons : (e : Expr) (xs : Args) (p : Parameter) (ps : List Parameter)
+      → (comesBack (p .direction) ≡ true → (n : ℕ) → Fit (p .ty) n → Runs _≤_ Fine (λ _. Unit {0}) 0 (writeBack Γ (placeIn e) (value (p .ty) n)))
+      → Back xs ps → Back (arg e xs) (p ∷ ps)
+  unfolding comeBack
+  back-cons e xs p ps h k _ (cons {b = n} {ys = ns} r rs) = go (comesBack (p .direction)) refl
+    where
+      go : (b : Bool) → comesBack (p .direction) ≡ b → Runs _≤_ {B = Unit {0}} Fine (λ _. Unit {0}) 0 (elim b [
+        | true ↦ Running._>>=_ (writeBack Γ (placeIn e) (value (p .ty) n)) (λ _. comeBack Γ xs ps ns)
+        | false ↦ comeBack Γ xs ps ns
+      ])
+      go true q = runs-then at-most (h q n r) λ _ _. k ns rs
+      go false q = k ns rs
+
+-- the meaning of calls is given: expressions and arguments
+one-step : (callee : ℕ → ℕ) (e : Expr) → 1 ≤ ceilingExpr callee e
+unfolding ceilingExpr
+one-step callee (boolLiteral at n) = omega arith
+one-step callee (bitsLiteral at w n) = omega arith
+one-step callee (readOf at p) = omega arith
+one-step callee (validOf at g) = omega arith
+one-step callee (negation at a) = omega arith
+one-step callee (complement at a) = omega arith
+one-step callee (binary at o a b) = omega arith
+one-step callee (cast at w a) = omega arith
+one-step callee (slice at h l a) = omega arith
+one-step callee (concatenation at a b) = omega arith
+one-step callee (callExpr at f xs) = omega arith
+
+enter-good : (Γ : Scope) {A : Type 0} {R : A → Type 0} {c : ℕ} {s : State} {o : Out (List Cell) A} → StateFits Γ s → Good _≤_ (StoreFits (Γ .program)) R c o → Good _≤_ (StateFits Γ) R c (enter s o)
+unfolding enter
+enter-good Γ f (good n r g q) = good n r (with-store Γ f g) q
+enter-good Γ f isFull = isFull
+
+pub on-store : (Γ : Scope) {A : Type 0} {R : A → Type 0} {c : ℕ} {m : M (List Cell) A} → Runs _≤_ (StoreFits (Γ .program)) R c m → Runs _≤_ (StateFits Γ) R c (onStore m)
+unfolding onStore
+on-store Γ h = record { run = λ s f. enter-good Γ f (h .run (s .store) (f .store-fits)) }
+
+after-body : (Γ : Scope) {b : Body} {e : Ending} {back : M State (Unit {0})} → EndOk b true e → Runs _≤_ (StateFits Γ) (λ _. Unit {0}) 0 back → Runs _≤_ (StateFits Γ) (EndOk b true) 0 (afterBody e back)
+unfolding afterBody
+after-body Γ (okValue v) h = runs-then at-most h λ _ _. runs-pure at-most _ (okValue v)
+after-body Γ (okEnd q) h = runs-then at-most h λ _ _. runs-pure at-most _ (okEnd q)
+after-body Γ (okReturn q) h = runs-then at-most h λ _ _. runs-pure at-most _ (okReturn q)
+after-body Γ (okExit q) h = runs-pure at-most _ (okExit q)
+
+-- a name that the judge and the run look up alike
+look-ok : {S A B C : Type 0} {F : S → Type 0} {P : A → Type 0} {R : B → C → Type 0} {c : ℕ} {k : A → Res B} {l : A → M S C} (at : ℕ) {o : Option A}
+    → IfSome P o → ((a : A) → P a → IfOk (λ b. Runs _≤_ F (R b) c (l a)) (k a)) → IfOk (λ b. Runs _≤_ F (R b) (0 + c) (Running._>>=_ (orStuck o) l)) (named at o >>= k)
+unfolding _>>=_ named
+look-ok at ifNone h = isFault
+look-ok at (ifSome {a} p) h = ok-map (h _ p) λ b r. runs-then at-most (runs-some at-most {R = λ x. x ≡ a} (isSome refl)) λ x e. rw e r
+
+module _ (Γ : Scope) (used : ℕ) (calls : Calls) (callee : ℕ → ℕ) (calls-ok : CallsOk (Γ .program) (Γ .reach) calls callee) where
+  abbrev SafeExpr : Expr → Type 0
+  SafeExpr e = IfOk (λ t. Runs _≤_ (StateFits Γ) (HasTy t) (ceilingExpr callee e) (runExpr Γ used calls e)) (judgeExpr Γ e)
+
+  -- arguments that agree with parameters run to numbers that fit them, and can be written back
+  abbrev ArgsRun : Args → List Given → Type 0
+  ArgsRun xs gs = (ps : List Parameter) → typesAgree ps gs ≡ true → placesAgree ps gs ≡ true
+      → Runs _≤_ (StateFits Γ) (All2 FitParameter ps) (ceilingArgs callee xs) (runArgs Γ used calls xs ps) × Back Γ xs ps
+
+  abbrev SafeArgs : Args → Type 0
+  SafeArgs xs = IfOk (ArgsRun xs) (judgeArgs Γ xs)
+
+  args-nil : ArgsRun noArgs []
+  unfolding runArgs typesAgree ceilingArgs
+  args-nil [] e q = (runs-pure at-most _ nil, back-nil Γ)
+  args-nil (p ∷ ps) e q = absurd (false≢true e)
+
+  args-cons : (e : Expr) (xs : Args) (t : Ty) (gs : List Given) → judgeExpr Γ e ≡ ok t → Runs _≤_ (StateFits Γ) (HasTy t) (ceilingExpr callee e) (runExpr Γ used calls e)
+      → ArgsRun xs gs → ArgsRun (arg e xs) (record { ty = t; writable = writableIn Γ (placeIn e) } ∷ gs)
+  unfolding runArgs typesAgree placesAgree ceilingArgs
+  args-cons e xs t gs j h k [] a b = absurd (false≢true a)
+  args-cons e xs t gs j h k (p ∷ ps) a b =
+      let same = and-both (sameTy (p .ty) t) (typesAgree ps gs) a in
+      let places = and-both (not (wantsPlace (p .direction)) || writableIn Γ (placeIn e)) (placesAgree ps gs) b in
+      let rest = k ps (same .1) (places .1) in
+      let e≡ : t ≡ p .ty = sym (sameTy-true (p .ty) t (same .0)) in
+      let declares : (q : Place) → placeIn e ≡ some q → declared Γ q ≡ some (p .ty) = λ q x. rw e≡ at (named-place Γ e t j q x) in
+      let runs : Runs _≤_ (StateFits Γ) (HasTy (p .ty)) (ceilingExpr callee e) (runExpr Γ used calls e) = rw e≡ at h in
+      (runs-le (omega arith) (runs-then at-most (go-in Γ (p .ty) (placeIn e) declares (p .direction) (places .0) runs (one-step callee e)) λ n hn. runs-then at-most (rest .0) λ ns hns. runs-pure at-most _ (cons hn hns)),
+        back-cons Γ e xs p ps (write-back Γ (p .ty) (placeIn e) declares (p .direction) (places .0)) (rest .1))
+
+  given-ok : (at : ℕ) (ps : List Parameter) (gs : List Given) → IfOk (λ _. (typesAgree ps gs ≡ true) × (placesAgree ps gs ≡ true)) (judgeGiven at ps gs)
+  unfolding judgeGiven
+  given-ok at ps gs = ok-then (ok-need 7 at (typesAgree ps gs)) λ _ e. ok-map (ok-need 8 at (placesAgree ps gs)) λ _ q. (e, q)
+
+  -- a call behind the look-up of its name, its arguments judged
+  call-runs : (f : ℕ) (xs : Args) (c : Callable) {C : Type 0} {Q : C → Type 0} {fin : Ending → M State C}
+      → Runs _≤_ (StateFits Γ) (All2 FitParameter (c .parameters)) (ceilingArgs callee xs) (runArgs Γ used calls xs (c .parameters)) × Back Γ xs (c .parameters)
+      → CallOk (Γ .program) calls f (callee f) c
+      → ((e : Ending) → EndOk (bodyOf (c .returns)) true e → Runs _≤_ (StateFits Γ) Q 0 (fin e))
+      → Runs _≤_ (StateFits Γ) Q (ceilingArgs callee xs + callee f)
+          (Running._>>=_ (runArgs Γ used calls xs (c .parameters)) λ ns. Running._>>=_ (runCall Γ used calls f xs (c .parameters) ns) fin)
+  unfolding runCall
+  call-runs f xs c ha hc hf = runs-le (omega arith) (runs-then at-most (ha .0) λ ns hns.
+      runs-then at-most (runs-then at-most (on-store Γ (hc used ns hns)) λ r hr. after-body Γ (hr .0) (ha .1 (r .1) (hr .1))) λ e he. hf e he)
+
+  mutual
+    unfolding judgeExpr runExpr ceilingExpr
+
+    pub sound-expr : (e : Expr) → SafeExpr e
+    sound-expr (boolLiteral at n) = literal-ok at bool n
+    sound-expr (bitsLiteral at w n) = literal-ok at (bits w) n
+    sound-expr (readOf at p) = ok-map (read-ok Γ at p) λ t h. runs-tick at-most h
+    sound-expr (validOf at g) = ok-then (valid-ok Γ at g) λ _ h. isOk (runs-tick at-most h)
+    sound-expr (negation at a) = ok-then (sound-expr a) λ t h. ok-then (ok-type at bool t) λ _ e. isOk (runs-le (omega arith) (runs-tick at-most (runs-then at-most h λ v hv. runs-some at-most (not-ok (rw (← e) at hv)))))
+    sound-expr (complement at a) = ok-then (sound-expr a) λ t h. ok-then (ok-bits at t) λ w e. isOk (runs-le (omega arith) (runs-tick at-most (runs-then at-most h λ v hv. runs-some at-most (complement-ok (rw e at hv)))))
+    sound-expr (binary at o a b) = ok-then (sound-expr a) λ t h. ok-then (sound-expr b) λ u k. ok-map (binary-ok at o t u h k) λ r w. runs-tick at-most w
+    sound-expr (cast at w a) = ok-then (sound-expr a) λ t h. ok-then (ok-bits at t) λ z e. isOk (runs-le (omega arith) (runs-tick at-most (runs-then at-most h λ v hv. runs-some at-most (cast-ok w (rw e at hv)))))
+    sound-expr (slice at high low a) = ok-then (sound-expr a) λ t h. ok-then (ok-bits at t) λ w e. ok-then (ok-need 7 at (leb low high && ltb high w)) λ _ q.
+        isOk (runs-le (omega arith) (runs-tick at-most (runs-then at-most h λ v hv. runs-some at-most (slice-ok high low w q (rw e at hv)))))
+    sound-expr (concatenation at a b) = ok-then (sound-expr a) λ t h. ok-then (sound-expr b) λ u k. ok-then (ok-bits at t) λ w e. ok-then (ok-bits at u) λ z q. ok-then (ok-need 7 at (leb (w + z) 64)) λ _ l.
+        isOk (runs-le (omega arith) (runs-tick at-most (runs-then at-most h λ v hv. runs-then at-most k λ x hx. runs-some at-most (concatenation-ok l (rw e at hv) (rw q at hx)))))
+    sound-expr (callExpr at f xs) = ok-map (look-ok (suc at) (calls-ok f) λ c hc. ok-then (sound-args xs) λ gs ha. ok-then (given-ok at (c .parameters) gs) λ _ q. ok-map (function-ok at (c .returns)) λ t e.
+        runs-then at-most (runs-some at-most {R = λ _. Unit {0}} (rw e (isSome tt))) λ _ _.
+        call-runs f xs c (ha (c .parameters) (q .0) (q .1)) hc λ w hw. runs-some at-most (value-ok (function-body e hw))) λ t h. runs-le (omega arith) (runs-tick at-most h)
+
+    pub sound-args : (xs : Args) → SafeArgs xs
+    sound-args noArgs = isOk args-nil
+    sound-args (arg e xs) = ok-then (ok-and (ok-self (judgeExpr Γ e)) (sound-expr e)) λ t h. ok-then (sound-args xs) λ gs k. isOk (args-cons e xs t gs (h .0) (h .1) k)
