@@ -1,3 +1,4 @@
 pub mod Predicates
 pub mod Fits
 pub mod Sound
+pub mod Callables

@@ -1,5 +1,5 @@
 -- Soundness of bodies: what is well formed runs, within its ceiling, and keeps every parameter, local and global within its type.
-use mathlib.Core.Path.{_≡_, refl, sym, ap, subst}
+use mathlib.Core.Path.{_≡_, refl, sym, ap, subst, _∙_}
 use mathlib.Core.Bool.{Bool, true, false, not, _&&_, _||_, false≢true}
 use mathlib.Core.Option.{Option, none, some}
 use Prim.Native.Nat.{ℕ, zero, suc, _+_, _<_, _≤_, max}
@@ -362,3 +362,122 @@ module _ (Γ : Scope) (used : ℕ) (calls : Calls) (callee : ℕ → ℕ) (calls
     pub sound-args : (xs : Args) → SafeArgs xs
     sound-args noArgs = isOk args-nil
     sound-args (arg e xs) = ok-then (ok-and (ok-self (judgeExpr Γ e)) (sound-expr e)) λ t h. ok-then (sound-args xs) λ gs k. isOk (args-cons e xs t gs (h .0) (h .1) k)
+
+-- statements: `table` bounds what an apply runs, in a scope where apply stands
+abbrev pub AppliesOk : Scope → (ℕ → M State Ending) → (ℕ → ℕ) → Type 0
+AppliesOk Γ applied table = isApply (Γ .body) ≡ true → (t : ℕ) → IfSome (λ _. Runs _≤_ (StateFits Γ) (EndOk (Γ .body) false) (table t) (applied t)) (getElem? (Γ .program .tables) t)
+
+module _ (Γ : Scope) (used : ℕ) (calls : Calls) (callee : ℕ → ℕ) (calls-ok : CallsOk (Γ .program) (Γ .reach) calls callee)
+    (applied : ℕ → M State Ending) (table : ℕ → ℕ) (applies-ok : AppliesOk Γ applied table) where
+  abbrev SafeStmt : Stmt → Type 0
+  SafeStmt s = IfOk (λ _. Runs _≤_ (StateFits Γ) (EndOk (Γ .body) (returnsOn s)) (ceilingStmt callee table s) (runStmt Γ used calls applied s)) (judgeStmt Γ s)
+
+  abbrev SafeStmts : Stmts → Type 0
+  SafeStmts ss = IfOk (λ _. Runs _≤_ (StateFits Γ) (EndOk (Γ .body) (someReturns ss)) (ceilingStmts callee table ss) (runStmts Γ used calls applied ss)) (judgeStmts Γ ss)
+
+  apply-ok : (at t : ℕ) → IfOk (λ _. Runs _≤_ (StateFits Γ) (EndOk (Γ .body) false) (table t) (applied t)) (named (suc at) (getElem? (Γ .program .tables) t) >>= λ _. need 8 at (isApply (Γ .body)))
+  apply-ok at t = ok-then (ok-found (suc at) (getElem? (Γ .program .tables) t)) λ T e. ok-map (ok-need 8 at (isApply (Γ .body))) λ _ q. from-some (rw e at (applies-ok q t))
+
+  mutual
+    unfolding judgeStmt runStmt ceilingStmt returnsOn
+
+    pub sound-stmt : (s : Stmt) → SafeStmt s
+    sound-stmt (empty at) = isOk (runs-tick at-most (runs-pure at-most _ okOnward))
+    sound-stmt (assign at target p e) = ok-then (declared-ok Γ target p) λ t d. ok-then (sound-expr Γ used calls callee calls-ok e) λ u h. ok-then (ok-type at t u) λ _ q. ok-map (ok-need 8 at (writable Γ p)) λ _ w.
+        runs-le (omega arith) (runs-tick at-most (runs-then at-most h λ v hv. runs-then at-most (write-runs Γ p t d w v (rw (← q) at hv)) λ _ _. runs-pure at-most _ okOnward))
+    sound-stmt (ifElse at c a b) = ok-then (sound-expr Γ used calls callee calls-ok c) λ t h. ok-then (sound-stmt a) λ _ ha. ok-then (sound-stmt b) λ _ hb. ok-map (ok-type at bool t) λ _ q.
+        runs-tick at-most (runs-then at-most h λ v hv. choose-ok (rw (← q) at hv) (runs-map ha λ e. end-left (returnsOn b)) (runs-map hb λ e. end-right (returnsOn a)))
+    sound-stmt (block at ss) = ok-map (sound-stmts ss) λ _ h. runs-tick at-most h
+    sound-stmt (callStmt at f xs) = ok-map (look-ok (suc at) (calls-ok f) λ c hc. ok-then (sound-args Γ used calls callee calls-ok xs) λ gs ha. ok-then (given-ok Γ used calls callee calls-ok at (c .parameters) gs) λ _ q.
+        ok-map (ok-need 8 at (mayCall (Γ .body) (c .returns))) λ _ e. runs-then at-most (runs-must at-most _ e) λ _ _.
+        call-runs Γ used calls callee calls-ok f xs c (ha (c .parameters) (q .0) (q .1)) hc λ w hw. runs-pure at-most _ (after-call (Γ .body) hw (may-call (Γ .body) (c .returns) e))) λ _ h. runs-le (omega arith) (runs-tick at-most h)
+    sound-stmt (apply at t) = ok-map (apply-ok at t) λ _ h. runs-tick at-most h
+    sound-stmt (returnValue at e) = ok-then (sound-expr Γ used calls callee calls-ok e) λ u h. ok-map (returned-ok at (Γ .body) u) λ _ k.
+        runs-le (omega arith) (runs-tick at-most (runs-then at-most h λ v hv. runs-some at-most (k v hv)))
+    sound-stmt (return at) = ok-map (not-in-function at (Γ .body) returned okReturn) λ _ h. runs-tick at-most h
+    sound-stmt (exit at) = ok-map (not-in-function at (Γ .body) exited okExit) λ _ h. runs-tick at-most h
+    sound-stmt (setValid at g) = ok-map (header-changes Γ at g makeValid λ widths c h. make-valid h) λ _ h. runs-le (omega arith) (runs-tick at-most (runs-then at-most h λ _ _. runs-pure at-most _ okOnward))
+    sound-stmt (setInvalid at g) = ok-map (header-changes Γ at g makeInvalid λ widths c h. make-invalid h) λ _ h. runs-le (omega arith) (runs-tick at-most (runs-then at-most h λ _ _. runs-pure at-most _ okOnward))
+
+    pub sound-stmts : (ss : Stmts) → SafeStmts ss
+    sound-stmts noStmts = isOk (runs-pure at-most _ okOnward)
+    sound-stmts (stmt s ss) = ok-then (sound-stmt s) λ _ h. ok-map (sound-stmts ss) λ _ k. runs-then at-most h λ e he. and-then-ok he k
+
+-- a callable's body, and the callables by their number
+zeros-fit : (ts : List Ty) → All2 Fit ts (map (λ _. 0) ts)
+zeros-fit [] = nil
+zeros-fit (t ∷ ts) = cons (zero-fits t) (zeros-fit ts)
+
+action-ends : {e : Ending} → EndOk inAction true e → SomeOf (EndOk inAction true) (bodyEnded none e)
+unfolding bodyEnded
+action-ends (okEnd q) = isSome (okEnd q)
+action-ends (okReturn q) = isSome (okReturn q)
+action-ends (okExit q) = isSome (okExit q)
+
+function-ends : {t : Ty} {e : Ending} → EndOk (inFunction t) true e → SomeOf (EndOk (inFunction t) true) (bodyEnded (some t) e)
+unfolding bodyEnded isFunction
+function-ends (okValue h) = isSome (okValue h)
+function-ends (okEnd q) = absurd (false≢true (sym q))
+function-ends (okReturn q) = absurd (false≢true (sym q))
+function-ends (okExit q) = absurd (false≢true (sym q))
+
+body-ends : (r : Option Ty) {e : Ending} → EndOk (bodyOf r) true e → SomeOf (EndOk (bodyOf r) true) (bodyEnded r e)
+unfolding bodyOf
+body-ends none h = action-ends h
+body-ends (some t) h = function-ends h
+
+must-end : (r : Option Ty) (m : Bool) {e : Ending} → (not (isFunction (bodyOf r)) || m) ≡ true → EndOk (bodyOf r) m e → EndOk (bodyOf r) true e
+must-end r m {e} q h = go (isFunction (bodyOf r)) refl q
+  where
+    go : (b : Bool) → isFunction (bodyOf r) ≡ b → (not b || m) ≡ true → EndOk (bodyOf r) true e
+    go true p w = rw w at h
+    go false p w = end-any true p h
+
+never : (r : Option Ty) → isApply (bodyOf r) ≡ false
+unfolding bodyOf isApply
+never none = refl
+never (some t) = refl
+
+fresh : (P : Program) (n : ℕ) (c : Callable) (cells : List Cell) (ns : List ℕ) → StoreFits P cells → All2 FitParameter (c .parameters) ns
+    → StateFits (scopeOf P n c) (record { store = cells; parameters = ns; locals = map (λ _. 0) (c .locals) })
+unfolding scopeOf
+fresh P n c cells ns hc hns = record { store-fits = hc; parameters-fit = hns; locals-fit = zeros-fit (c .locals) }
+
+module _ (capacity : ℕ) (P : Program) where
+  left-good : (c : Callable) {k n : ℕ} {o : Option Ending} {ns : List ℕ} {cells : List Cell} → SomeOf (EndOk (bodyOf (c .returns)) true) o → All2 FitParameter (c .parameters) ns → StoreFits P cells → n ≤ k
+      → Good _≤_ (StoreFits P) (CallResult c) k (left ns cells n o)
+  unfolding left
+  left-good c {n} (isSome h) hns hc q = good n (h, hns) hc q
+
+  leave-good : (n : ℕ) (c : Callable) (m : Bool) {k : ℕ} {o : Out State Ending} → (not (isFunction (bodyOf (c .returns))) || m) ≡ true
+      → Good _≤_ (StateFits (scopeOf P n c)) (EndOk (bodyOf (c .returns)) m) k o → Good _≤_ (StoreFits P) (CallResult c) k (leave (c .returns) o)
+  unfolding leave scopeOf
+  leave-good n c m w (good j r f q) = left-good c (body-ends (c .returns) (must-end (c .returns) m w r)) (f .parameters-fit) (f .store-fits) q
+  leave-good n c m w isFull = isFull
+
+  no-apply : (n : ℕ) (c : Callable) → AppliesOk (scopeOf P n c) (λ t. nowhere) noTable
+  unfolding scopeOf
+  no-apply n c e t = absurd (false≢true (sym (never (c .returns)) ∙ e))
+
+  body-good : (n : ℕ) (c : Callable) (lower : Calls) (callee : ℕ → ℕ) → CallsOk P n lower callee → judgeStmt (scopeOf P n c) (c .body) ≡ ok tt
+      → (not (isFunction (bodyOf (c .returns))) || returnsOn (c .body)) ≡ true → (taken : ℕ) (s : State) → StateFits (scopeOf P n c) s
+      → Good _≤_ (StoreFits P) (CallResult c) (ceilingStmt callee noTable (c .body)) (leave (c .returns) (runStmt (scopeOf P n c) taken lower (λ t. nowhere) (c .body) s))
+  unfolding scopeOf
+  body-good n c lower callee h j w taken s f =
+      leave-good n c (returnsOn (c .body)) w ((from-ok (rw j at (sound-stmt (scopeOf P n c) taken lower callee h (λ t. nowhere) noTable (no-apply n c) (c .body)))) .run s f)
+
+  pub callable-ok : (n : ℕ) (c : Callable) (lower : Calls) (callee : ℕ → ℕ) → CallsOk P n lower callee
+      → IfOk (λ _. (used : ℕ) (ns : List ℕ) → All2 FitParameter (c .parameters) ns → Runs _≤_ (StoreFits P) (CallResult c) (ceilingStmt callee noTable (c .body)) (runBody capacity P n lower c used ns)) (judgeCallable P n c)
+  unfolding judgeCallable runBody
+  callable-ok n c lower callee h = ok-then (ok-self (judgeStmt (scopeOf P n c) (c .body))) λ _ j.
+      ok-map (ok-need 8 (c .at) (not (isFunction (bodyOf (c .returns))) || returnsOn (c .body))) λ _ w used ns hns.
+      record { run = λ cells hc. go (used + (length (c .parameters) + length (c .locals))) (leb (used + (length (c .parameters) + length (c .locals))) capacity) j w ns hns cells hc }
+    where
+      go : (taken : ℕ) (b : Bool) {a : Unit {0}} → judgeStmt (scopeOf P n c) (c .body) ≡ ok a → (not (isFunction (bodyOf (c .returns))) || returnsOn (c .body)) ≡ true
+          → (ns : List ℕ) → All2 FitParameter (c .parameters) ns → (cells : List Cell) → StoreFits P cells
+          → Good _≤_ (StoreFits P) (CallResult c) (ceilingStmt callee noTable (c .body)) (elim b [
+            | true ↦ leave (c .returns) (runStmt (scopeOf P n c) taken lower (λ t. nowhere) (c .body) (record { store = cells; parameters = ns; locals = map (λ _. 0) (c .locals) }))
+            | false ↦ full
+          ])
+      go taken true j w ns hns cells hc = body-good n c lower callee h j w taken _ (fresh P n c cells ns hc hns)
+      go taken false j w ns hns cells hc = isFull
