@@ -2,3 +2,4 @@ pub mod Predicates
 pub mod Fits
 pub mod Sound
 pub mod Callables
+pub mod Tables

@@ -247,3 +247,10 @@ good-le h isFull = isFull
 
 pub runs-le : {S A : Type 0} {F : S → Type 0} {R : A → Type 0} {c d : ℕ} {m : M S A} → c ≤ d → Runs _≤_ F R c m → Runs _≤_ F R d m
 runs-le h r = record { run = λ s f. good-le h (r .run s f) }
+
+-- behind a look-up that finds, and a test that holds
+pub runs-known : {S A B : Type 0} {F : S → Type 0} {R : B → Type 0} {c : ℕ} {o : Option A} {k : A → M S B} (a : A) → o ≡ some a → ((x : A) → x ≡ a → Runs _≤_ F R c (k x)) → Runs _≤_ F R c (Running._>>=_ (orStuck o) k)
+runs-known {c} a e h = rw e (runs-le {c = 0 + c} (omega arith) (runs-then at-most (runs-some at-most {R = λ x. x ≡ a} (isSome refl)) h))
+
+pub runs-holds : {S B : Type 0} {F : S → Type 0} {R : B → Type 0} {c : ℕ} {m : M S B} (b : Bool) → b ≡ true → Runs _≤_ F R c m → Runs _≤_ F R c (Running._>>=_ (must b) λ _. m)
+runs-holds {c} b e h = runs-le {c = 0 + c} (omega arith) (runs-then at-most (runs-must at-most b e) λ _ _. h)

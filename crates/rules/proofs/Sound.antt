@@ -127,7 +127,7 @@ may-call (inFunction t) (some u) e q = absurd (false≢true (sym q))
 may-call inAction r e q = refl
 may-call inApply r e q = refl
 
-after-call : (b : Body) {called : Body} {e : Ending} → EndOk called true e → (isFunction called ≡ false → isFunction b ≡ false) → EndOk b false (afterCall e)
+pub after-call : (b : Body) {called : Body} {e : Ending} → EndOk called true e → (isFunction called ≡ false → isFunction b ≡ false) → EndOk b false (afterCall e)
 unfolding afterCall
 after-call b (okValue h) k = okOnward
 after-call b (okEnd q) k = okOnward

@@ -515,15 +515,15 @@ unfoldable pub isFine : {A : Type 0} → Res A → Bool
 isFine (ok a) = true
 isFine (fault number at) = false
 
+unfoldable pub entriesFit : Program → Table → List ℕ → List Entry → Bool
+entriesFit P T widths [] = true
+entriesFit P T widths (e ∷ es) = patternsFit widths (e .patterns) && (given (actionAt P T (e .position)) (e .arguments) && entriesFit P T widths es)
+
 -- apply: the keys, then the entry or the default
-module _ (P : Program) (entries : List Entry) (used : ℕ) (calls : Calls) where
+module _ (P : Program) (used : ℕ) (calls : Calls) where
   unfoldable pub runKeys : List Key → M State (List Worked)
   runKeys [] = pure []
   runKeys (k ∷ ks) = runExpr (applyScope P) used calls (k .expr) >>= λ v. orStuck (worked v) >>= λ w. runKeys ks >>= λ ws. pure (w ∷ ws)
-
-  unfoldable pub entriesFit : Table → List ℕ → List Entry → Bool
-  entriesFit T widths [] = true
-  entriesFit T widths (e ∷ es) = patternsFit widths (e .patterns) && given (actionAt P T (e .position)) (e .arguments) && entriesFit T widths es
 
   unfoldable pub runAction : Table → ℕ → List ℕ → M State Ending
   runAction T position ns = orStuck (getElem? (T .actions) position) >>= λ a. orStuck (getElem? (P .callables) (a .number)) >>= λ c.
@@ -534,9 +534,9 @@ module _ (P : Program) (entries : List Entry) (used : ℕ) (calls : Calls) where
   runFound T (found e) = runAction T (e .position) (e .arguments)
   runFound T nothing = runAction T (T .default .number) (map (λ n. n .number) (T .arguments))
 
-  unfoldable pub runTable : ℕ → M State Ending
-  runTable t = orStuck (getElem? (P .tables) t) >>= λ T. runKeys (T .keys) >>= λ ks.
-      must (isFine (oneLpm false (T .keys)) && entriesFit T (map (λ k. k .width) ks) (entriesOf t entries)) >>= λ _.
+  unfoldable pub runTable : List Entry → ℕ → M State Ending
+  runTable entries t = orStuck (getElem? (P .tables) t) >>= λ T. runKeys (T .keys) >>= λ ks.
+      must (isFine (oneLpm false (T .keys)) && entriesFit P T (map (λ k. k .width) ks) (entriesOf t entries)) >>= λ _.
       runFound T (lookUp (longestWins (T .keys)) ks nothing (entriesOf t entries))
 
 -- the whole run: the apply body, with the store's slots in use; return ends it as its last statement does
@@ -557,4 +557,4 @@ finish full = full
 
 unfoldable pub runProgram : ℕ → Program → List Entry → List Cell → Out (List Cell) Signal
 runProgram capacity P entries store = let used = length (slotsOf store) in let calls = callsBelow capacity P (length (P .callables)) in
-    finish (runStmt (applyScope P) used calls (runTable P entries used calls) (P .body) (record { store = store; parameters = []; locals = [] }))
+    finish (runStmt (applyScope P) used calls (runTable P used calls entries) (P .body) (record { store = store; parameters = []; locals = [] }))
