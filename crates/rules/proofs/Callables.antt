@@ -95,6 +95,7 @@ module _ (capacity : ℕ) (P : Program) (judged : AllJudged P 0 (P .callables)) 
           → IfSome (CallOk P (callsBelow capacity P n) f (calleeIn (ceilingsBelow P (suc n)) f)) (callableBelow P n f)
       inner true q e h = rw (callee-less P n f (ltb-true f n q)) (h f)
       inner false q e h = rw (below-out P n f q) ifNone
+
       go : (b : Bool) → eqb f n ≡ b → CallsOk P n (callsBelow capacity P n) (calleeIn (ceilingsBelow P n))
           → IfSome (CallOk P (callsBelow capacity P (suc n)) f (calleeIn (ceilingsBelow P (suc n)) f)) (callableBelow P (suc n) f)
       go true q h = rw (below-same P n f q, callee-same P n f q) (if-map (number-ok n h) λ c k used ns hns. rw (q, callsBelow) (k used ns hns))

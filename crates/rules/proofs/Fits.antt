@@ -135,6 +135,7 @@ keep-global {P} {g} f {shape} e h c (globalFits {shape = other} q k) = go (h c (
   where
     same : shapeIn P (g .ty) ≡ some shape → shapeIn P (g .ty) ≡ some other → other ≡ shape
     same e q = cc
+
     go : {o : Option Cell} → SomeOf (CellFits shape) o → SomeOf (GlobalFits P g) o
     go (isSome p) = isSome (globalFits e p)
 

@@ -3,3 +3,4 @@ pub mod Fits
 pub mod Sound
 pub mod Callables
 pub mod Tables
+pub mod Accepted

@@ -18,6 +18,9 @@ pub and-both : (a b : Bool) → (a && b) ≡ true → (a ≡ true) × (b ≡ tru
 and-both true b e = (refl, e)
 and-both false b e = absurd (false≢true e)
 
+pub both-true : (a b : Bool) → a ≡ true → b ≡ true → (a && b) ≡ true
+both-true a b e q = rw (e, q)
+
 -- pointwise
 pub data All2 {A B : Type 0} (R : A → B → Type 0) : List A → List B → Type 0 where
   nil : All2 R [] []

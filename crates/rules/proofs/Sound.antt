@@ -320,9 +320,10 @@ module _ (Γ : Scope) (used : ℕ) (calls : Calls) (callee : ℕ → ℕ) (calls
       let rest = k ps (same .1) (places .1) in
       let e≡ : t ≡ p .ty = sym (sameTy-true (p .ty) t (same .0)) in
       let declares : (q : Place) → placeIn e ≡ some q → declared Γ q ≡ some (p .ty) = λ q x. rw e≡ at (named-place Γ e t j q x) in
-      let runs : Runs _≤_ (StateFits Γ) (HasTy (p .ty)) (ceilingExpr callee e) (runExpr Γ used calls e) = rw e≡ at h in
-      (runs-le (omega arith) (runs-then at-most (go-in Γ (p .ty) (placeIn e) declares (p .direction) (places .0) runs (one-step callee e)) λ n hn. runs-then at-most (rest .0) λ ns hns. runs-pure at-most _ (cons hn hns)),
-        back-cons Γ e xs p ps (write-back Γ (p .ty) (placeIn e) declares (p .direction) (places .0)) (rest .1))
+      let runs : Runs _≤_ (StateFits Γ) (HasTy (p .ty)) (ceilingExpr callee e) (runExpr Γ used calls e) = rw e≡ at h in (
+        runs-le (omega arith) (runs-then at-most (go-in Γ (p .ty) (placeIn e) declares (p .direction) (places .0) runs (one-step callee e)) λ n hn. runs-then at-most (rest .0) λ ns hns. runs-pure at-most _ (cons hn hns)),
+        back-cons Γ e xs p ps (write-back Γ (p .ty) (placeIn e) declares (p .direction) (places .0)) (rest .1),
+      )
 
   given-ok : (at : ℕ) (ps : List Parameter) (gs : List Given) → IfOk (λ _. (typesAgree ps gs ≡ true) × (placesAgree ps gs ≡ true)) (judgeGiven at ps gs)
   unfolding judgeGiven
@@ -334,7 +335,7 @@ module _ (Γ : Scope) (used : ℕ) (calls : Calls) (callee : ℕ → ℕ) (calls
       → CallOk (Γ .program) calls f (callee f) c
       → ((e : Ending) → EndOk (bodyOf (c .returns)) true e → Runs _≤_ (StateFits Γ) Q 0 (fin e))
       → Runs _≤_ (StateFits Γ) Q (ceilingArgs callee xs + callee f)
-          (Running._>>=_ (runArgs Γ used calls xs (c .parameters)) λ ns. Running._>>=_ (runCall Γ used calls f xs (c .parameters) ns) fin)
+      (Running._>>=_ (runArgs Γ used calls xs (c .parameters)) λ ns. Running._>>=_ (runCall Γ used calls f xs (c .parameters) ns) fin)
   unfolding runCall
   call-runs f xs c ha hc hf = runs-le (omega arith) (runs-then at-most (ha .0) λ ns hns.
       runs-then at-most (runs-then at-most (on-store Γ (hc used ns hns)) λ r hr. after-body Γ (hr .0) (ha .1 (r .1) (hr .1))) λ e he. hf e he)

@@ -14,7 +14,7 @@ use Rattle.rules.specs.Ceiling.{ceilingExpr, ceilingKeys, largestOf, cei
 use Rattle.rules.specs.Lists.{Pattern, Entry, widthOf, keyWidth, actionAt}
 use Rattle.rules.specs.Running.{State, Ending, Calls, argumentsFit, patternsFit, given, matchesAll, Found, found, nothing, better, lookUp, longestWins, entriesOf, Worked, worked, isFine, entriesFit, runKeys, runAction, runFound, runTable, afterCall, orStuck, must}
 use Rattle.rules.specs.Running as Running
-use Rattle.rules.proofs.Predicates.{and-both, All2, nil, cons, All, none-left, also, IfOk, isOk, isFault, IfSome, ifNone, ifSome, SomeOf, isSome, ok-then, ok-map, ok-self, ok-and, ok-found, ok-need, from-ok, some-is, from-some, if-map, look-fits, Runs, at-most, runs-then, runs-pure, runs-some, runs-must, runs-le, runs-known, runs-holds}
+use Rattle.rules.proofs.Predicates.{and-both, both-true, All2, nil, cons, All, none-left, also, IfOk, isOk, isFault, IfSome, ifNone, ifSome, SomeOf, isSome, ok-then, ok-map, ok-self, ok-and, ok-found, ok-need, from-ok, some-is, from-some, if-map, look-fits, Runs, at-most, runs-then, runs-pure, runs-some, runs-must, runs-le, runs-known, runs-holds}
 use Rattle.rules.proofs.Fits.{Fit, HasTy, has, FitParameter, StateFits, ok-bits}
 use Rattle.rules.proofs.Sound.{EndOk, okOnward, okExit, CallOk, CallsOk, on-store, after-call, sound-expr}
 
@@ -22,9 +22,6 @@ use Rattle.rules.proofs.Sound.{EndOk, okOnward, okExit, CallOk, CallsOk
 abbrev pub EntryOk : Program → Entry → Type 0
 EntryOk P e = (T : Table) → getElem? (P .tables) (e .table) ≡ some T
     → (patternsFit (map (keyWidth P) (T .keys)) (e .patterns) ≡ true) × (given (actionAt P T (e .position)) (e .arguments) ≡ true)
-
-both-true : (a b : Bool) → a ≡ true → b ≡ true → (a && b) ≡ true
-both-true a b e q = rw (e, q)
 
 fitting : (P : Program) (t : ℕ) (T : Table) → getElem? (P .tables) t ≡ some T → {es : List Entry} → All (EntryOk P) es → entriesFit P T (map (keyWidth P) (T .keys)) (entriesOf t es) ≡ true
 unfolding entriesFit entriesOf
@@ -57,6 +54,7 @@ look-up-ok P T longest ks widths b h (x ∷ es) e = go (matchesAll ks (x .patter
   where
     acts : (given (actionAt P T (x .position)) (x .arguments) ≡ true) × (entriesFit P T widths es ≡ true)
     acts = and-both _ _ ((and-both (patternsFit widths (x .patterns)) _ e) .1)
+
     go : (y : Bool) → FoundOk P T (lookUp longest ks (better longest b x) es) → FoundOk P T (lookUp longest ks b es)
         → FoundOk P T (elim y [ true ↦ lookUp longest ks (better longest b x) es | false ↦ lookUp longest ks b es ])
     go true p q = p

@@ -1,0 +1,202 @@
+-- Soundness of files: what the judge accepts is well formed, its entries and its store fit, and it runs within its ceiling.
+use mathlib.Core.Path.{_≡_, refl, sym, ap, _∙_}
+use mathlib.Core.Bool.{Bool, true, false, not, _&&_, _||_, false≢true}
+use mathlib.Core.Option.{Option, none, some}
+use Prim.Native.Nat.{ℕ, zero, suc, _+_, _≤_}
+use native.Mathlib.Omega.{arith}
+use mathlib.Core.List.{List, [], _∷_, map}
+use lib.Dec.{leb, eqb}
+use lib.ListN.{getElem?, length}
+use borrow.Author.Tests.{eqb-true, leb-true}
+use Rattle.rules.specs.declared.Signal.{Signal}
+use Rattle.rules.specs.Numbers.{Stream, numbers, broken, streamOf}
+use Rattle.rules.specs.Words.{fitsWidth, prefixFits, maskFits}
+use Rattle.rules.specs.Syntax.{bool, KeyKind, exact, lpm, ternary, Global, Parameter, Callable, Key, Table, Program}
+use Rattle.rules.specs.Reading.{Got, got, bad, Reader}
+use Rattle.rules.specs.Form.{Res, ok, fault, need, onlyIf, fits, Shape, aVariable, aHeader, shapeIn, inApply, isApply, isFunction, applyScope, judgeCallables, judgeTable, judgeTables, judgeGlobals, judgeStmt, judgeProgram, andLook}
+use Rattle.rules.specs.Ceiling.{mostSteps, calleeIn, ceilingsBelow, ceilingTable, ceilingWith, ceilingOf}
+use Rattle.rules.specs.Lists.{Pattern, exactly, prefixed, masked, Entry, Cell, variableCell, headerCell, passing, keyWidth, actionAt, numbered, asked, readPattern, readPatterns, readArguments, readEntry, readEntries, readFields, readCell, readCells, readStore, slotsOf}
+use Rattle.rules.specs.Running.{State, Ending, Out, done, stuck, full, callsBelow, argumentsFit, given, patternFits, patternsFit, runTable, signalOf, finished, finish, runStmt, runProgram}
+use Rattle.rules.specs.Answers.{Bench, checked, judging, Judged, accepted, refused, placed, judgedStream, judged}
+use Rattle.rules.proofs.Predicates.{and-both, both-true, All2, nil, cons, All, none-left, also, IfOk, isOk, isFault, IfSome, ifNone, ifSome, IfGot, isGot, isBad, SomeOf, isSome, ok-then, ok-map, ok-self, ok-need, from-ok, from-some, if-then, if-map, if-self, Reads, reads-then, reads-pure, reads-looked-up, reads-any, reads-repeat, Good, good, isFull, Runs}
+use Rattle.rules.proofs.Fits.{Fit, FitWidth, CellFits, variableFits, validFits, invalidFits, GlobalFits, globalFits, StoreFits, StateFits}
+use Rattle.rules.proofs.Sound.{EndOk, okOnward, okValue, okEnd, okReturn, okExit, CallsOk, AppliesOk, sound-stmt}
+use Rattle.rules.proofs.Callables.{judged-all, calls-below}
+use Rattle.rules.proofs.Tables.{EntryOk, table-ok}
+
+-- numbers that pass a test
+only-if : (b : Bool) {A : Type 0} (a : A) → IfSome (λ x. (x ≡ a) × (b ≡ true)) (onlyIf b (some a))
+unfolding onlyIf
+only-if true a = ifSome (refl, refl)
+only-if false a = ifNone
+
+reads-passing : (number : ℕ) (test : ℕ → Bool) → Reads (λ n. test n ≡ true) (passing number test)
+unfolding passing
+reads-passing number test = reads-looked-up number λ n. if-map (only-if (test n) n) λ x h. rw (h .0) (h .1)
+
+reads-asked : (P : Program) (test : ℕ → Bool) → Reads (λ n. test n ≡ true) (passing 10 (asked true P test))
+unfolding asked
+reads-asked P test = reads-passing 10 test
+
+reads-numbered : {A : Type 0} (number : ℕ) (what : ℕ → Option A) → Reads (λ x. what (x .0) ≡ some (x .1)) (Rattle.rules.specs.Reading.lookedUp number (numbered what))
+unfolding numbered
+reads-numbered number what = reads-looked-up number λ n. if-then (if-self (what n)) λ a e. ifSome e
+
+-- entries
+module _ (P : Program) where
+  pattern-reads : (k : KeyKind) (w : ℕ) → Reads (λ p. patternFits w p ≡ true) (readPattern true P k w)
+  unfolding readPattern patternFits
+  pattern-reads exact w = reads-then (reads-asked P (fitsWidth w)) λ v h. reads-pure _ h
+  pattern-reads lpm w = reads-then (reads-asked P (fitsWidth w)) λ v h. reads-then (reads-asked P (prefixFits w v)) λ n q. reads-pure _ (both-true _ _ h q)
+  pattern-reads ternary w = reads-then (reads-asked P (fitsWidth w)) λ v h. reads-then (reads-asked P (maskFits w v)) λ n q. reads-pure _ (both-true _ _ h q)
+
+  patterns-read : (ks : List Key) → Reads (λ ps. patternsFit (map (keyWidth P) ks) ps ≡ true) (readPatterns true P ks)
+  unfolding readPatterns patternsFit
+  patterns-read [] = reads-pure _ refl
+  patterns-read (k ∷ ks) = reads-then (pattern-reads (k .kind) (keyWidth P k)) λ p h. reads-then (patterns-read ks) λ ps hs. reads-pure _ (both-true _ _ h hs)
+
+  arguments-read : (ps : List Parameter) → Reads (λ ns. argumentsFit ps ns ≡ true) (readArguments true P ps)
+  unfolding readArguments argumentsFit
+  arguments-read [] = reads-pure _ refl
+  arguments-read (p ∷ ps) = reads-then (reads-asked P (fits (p .ty))) λ n h. reads-then (arguments-read ps) λ ns hs. reads-pure _ (both-true _ _ h hs)
+
+  entry-reads : Reads (EntryOk P) (readEntry true P)
+  unfolding readEntry given
+  entry-reads = reads-then (reads-numbered 10 (getElem? (P .tables))) λ t ht. reads-then (patterns-read (t .1 .keys)) λ ps hp. reads-then (reads-numbered 10 (actionAt P (t .1))) λ a ha.
+      reads-then (arguments-read (a .1 .parameters)) λ ns hn. reads-pure _ λ T e. rw (same T (t .1) e ht) (hp, rw ha hn)
+    where
+      same : (T U : Table) {o : Option Table} → o ≡ some T → o ≡ some U → T ≡ U
+      same T U e q = cc
+
+  pub entries-read : Reads (All (EntryOk P)) (readEntries true P)
+  unfolding readEntries
+  entries-read = reads-then (reads-any _) λ n _. reads-repeat n entry-reads
+
+-- the store
+abbrev FieldsFit : Bool → List ℕ → List ℕ → Type 0
+FieldsFit valid widths ns = (valid ≡ true → All2 FitWidth widths ns) × (valid ≡ false → All2 (λ _ n. n ≡ 0) widths ns)
+
+zero-only : (valid : Bool) (n : ℕ) → (valid || eqb n 0) ≡ true → valid ≡ false → n ≡ 0
+zero-only true n h e = absurd (false≢true (sym e))
+zero-only false n h e = eqb-true n 0 h
+
+fields-read : (valid : Bool) (widths : List ℕ) → Reads (FieldsFit valid widths) (readFields valid widths)
+unfolding readFields
+fields-read valid [] = reads-pure _ (λ _. nil, λ _. nil)
+fields-read valid (w ∷ widths) = reads-then (reads-passing 11 λ n. fitsWidth w n && (valid || eqb n 0)) λ n h. reads-then (fields-read valid widths) λ ns hs.
+    let both = and-both (fitsWidth w n) (valid || eqb n 0) h in
+    reads-pure _ (λ e. cons (both .0) (hs .0 e), λ e. cons (zero-only valid n (both .1) e) (hs .1 e))
+
+header-fits : (valid : Bool) {widths ns : List ℕ} → FieldsFit valid widths ns → CellFits (aHeader widths) (headerCell valid ns)
+header-fits true h = validFits (h .0 refl)
+header-fits false h = invalidFits (h .1 refl)
+
+cell-reads : (o : Option Shape) → Reads (λ c. SomeOf (λ shape. CellFits shape c) o) (readCell o)
+unfolding readCell
+cell-reads none = record { reads = λ left at. isBad }
+cell-reads (some (aVariable t)) = record { reads = λ left at. (reads-then (reads-passing 11 (fits t)) λ n h. reads-pure (variableCell n) (isSome (variableFits h))) .reads left at }
+cell-reads (some (aHeader widths)) = record {
+  reads = λ left at. (reads-then (reads-any (passing 11 (fits bool))) λ mark _. reads-then (fields-read (eqb mark 1) widths) λ ns h.
+      reads-pure (headerCell (eqb mark 1) ns) (isSome (header-fits (eqb mark 1) h))) .reads left at;
+}
+
+shape-found : (P : Program) (g : Global) (c : Cell) {o : Option Shape} → shapeIn P (g .ty) ≡ o → SomeOf (λ shape. CellFits shape c) o → GlobalFits P g c
+shape-found P g c e (isSome h) = globalFits e h
+
+cells-read : (P : Program) (gs : List Global) → Reads (All2 (GlobalFits P) gs) (readCells P gs)
+unfolding readCells
+cells-read P [] = reads-pure _ nil
+cells-read P (g ∷ gs) = reads-then (cell-reads (shapeIn P (g .ty))) λ c h. reads-then (cells-read P gs) λ cs hs. reads-pure _ (cons (shape-found P g c refl h) hs)
+
+store-reads : (P : Program) → Reads (StoreFits P) (readStore P)
+unfolding readStore
+store-reads P = cells-read P (P .globals)
+
+-- what is known of a bench file that the judge accepts
+pub record BenchOk (bench : Bench) : Type 0 where
+  pub formed : judgeProgram (bench .program) ≡ ok tt
+  pub bounded : ceilingOf (bench .program) ≤ mostSteps
+  pub entries-fit : All (EntryOk (bench .program)) (bench .entries)
+  pub store-fits : StoreFits (bench .program) (bench .store)
+
+reads-checked : {A : Type 0} {P : A → Type 0} {r : Res A} → IfOk P r → Reads P (checked r)
+unfolding checked
+reads-checked (isOk p) = record { reads = λ left at. isGot p }
+reads-checked isFault = record { reads = λ left at. isBad }
+
+judging-reads : Reads BenchOk judging
+unfolding judging
+judging-reads = reads-then (reads-any _) λ P _. reads-then (reads-checked (ok-self (judgeProgram P))) λ _ formed.
+    reads-then (reads-checked (ok-need 9 0 (leb (ceilingOf P) mostSteps))) λ _ bounded. reads-then (entries-read P) λ es fit. reads-then (store-reads P) λ cells fits. reads-then (reads-any _) λ _ _.
+    reads-pure _ (record { formed = formed; bounded = leb-true (ceilingOf P) mostSteps bounded; entries-fit = fit; store-fits = fits })
+
+accepted-ok : (bytes : List ℕ) {g : Got Bench} (bench : Bench) → IfGot BenchOk g → placed bytes g ≡ accepted bench → BenchOk bench
+unfolding placed
+accepted-ok bytes bench (isGot {a} h) e = rw (same a bench e) at h
+  where
+    same : (a b : Bench) → accepted a ≡ accepted b → a ≡ b
+    same a b e = cc
+accepted-ok bytes bench isBad e = absurd (let z : _≡_ {A = ℕ} 0 1 = cc in omega arith)
+
+stream-ok : (bytes : List ℕ) (s : Stream) (bench : Bench) → judgedStream bytes s ≡ accepted bench → BenchOk bench
+unfolding judgedStream
+stream-ok bytes (numbers ns) bench e = accepted-ok bytes bench (judging-reads .reads ns 0) e
+stream-ok bytes (broken number place) bench e = absurd (let z : _≡_ {A = ℕ} 0 1 = cc in omega arith)
+
+pub judged-ok : (bytes : List ℕ) (bench : Bench) → judged bytes ≡ accepted bench → BenchOk bench
+unfolding judged
+judged-ok bytes bench e = stream-ok bytes (streamOf bytes) bench e
+
+-- tables, then the whole program
+tables-judged : (P : Program) (Ts : List Table) → IfOk (λ _. (t : ℕ) → IfSome (λ T. judgeTable P T ≡ ok tt) (getElem? Ts t)) (judgeTables P Ts)
+unfolding judgeTables
+tables-judged P [] = isOk λ t. ifNone
+tables-judged P (T ∷ Ts) = ok-then (ok-self (judgeTable P T)) λ _ h. ok-map (tables-judged P Ts) λ _ hs. λ t. look t h hs
+  where
+    look : (t : ℕ) → judgeTable P T ≡ ok tt → ((t : ℕ) → IfSome (λ T. judgeTable P T ≡ ok tt) (getElem? Ts t)) → IfSome (λ T. judgeTable P T ≡ ok tt) (getElem? (T ∷ Ts) t)
+    look zero h hs = ifSome h
+    look (suc t) h hs = hs t
+
+signal-ok : {b : Bool} {e : Ending} → EndOk inApply b e → SomeOf (λ _. Unit {0}) (signalOf e)
+unfolding signalOf
+signal-ok okOnward = isSome tt
+signal-ok (okEnd q) = isSome tt
+signal-ok (okReturn q) = isSome tt
+signal-ok (okExit q) = isSome tt
+
+-- how a run of an accepted file ends: within the ceiling, with a store that fits; or full
+pub data Ends (P : Program) : Out (List Cell) Signal → Type 0 where
+  ends : (signal : Signal) (store : List Cell) (steps : ℕ) → steps ≤ ceilingOf P → StoreFits P store → Ends P (done signal store steps)
+  fills : Ends P full
+
+finished-ends : (P : Program) {n : ℕ} {cells : List Cell} {o : Option Signal} → SomeOf (λ _. Unit {0}) o → StoreFits P cells → n ≤ ceilingOf P → Ends P (finished cells n o)
+unfolding finished
+finished-ends P (isSome {a} _) h q = ends a _ _ q h
+
+finish-ends : (P : Program) {b : Bool} {o : Out State Ending} → Good _≤_ (StateFits (applyScope P)) (EndOk inApply b) (ceilingOf P) o → Ends P (finish o)
+unfolding finish applyScope
+finish-ends P (good n r f q) = finished-ends P (signal-ok r) (f .store-fits) q
+finish-ends P isFull = fills
+
+module _ (capacity : ℕ) (P : Program) (entries : List Entry) (fit : All (EntryOk P) entries) where
+  applies : (used : ℕ) → CallsOk P (length (P .callables)) (callsBelow capacity P (length (P .callables))) (calleeIn (ceilingsBelow P (length (P .callables))))
+      → ((t : ℕ) → IfSome (λ T. judgeTable P T ≡ ok tt) (getElem? (P .tables) t))
+      → AppliesOk (applyScope P) (runTable P used (callsBelow capacity P (length (P .callables))) entries) (λ t. ceilingTable (calleeIn (ceilingsBelow P (length (P .callables)))) (getElem? (P .tables) t))
+  unfolding applyScope
+  applies used h judged _ t = go (getElem? (P .tables) t) refl (judged t)
+    where
+      go : (o : Option Table) → getElem? (P .tables) t ≡ o → IfSome (λ T. judgeTable P T ≡ ok tt) o
+          → IfSome (λ _. Runs _≤_ (StateFits (applyScope P)) (EndOk inApply false) (ceilingTable (calleeIn (ceilingsBelow P (length (P .callables)))) o) (runTable P used (callsBelow capacity P (length (P .callables))) entries t)) o
+      go none e j = ifNone
+      go (some T) e (ifSome j) = ifSome (from-ok (rw j at (table-ok P used (callsBelow capacity P (length (P .callables))) (calleeIn (ceilingsBelow P (length (P .callables)))) h entries fit t T e)))
+
+  program-ok : IfOk (λ _. (store : List Cell) → StoreFits P store → Ends P (runProgram capacity P entries store)) (judgeProgram P)
+  unfolding judgeProgram runProgram ceilingOf ceilingWith applyScope
+  program-ok = ok-then (ok-self (judgeGlobals P (P .globals))) λ _ _. ok-then (judged-all P 0 (P .callables)) λ _ callables. ok-then (tables-judged P (P .tables)) λ _ tables. ok-map (ok-self (judgeStmt (applyScope P) (P .body))) λ _ j store h.
+      finish-ends P ((from-ok (rw j at (sound-stmt (applyScope P) (length (slotsOf store)) (callsBelow capacity P (length (P .callables))) (calleeIn (ceilingsBelow P (length (P .callables))))
+      (calls-below capacity P callables (length (P .callables))) _ _ (applies (length (slotsOf store)) (calls-below capacity P callables (length (P .callables))) tables) (P .body)))) .run _ (record { store-fits = h; parameters-fit = nil; locals-fit = nil }))
+
+-- THE THEOREM: for all bytes that are accepted, and every capacity
+pub accepted-ends : (capacity : ℕ) (bytes : List ℕ) (bench : Bench) → judged bytes ≡ accepted bench → Ends (bench .program) (runProgram capacity (bench .program) (bench .entries) (bench .store))
+accepted-ends capacity bytes bench e = let known = judged-ok bytes bench e in
+    from-ok (rw (known .formed) at (program-ok capacity (bench .program) (bench .entries) (known .entries-fit))) (bench .store) (known .store-fits)
