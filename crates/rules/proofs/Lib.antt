@@ -4,3 +4,4 @@ pub mod Sound
 pub mod Callables
 pub mod Tables
 pub mod Accepted
+pub mod Saturating
