@@ -11,15 +11,15 @@ use borrow.Author.Tests.{ltb-true, ltb-false, leb-true, leb-false, eqb-true, eqb
 use Rattle.rules.specs.Numbers.{Stream, numbers, broken, Group, more, last, wrong, endsWith, tenth, groupOf, withFirst, endAt, streamFrom, streamOf, groupsOf, bytesOfNumber, bytesOf, mostBytes}
 
 -- what a byte is, behind so many others of its number
+pub tenth-last : (byte : ℕ) → byte ≡ 1 → tenth byte ≡ last 1
+unfolding tenth
+tenth-last byte e = rw e
+
+pub tenth-wrong : (byte : ℕ) → (byte ≡ 1 → ⊥) → tenth byte ≡ wrong
+unfolding tenth
+tenth-wrong byte n = rw (tenth, ne-eqb byte 1 n)
+
 module _ (before byte : ℕ) where
-  pub tenth-last : byte ≡ 1 → tenth byte ≡ last 1
-  unfolding tenth
-  tenth-last e = rw e
-
-  pub tenth-wrong : (byte ≡ 1 → ⊥) → tenth byte ≡ wrong
-  unfolding tenth
-  tenth-wrong n = rw (tenth, ne-eqb byte 1 n)
-
   pub ends-first : before ≡ 0 → endsWith before byte ≡ last byte
   unfolding endsWith
   ends-first e = rw (e, endsWith, and-false (eqb byte 0))
@@ -57,7 +57,7 @@ module _ (before byte : ℕ) where
       by-tenth : (b : Bool) → eqb before 9 ≡ b → groupOf before byte ≡ last byte
       by-tenth true e =
           let nine : before ≡ 9 = eqb-true before 9 e in
-          group-tenth nine ∙ tenth-last (one nine) ∙ ap last (sym (one nine))
+          group-tenth nine ∙ tenth-last byte (one nine) ∙ ap last (sym (one nine))
       by-tenth false e = by-zero (eqb-false before 9 e) (eqb byte 0) refl
 
 -- a byte behind so many others of its number, by cases
@@ -74,7 +74,7 @@ byte-is before byte = by-tenth (eqb before 9) refl
 
     by-one : before ≡ 9 → (b : Bool) → eqb byte 1 ≡ b → ByteIs before byte
     by-one n true e = the-last (omega (arith, eqb-true byte 1 e)) (λ _. eqb-true byte 1 e) (λ z. omega (arith, eqb-true byte 1 e))
-    by-one n false e = is-wrong (group-tenth before byte n ∙ tenth-wrong before byte (eqb-false byte 1 e))
+    by-one n false e = is-wrong (group-tenth before byte n ∙ tenth-wrong byte (eqb-false byte 1 e))
 
     by-first : (before ≡ 9 → ⊥) → byte < 128 → byte ≡ 0 → (b : Bool) → eqb before 0 ≡ b → ByteIs before byte
     by-first n h z true e = the-last h (λ q. absurd (n q)) (λ _. eqb-true before 0 e)
@@ -237,10 +237,10 @@ sized bytes ns r = by-none (eqb (length bytes) 0) refl
     by-none false e = by-most (eqb-false (length bytes) 0 e) (ltb mostBytes (length bytes)) refl
 
 -- a stream of numbers with a first one
-data First (first : ℕ) (stream : Stream) (ns : List ℕ) : Type 0 where
+pub data First (first : ℕ) (stream : Stream) (ns : List ℕ) : Type 0 where
   first-is : (rest : List ℕ) → stream ≡ numbers rest → ns ≡ first ∷ rest → First first stream ns
 
-first-of : (first : ℕ) (stream : Stream) (ns : List ℕ) → withFirst first stream ≡ numbers ns → First first stream ns
+pub first-of : (first : ℕ) (stream : Stream) (ns : List ℕ) → withFirst first stream ≡ numbers ns → First first stream ns
 unfolding withFirst
 first-of first (numbers rest) ns e = first-is rest refl (cc)
 first-of first (broken number place) ns e = let z : _≡_ {A = ℕ} 0 1 = cc in absurd (omega arith)
