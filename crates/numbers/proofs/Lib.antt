@@ -2,6 +2,10 @@ pub mod Places
 pub mod Groups
 pub mod Within
 pub mod Counting
-pub mod Filling
 pub mod Room
+pub mod Filling
 pub mod Reading
+pub mod Measuring
+pub mod Storing
+pub mod Writing
+pub mod Determined

@@ -1,12 +1,14 @@
 -- What the operations on bytes and numbers promise, and what their parts find.
-use Prim.Native.Nat.{ℕ, _<_, _≤_}
+use Prim.Native.Nat.{ℕ, _+_, _<_, _≤_}
 use mathlib.Core.List.{List, []}
 use mathlib.Core.Path.{_≡_}
 use lib.ListN.{length, drop}
+use lib.Seq.{sets}
 use Rattle.rules.specs.declared.ReadAnswer.{ReadAnswer}
+use Rattle.rules.specs.declared.WriteAnswer.{WriteAnswer}
 use Rattle.rules.specs.Numbers as paper
-use Rattle.rules.specs.Numbers.{Stream, numbers, broken, more, last, wrong, withFirst, streamFrom, streamOf}
-use Rattle.rules.specs.Answers.{ofRead, readSays, readLeaves}
+use Rattle.rules.specs.Numbers.{Stream, numbers, broken, more, last, wrong, withFirst, streamFrom, streamOf, bytesOfNumber}
+use Rattle.rules.specs.Answers.{ofRead, readSays, readLeaves, ofWrite, writeSays, writeLeaves}
 use Rattle.numbers.specs.declared.Group.{Group}
 use Rattle.numbers.specs.declared.Group.the-variants.{More, Last, Wrong}
 use Rattle.numbers.specs.declared.Number.{Number}
@@ -16,6 +18,11 @@ use Rattle.numbers.specs.declared.Number.the-variants as at
 pub record Reads (bytes slots : List ℕ) (r : ReadAnswer) (left : List ℕ) : Type 0 where
   pub says : ofRead r ≡ readSays bytes (length slots)
   pub leaves : left ≡ readLeaves bytes slots
+
+-- writing numbers into bytes answers r and leaves the bytes so
+pub record Writes (ns bytes : List ℕ) (r : WriteAnswer) (left : List ℕ) : Type 0 where
+  pub says : ofWrite r ≡ writeSays ns (length bytes)
+  pub leaves : left ≡ writeLeaves ns bytes
 
 -- bytes that read as numbers, for which there is room
 pub data Readable (bytes : List ℕ) (room : ℕ) : Type 0 where
@@ -37,3 +44,8 @@ streamAt bytes place at.Wrong = broken 3 place
 pub record NumberAt (bytes : List ℕ) (place : ℕ) (r : Number) : Type 0 where
   pub reads : streamFrom place 0 0 (drop place bytes) ≡ streamAt bytes place r
   pub on : (value next : ℕ) → r ≡ at.Whole value next → (place < next) × (next ≤ length bytes)
+
+-- a number stored from a place on, and the place behind it
+pub record Stored (number place : ℕ) (bytes : List ℕ) (next : ℕ) (left : List ℕ) : Type 0 where
+  pub behind : next ≡ place + length (bytesOfNumber number)
+  pub leaves : left ≡ sets bytes place (bytesOfNumber number)

@@ -6,9 +6,9 @@ ghost use mathlib.Core.Path.{_≡_};
 ghost use mathlib.Core.List.{_∷_, []};
 ghost use Prim.Native.Nat.{_+_, _≤_};
 ghost use lib.ListN.{length};
-ghost use Rattle.rules.specs.Numbers.{groupOf, tenth, endsWith, streamFrom, placeOf};
-ghost use Rattle.rules.specs.Answers.{ofRead, withRoom, readStream, readSays, readLeaves};
-ghost use Rattle.numbers.specs.Promises.{Reads, Readable, NumberAt, ofGroup};
+ghost use Rattle.rules.specs.Numbers.{groupOf, tenth, endsWith, streamFrom, bytesOfNumber, bytesOf, placeOf};
+ghost use Rattle.rules.specs.Answers.{ofRead, withRoom, readStream, readSays, readLeaves, ofWrite, writeSays, writeLeaves};
+ghost use Rattle.numbers.specs.Promises.{Reads, Readable, NumberAt, ofGroup, Writes, Stored};
 
 // The most bytes of a bench file.
 const MOST_BYTES: usize = 4096;
@@ -174,6 +174,82 @@ fn ends_with(before: usize, byte: u8) -> Group
     } else {
         Group::Wrong
     }
+}
+
+// The numbers as bytes, into the bytes from the first on: how many they take; or 13, and the bytes are as found.
+pub fn write(numbers: &[u64], bytes: &mut [u8]) -> WriteAnswer
+    ensures { λ r. ⌜ Writes (now (numbers .entry)) (now (bytes .entry)) r (now (bytes .exit)) ⌝ }
+{
+    let answer = measure(numbers, bytes.len());
+    match answer {
+        WriteAnswer::Length(length) => {
+            store(numbers, bytes);
+            WriteAnswer::Length(length)
+        }
+        WriteAnswer::Unwritten(refusal) => WriteAnswer::Unwritten(refusal),
+    }
+}
+
+// How many bytes the numbers take, or 13 where that is more than there is room for.
+fn measure(numbers: &[u64], room: usize) -> WriteAnswer
+    ensures { λ r. ⌜ ofWrite r ≡ writeSays (now (numbers .entry)) room ⌝ }
+{
+    let mut taken = 0;
+    let mut index = 0;
+    while index < numbers.len() {
+        let more = length_of(numbers[index]);
+        if room - taken < more {
+            return WriteAnswer::Unwritten(Refusal {
+                number: 13,
+                place: 0,
+            });
+        }
+        taken += more;
+        index += 1;
+    }
+    WriteAnswer::Length(taken)
+}
+
+// How many bytes a number takes.
+fn length_of(number: u64) -> usize
+    ensures { λ r. ⌜ r ≡ length (bytesOfNumber number) ⌝ }
+{
+    let mut rest = number;
+    let mut taken = 1;
+    while 128 <= rest {
+        rest /= 128;
+        taken += 1;
+    }
+    taken
+}
+
+// The numbers into bytes that they fit, from the first on.
+fn store(numbers: &[u64], bytes: &mut [u8])
+    requires { ⌜ length (bytesOf (now numbers)) ≤ length (now bytes) ⌝ }
+    ensures { λ r. ⌜ now (bytes .exit) ≡ writeLeaves (now (numbers .entry)) (now (bytes .entry)) ⌝ }
+{
+    let mut at = 0;
+    let mut index = 0;
+    while index < numbers.len() {
+        at = store_number(numbers[index], at, bytes);
+        index += 1;
+    }
+}
+
+// A number into bytes that it fits, from a place on: the place behind it.
+fn store_number(number: u64, place: usize, bytes: &mut [u8]) -> usize
+    requires { ⌜ place + length (bytesOfNumber number) ≤ length (now bytes) ⌝ }
+    ensures { λ r. ⌜ Stored number place (now (bytes .entry)) r (now (bytes .exit)) ⌝ }
+{
+    let mut at = place;
+    let mut rest = number;
+    while 128 <= rest {
+        bytes[at] = (128 + rest % 128) as u8;
+        rest /= 128;
+        at += 1;
+    }
+    bytes[at] = rest as u8;
+    at + 1
 }
 
 // The byte offset of the number with this index; the length where there are fewer numbers.

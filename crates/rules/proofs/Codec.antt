@@ -112,6 +112,10 @@ module _ (place before value byte : ℕ) (bytes : List ℕ) where
 shorter : (k n : ℕ) → n < 2 * 128 ^ suc k → n / 128 < 2 * 128 ^ k
 shorter k n h = omega (arith, pow-suc 128 k)
 
+groups-none : (n : ℕ) → groupsOf 0 n ≡ n ∷ []
+unfolding groupsOf
+groups-none n = refl
+
 groups-last : (k n : ℕ) → n < 128 → groupsOf k n ≡ n ∷ []
 unfolding groupsOf
 groups-last zero n h = refl
@@ -136,6 +140,19 @@ written-last n h = groups-last 9 n h
 pub written-more : (n : ℕ) → 128 ≤ n → n < 2 ^ 64 → bytesOfNumber n ≡ (128 + n % 128) ∷ bytesOfNumber (n / 128)
 unfolding bytesOfNumber
 written-more n h fits = rw (groups-more 8 n h, more-room 8 (n / 128) (omega arith))
+
+groups-length : (k n : ℕ) → length (groupsOf k n) ≤ suc k
+groups-length zero n = rw (groups-none n) (omega arith)
+groups-length (suc k) n = go (groups-length k (n / 128)) (ltb n 128) refl
+  where
+    go : length (groupsOf k (n / 128)) ≤ suc k → (b : Bool) → ltb n 128 ≡ b → length (groupsOf (suc k) n) ≤ suc (suc k)
+    go r true e = rw (groups-last (suc k) n (ltb-true n 128 e)) (omega arith)
+    go r false e = rw (groups-more k n (ltb-false n 128 e)) (omega arith)
+
+-- a number takes at most ten bytes
+pub written-few : (n : ℕ) → length (bytesOfNumber n) ≤ 10
+unfolding bytesOfNumber
+written-few n = groups-length 9 n
 
 -- a number in groups: the lowest group, and the others with a weight 128 times as large
 weights : (group others weight : ℕ) → group * weight + others * (weight * 128) ≡ (group + 128 * others) * weight
