@@ -1,6 +1,6 @@
 -- The promises determine the outcome: for all inputs, two outcomes that a promise allows are equal.
-use mathlib.Core.List.{List, [], _∷_}
-use mathlib.Core.Path.{_≡_, refl, sym, ap, _∙_}
+use mathlib.Core.List.{List}
+use mathlib.Core.Path.{_≡_, sym, ap, _∙_}
 use Prim.Native.Nat.{ℕ}
 use native.Mathlib.Omega.{arith}
 use Rattle.rules.specs.declared.Refusal.{Refusal}
@@ -34,10 +34,12 @@ write-same (Length m) (Unwritten b) e = let z : _≡_ {A = ℕ} 0 1 = cc in absu
 write-same (Unwritten a) (Length n) e = let z : _≡_ {A = ℕ} 0 1 = cc in absurd (omega arith)
 write-same (Unwritten a) (Unwritten b) e = ap Unwritten (refusal-same a b e)
 
-pub read-determined : (bytes slots : List ℕ) (a b : ReadAnswer) (x y : List ℕ) → Reads bytes slots a x → Reads bytes slots b y → (a ≡ b) × (x ≡ y)
+pub read-determined : (bytes slots : List ℕ) (a b : ReadAnswer) (x y : List ℕ) →
+    Reads bytes slots a x → Reads bytes slots b y → (a ≡ b) × (x ≡ y)
 read-determined bytes slots a b x y p q = (read-same a b (p .says ∙ sym (q .says)), p .leaves ∙ sym (q .leaves))
 
-pub write-determined : (ns bytes : List ℕ) (a b : WriteAnswer) (x y : List ℕ) → Writes ns bytes a x → Writes ns bytes b y → (a ≡ b) × (x ≡ y)
+pub write-determined : (ns bytes : List ℕ) (a b : WriteAnswer) (x y : List ℕ) →
+    Writes ns bytes a x → Writes ns bytes b y → (a ≡ b) × (x ≡ y)
 write-determined ns bytes a b x y p q = (write-same a b (p .says ∙ sym (q .says)), p .leaves ∙ sym (q .leaves))
 
 pub place-determined : (bytes : List ℕ) (index a b : ℕ) → a ≡ placeOf bytes index → b ≡ placeOf bytes index → a ≡ b

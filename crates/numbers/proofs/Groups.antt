@@ -5,7 +5,7 @@ use Rattle.rules.specs.Numbers.{last, tenth, endsWith, groupOf}
 use Rattle.rules.proofs.Codec as codec
 use Rattle.numbers.specs.declared.Group.{Group}
 use Rattle.numbers.specs.declared.Group.the-variants.{More, Last, Wrong}
-use Rattle.numbers.specs.Promises.{ofGroup}
+use Rattle.numbers.specs.Parts.{ofGroup}
 
 pub tenth-one : (byte : ℕ) → byte ≡ 1 → ofGroup (Last 1) ≡ tenth byte
 unfolding ofGroup
@@ -35,7 +35,8 @@ module _ (before byte : ℕ) where
   unfolding ofGroup
   group-top n h = sym (codec.group-more before byte n h)
 
-  pub group-low : (r : Group) → (before ≡ 9 → ⊥) → byte < 128 → ofGroup r ≡ endsWith before byte → ofGroup r ≡ groupOf before byte
+  pub group-low : (r : Group) → (before ≡ 9 → ⊥) → byte < 128 → ofGroup r ≡ endsWith before byte →
+      ofGroup r ≡ groupOf before byte
   group-low r n h q = q ∙ sym (codec.group-ends before byte n h)
 
 pub ruleset groups = (tenth-one, tenth-other, ends-some, ends-only, ends-longer, group-tenth, group-top, group-low)

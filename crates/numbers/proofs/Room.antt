@@ -1,12 +1,12 @@
 -- Room for a list: an answer other than a refusal says that there is room, and a refusal that the slots are as found.
 use mathlib.Core.Bool.{Bool, true, false}
-use mathlib.Core.List.{List, [], _∷_}
+use mathlib.Core.List.{List, [], _∷_, _++_}
 use mathlib.Core.Path.{_≡_, refl, sym, _∙_}
 use Prim.Native.Nat.{ℕ, _+_, _≤_, _<_}
 use native.Mathlib.Nat.{zero-add}
 use native.Mathlib.Omega.{arith}
 use lib.Dec.{leb}
-use lib.ListN.{length}
+use lib.ListN.{length, drop}
 use lib.Seq.{sets, sets-eq}
 use borrow.Author.Tests.{leb-true, leb-false, le-leb, lt-leb}
 use Rattle.rules.specs.Answers.{withRoom, filled}
@@ -28,12 +28,15 @@ room-there wanted lent count told e = go (leb wanted lent) refl
         let z : _≡_ {A = ℕ} 0 1 = cc (room-refused wanted lent told (leb-false wanted lent q)) in
         absurd (omega arith)
 
--- a list stored from the first slot on is what slots hold that take it
-pub filled-stored : (ns slots : List ℕ) → length ns ≤ length slots → sets slots 0 ns ≡ filled ns slots
+-- slots with room take a list, as stored from the first slot on
+pub filled-there : (ns slots : List ℕ) → length ns ≤ length slots → filled ns slots ≡ ns ++ drop (length ns) slots
 unfolding filled
+filled-there ns slots h = rw (filled, le-leb (length ns) (length slots) h)
+
+pub filled-stored : (ns slots : List ℕ) → length ns ≤ length slots → sets slots 0 ns ≡ filled ns slots
 filled-stored ns slots h =
     let room : 0 + length ns ≤ length slots = omega arith in
-    sets-eq ns slots 0 room ∙ rw (zero-add (length ns), filled, le-leb (length ns) (length slots) h)
+    sets-eq ns slots 0 room ∙ rw (zero-add (length ns), filled-there ns slots h)
 
 pub filled-refused : (ns slots : List ℕ) (number place : ℕ) (told : List ℕ) →
     0 ∷ number ∷ place ∷ [] ≡ withRoom (length ns) (length slots) (1 ∷ told) → slots ≡ filled ns slots
@@ -42,6 +45,7 @@ filled-refused ns slots number place told e = go (leb (length ns) (length slots)
   where
     go : (b : Bool) → leb (length ns) (length slots) ≡ b → slots ≡ filled ns slots
     go true q =
-        let z : _≡_ {A = ℕ} 0 1 = cc (room-told (length ns) (length slots) (1 ∷ told) (leb-true (length ns) (length slots) q)) in
+        let there : length ns ≤ length slots = leb-true (length ns) (length slots) q in
+        let z : _≡_ {A = ℕ} 0 1 = cc (room-told (length ns) (length slots) (1 ∷ told) there) in
         absurd (omega arith)
     go false q = sym (rw (filled, q))

@@ -17,14 +17,18 @@ module _ (ns bytes : List ℕ) (a : WriteAnswer) (says : ofWrite a ≡ writeSays
   write-room taken e =
       room-there (length (bytesOf ns)) (length bytes) taken (1 ∷ length (bytesOf ns) ∷ []) (ap ofWrite (sym e) ∙ says)
 
-  pub write-measured : (left : List ℕ) (taken : ℕ) → a ≡ Length taken → left ≡ writeLeaves ns bytes → Writes ns bytes (Length taken) left
+  pub write-measured : (left : List ℕ) (taken : ℕ) → a ≡ Length taken → left ≡ writeLeaves ns bytes →
+      Writes ns bytes (Length taken) left
   write-measured left taken e l = record { says = ap ofWrite (sym e) ∙ says; leaves = l }
 
   pub write-refused : (refusal : Refusal) → a ≡ Unwritten refusal → Writes ns bytes (Unwritten refusal) bytes
   unfolding ofWrite ofRefusal writeSays writeLeaves
-  write-refused refusal e = record {
-    says = ap ofWrite (sym e) ∙ says;
-    leaves = filled-refused (bytesOf ns) bytes (refusal .number) (refusal .place) (length (bytesOf ns) ∷ []) (ap ofWrite (sym e) ∙ says);
-  }
+  write-refused refusal e =
+      let refused : ofWrite (Unwritten refusal) ≡ writeSays ns (length bytes) = ap ofWrite (sym e) ∙ says in
+      record {
+        says = refused;
+        leaves =
+            filled-refused (bytesOf ns) bytes (refusal .number) (refusal .place) (length (bytesOf ns) ∷ []) refused;
+      }
 
 pub ruleset writings = (write-room, write-measured, write-refused)

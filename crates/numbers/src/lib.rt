@@ -7,8 +7,10 @@ ghost use mathlib.Core.List.{_∷_, []};
 ghost use Prim.Native.Nat.{_+_, _≤_};
 ghost use lib.ListN.{length};
 ghost use Rattle.rules.specs.Numbers.{groupOf, tenth, endsWith, streamFrom, bytesOfNumber, bytesOf, placeOf};
-ghost use Rattle.rules.specs.Answers.{ofRead, withRoom, readStream, readSays, readLeaves, ofWrite, writeSays, writeLeaves};
-ghost use Rattle.numbers.specs.Promises.{Reads, Readable, NumberAt, ofGroup, Writes, Stored};
+ghost use Rattle.rules.specs.Answers.{withRoom, ofRead, readStream, readSays, readLeaves};
+ghost use Rattle.rules.specs.Answers.{ofWrite, writeSays, writeLeaves};
+ghost use Rattle.numbers.specs.Promises.{Reads, Writes};
+ghost use Rattle.numbers.specs.Parts.{ofGroup, NumberAt, Readable, Stored};
 
 // The most bytes of a bench file.
 const MOST_BYTES: usize = 4096;
@@ -20,7 +22,7 @@ enum Group {
     Wrong,
 }
 
-// What stands where a number begins: a number and where the next one begins, the end, or a number that is cut off or wrong.
+// What stands where a number begins: a number and where the next one begins, the end, or one that is cut off or wrong.
 enum Number {
     Whole { value: u64, next: usize },
     End,
@@ -28,7 +30,7 @@ enum Number {
     Wrong,
 }
 
-// The bytes as numbers, into the slots from the first on: how many there are; or 1, 2, 3 or 13, and the slots are as found.
+// The bytes as numbers, into the slots from the first on: how many; or refused 1, 2, 3 or 13, with the slots as found.
 pub fn read(bytes: &[u8], slots: &mut [u64]) -> ReadAnswer
     ensures { λ r. ⌜ Reads (now (bytes .entry)) (now (slots .entry)) r (now (slots .exit)) ⌝ }
 {
@@ -176,7 +178,7 @@ fn ends_with(before: usize, byte: u8) -> Group
     }
 }
 
-// The numbers as bytes, into the bytes from the first on: how many they take; or 13, and the bytes are as found.
+// The numbers as bytes, into the bytes from the first on: how many; or refused 13, with the bytes as found.
 pub fn write(numbers: &[u64], bytes: &mut [u8]) -> WriteAnswer
     ensures { λ r. ⌜ Writes (now (numbers .entry)) (now (bytes .entry)) r (now (bytes .exit)) ⌝ }
 {

@@ -1,14 +1,10 @@
+-- `numbers::count_numbers` meets its contract: what is counted and what is left give the answer.
 use Prim.Native.Nat.{_-_}
 use lib.ListN.{length}
 use borrow.Author.Needs.{needs}
 use Rattle.numbers.proofs.Counting.{Counting, counts}
 use Rattle.numbers.proofs.count_numbers.Statement.{statement}
 use Rattle.numbers.proofs.count_numbers.Tie as tie
-use Rattle.numbers.proofs.count_numbers.Reads as reads
-use Rattle.numbers.proofs.count_numbers.Lts as lts
-use Rattle.numbers.proofs.counted.Reads as counted-reads
-use Rattle.numbers.proofs.number_at.Reads as number-at-reads
-use Rattle.numbers.proofs.unread.Reads as unread-reads
 
 abbrev Inv-loop : tie.InvT-loop
 Inv-loop bytes room count₀ at₀ count at = Counting bytes room count at

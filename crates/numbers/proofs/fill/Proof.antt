@@ -1,3 +1,4 @@
+-- `numbers::fill` meets its contract: what is stored and what is left to store give the slots' later contents.
 use Prim.Native.Nat.{_-_}
 use mathlib.Core.Logic.{⊎-elim}
 use native.Mathlib.Omega.{arith}
@@ -6,9 +7,6 @@ use borrow.Author.Needs.{needs}
 use Rattle.numbers.proofs.Filling.{Filling, fillings, filling-done}
 use Rattle.numbers.proofs.fill.Statement.{statement}
 use Rattle.numbers.proofs.fill.Tie as tie
-use Rattle.numbers.proofs.fill.Reads as reads
-use Rattle.numbers.proofs.fill.Lts as lts
-use Rattle.numbers.proofs.number_at.Reads as number-at-reads
 
 abbrev Inv-loop : tie.InvT-loop
 Inv-loop bytes slots₀ index₀ at₀ slots index at = Filling bytes slots₀ slots index at
@@ -31,7 +29,10 @@ same-length c = search (fillings, needs)
 returns : tie.Need-returns Inv-loop μ-loop
 returns c =
     filling-done _ _ _ _ _ (c .before .before .loop .inv) _ (c .before .number-at .ensures)
-    (λ value next whole. ⊎-elim (λ q. omega (arith, rw whole at q)) (⊎-elim (λ q. omega (arith, rw whole at q)) (λ q. omega (arith, rw whole at q))) (c .match .keys2))
+    (λ value next whole.
+    ⊎-elim (λ end. omega (arith, rw whole at end))
+    (⊎-elim (λ cut. omega (arith, rw whole at cut)) (λ wrong. omega (arith, rw whole at wrong)))
+    (c .match .keys2))
 
 mul-slots : tie.Need-mul-slots Inv-loop μ-loop
 mul-slots c = search (fillings, needs)

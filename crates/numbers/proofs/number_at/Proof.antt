@@ -1,12 +1,10 @@
+-- `numbers::number_at` meets its contract: what was read so far and what is left give what stands at the place.
 use Prim.Native.Nat.{_-_}
 use lib.ListN.{length}
 use borrow.Author.Needs.{needs}
 use Rattle.numbers.proofs.Within.{Within, withins}
 use Rattle.numbers.proofs.number_at.Statement.{statement}
 use Rattle.numbers.proofs.number_at.Tie as tie
-use Rattle.numbers.proofs.number_at.Reads as reads
-use Rattle.numbers.proofs.number_at.Lts as lts
-use Rattle.numbers.proofs.group_of.Reads as group-of-reads
 
 abbrev Inv-loop : tie.InvT-loop
 Inv-loop bytes place at₀ value₀ weight₀ at value weight = Within bytes place at value weight

@@ -1,4 +1,4 @@
--- `numbers::place_of` meets its contract: at each byte, what was passed and the place in the rest add up to the place asked for.
+-- `numbers::place_of` meets its contract: what was passed and the place in the rest add up to the place asked for.
 use Prim.Native.Nat.{_-_}
 use mathlib.Core.Logic.{⊎-elim}
 use lib.ListN.{length}
