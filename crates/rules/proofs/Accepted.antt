@@ -9,6 +9,7 @@ use lib.Dec.{leb, eqb}
 use lib.ListN.{getElem?, length}
 use borrow.Author.Tests.{eqb-true, leb-true}
 use Rattle.rules.specs.declared.Signal.{Signal}
+use Rattle.rules.specs.declared.Signal.the-variants.{Done, Exit}
 use Rattle.rules.specs.Numbers.{Stream, numbers, broken, streamOf}
 use Rattle.rules.specs.Words.{fitsWidth, prefixFits, maskFits}
 use Rattle.rules.specs.Syntax.{bool, KeyKind, exact, lpm, ternary, Global, Parameter, Callable, Key, Table, Program}
@@ -17,7 +18,7 @@ use Rattle.rules.specs.Form.{Res, ok, fault, need, onlyIf, fits, Shape, 
 use Rattle.rules.specs.Ceiling.{mostSteps, calleeIn, ceilingsBelow, ceilingTable, ceilingWith, ceilingOf}
 use Rattle.rules.specs.Lists.{Pattern, exactly, prefixed, masked, Entry, Cell, variableCell, headerCell, passing, keyWidth, actionAt, numbered, asked, readPattern, readPatterns, readArguments, readEntry, readEntries, readFields, readCell, readCells, readStore, slotsOf}
 use Rattle.rules.specs.Running.{State, Ending, Out, done, stuck, full, callsBelow, argumentsFit, given, patternFits, patternsFit, runTable, signalOf, finished, finish, runStmt, runProgram}
-use Rattle.rules.specs.Answers.{Bench, checked, judging, Judged, accepted, refused, placed, judgedStream, judged}
+use Rattle.rules.specs.Answers.{Bench, checked, judging, Judged, accepted, refused, placed, judgedStream, judged, outcomeOf, runBench, fileOutcome, numbersOf, ofSignal, workingSlots, marked}
 use Rattle.rules.proofs.Predicates.{and-both, both-true, All2, nil, cons, All, none-left, also, IfOk, isOk, isFault, IfSome, ifNone, ifSome, IfGot, isGot, isBad, SomeOf, isSome, ok-then, ok-map, ok-self, ok-need, from-ok, from-some, if-then, if-map, if-self, Reads, reads-then, reads-pure, reads-looked-up, reads-any, reads-repeat, Good, good, isFull, Runs}
 use Rattle.rules.proofs.Fits.{Fit, FitWidth, CellFits, variableFits, validFits, invalidFits, GlobalFits, globalFits, StoreFits, StateFits}
 use Rattle.rules.proofs.Sound.{EndOk, okOnward, okValue, okEnd, okReturn, okExit, CallsOk, AppliesOk, sound-stmt}
@@ -200,3 +201,20 @@ module _ (capacity : ℕ) (P : Program) (entries : List Entry) (fit : All (Entry
 pub accepted-ends : (capacity : ℕ) (bytes : List ℕ) (bench : Bench) → judged bytes ≡ accepted bench → Ends (bench .program) (runProgram capacity (bench .program) (bench .entries) (bench .store))
 accepted-ends capacity bytes bench e = let known = judged-ok bytes bench e in
     from-ok (rw (known .formed) at (program-ok capacity (bench .program) (bench .entries) (known .entries-fit))) (bench .store) (known .store-fits)
+
+-- so no file's result is the stuck one
+ends-told : (P : Program) (ceiling : ℕ) {o : Out (List Cell) Signal} → Ends P o → numbersOf (outcomeOf ceiling o) ≡ 3 ∷ [] → ⊥
+unfolding numbersOf outcomeOf ofSignal
+ends-told P ceiling (ends Done store steps q h) e = let z : _≡_ {A = ℕ} 1 3 = cc in omega arith
+ends-told P ceiling (ends Exit store steps q h) e = let z : _≡_ {A = ℕ} 2 3 = cc in omega arith
+ends-told P ceiling fills e = let z : _≡_ {A = ℕ} 0 3 = cc in omega arith
+
+file-told : (capacity : ℕ) (j : Judged) → ((bench : Bench) → j ≡ accepted bench → Ends (bench .program) (runProgram capacity (bench .program) (bench .entries) (bench .store)))
+    → numbersOf (fileOutcome capacity j) ≡ 3 ∷ [] → ⊥
+unfolding fileOutcome runBench
+file-told capacity (accepted bench) h e = ends-told (bench .program) (ceilingOf (bench .program)) (h bench refl) e
+file-told capacity (refused number place) h e = unfold numbersOf in let z : _≡_ {A = ℕ} 0 3 = cc in omega arith
+
+pub never-stuck : (bytes : List ℕ) → marked bytes ≡ 3 ∷ [] → ⊥
+unfolding marked
+never-stuck bytes e = file-told workingSlots (judged bytes) (λ bench q. accepted-ends workingSlots bytes bench q) e

@@ -5,3 +5,6 @@ pub mod Callables
 pub mod Tables
 pub mod Accepted
 pub mod Saturating
+pub mod Codec
+pub mod Same
+pub mod Promises

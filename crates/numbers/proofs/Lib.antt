@@ -1,0 +1,12 @@
+pub mod Places
+pub mod Groups
+pub mod Within
+pub mod Room
+pub mod Counting
+pub mod Filling
+pub mod Reading
+pub mod Measuring
+pub mod Storing
+pub mod Writing
+pub mod Outcomes
+pub mod Determined

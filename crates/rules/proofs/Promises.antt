@@ -1,0 +1,69 @@
+-- What is true of the rules, on one page: each statement is proved by one citation.
+use mathlib.Core.Path.{_≡_, sym, _∙_}
+use Prim.Native.Nat.{ℕ, _<_, _≤_, _^_}
+use mathlib.Core.List.{List, [], _∷_}
+use lib.Dec.{leb}
+use lib.ListN.{length}
+use Rattle.rules.specs.declared.ReadAnswer.{ReadAnswer}
+use Rattle.rules.specs.declared.WriteAnswer.{WriteAnswer}
+use Rattle.rules.specs.declared.JudgeAnswer.{JudgeAnswer}
+use Rattle.rules.specs.declared.RunAnswer.{RunAnswer}
+use Rattle.rules.specs.Numbers.{mostBytes, numbers, streamOf, bytesOf}
+use Rattle.rules.specs.Syntax.{Program}
+use Rattle.rules.specs.Ceiling.{mostSteps, calleeIn, ceilingsBelow, ceilingOf}
+use Rattle.rules.specs.Running.{callsBelow, runProgram}
+use Rattle.rules.specs.Answers.{ofRead, ofWrite, ofJudge, ofRun, readSays, writeSays, judgeSays, runSays, Bench, judged, accepted, marked}
+use Rattle.rules.proofs.Sound.{CallsOk}
+use Rattle.rules.proofs.Callables.{AllJudged, calls-below}
+use Rattle.rules.proofs.Accepted.{Ends, accepted-ends, never-stuck}
+use Rattle.rules.proofs.Saturating.{countOf, same-refusal, exact-below}
+use Rattle.rules.proofs.Codec.{Below, read-write, write-one-form, write-below}
+use Rattle.rules.proofs.Same.{read-same, write-same, judge-same, run-same}
+
+-- Demand 3. A file that the judge accepts is not stuck: its run is done or exit, within the ceiling, and in the final store every field
+-- and variable fits its declared type and a header marked invalid has only zeros (`Ends`, with `StoreFits` of Fits); or it is full.
+pub sound : (capacity : ℕ) (bytes : List ℕ) (bench : Bench) → judged bytes ≡ accepted bench
+    → Ends (bench .program) (runProgram capacity (bench .program) (bench .entries) (bench .store))
+sound = accepted-ends
+
+pub result-not-stuck : (bytes : List ℕ) → marked bytes ≡ 3 ∷ [] → ⊥
+result-not-stuck = never-stuck
+
+-- Inside a run: a call on numbers that fit its parameters keeps every parameter and local within its type, a function's body returns a
+-- value of its type, and it takes at most its ceiling (`CallsOk` of Sound).
+pub calls-sound : (capacity : ℕ) (P : Program) → AllJudged P 0 (P .callables) → (n : ℕ) → CallsOk P n (callsBelow capacity P n) (calleeIn (ceilingsBelow P n))
+calls-sound = calls-below
+
+-- The ceiling is a function of the program alone: no entry and no store occurs in its type.
+pub ceiling : Program → ℕ
+ceiling = ceilingOf
+
+-- Counted with sums that are cut at 1,000,001 it gives the same refusals 9, and where 9 is not given the same ceiling.
+pub ceiling-cut : (P : Program) → leb (countOf P) mostSteps ≡ leb (ceilingOf P) mostSteps
+ceiling-cut = same-refusal
+
+pub ceiling-exact : (P : Program) → ceilingOf P ≤ mostSteps → countOf P ≡ ceilingOf P
+ceiling-exact = exact-below
+
+-- Demand 2, numbers: what is written reads back; a list has one byte form; written bytes are bytes.
+pub written-reads : (ns : List ℕ) → Below (2 ^ 64) ns → 0 < length (bytesOf ns) → length (bytesOf ns) ≤ mostBytes → streamOf (bytesOf ns) ≡ numbers ns
+written-reads = read-write
+
+pub one-form : (x y ns : List ℕ) → Below 256 x → Below 256 y → streamOf x ≡ numbers ns → streamOf y ≡ numbers ns → x ≡ y
+one-form = write-one-form
+
+pub written-bytes : (ns : List ℕ) → Below (2 ^ 64) ns → Below 256 (bytesOf ns)
+written-bytes = write-below
+
+-- Two answers that a promise allows are equal, for every input; what is left in the slots is a function of the input by its type.
+pub read-determined : (bytes : List ℕ) (lent : ℕ) (a b : ReadAnswer) → ofRead a ≡ readSays bytes lent → ofRead b ≡ readSays bytes lent → a ≡ b
+read-determined bytes lent a b e q = read-same a b (e ∙ sym q)
+
+pub write-determined : (ns : List ℕ) (lent : ℕ) (a b : WriteAnswer) → ofWrite a ≡ writeSays ns lent → ofWrite b ≡ writeSays ns lent → a ≡ b
+write-determined ns lent a b e q = write-same a b (e ∙ sym q)
+
+pub judge-determined : (bytes : List ℕ) (a b : JudgeAnswer) → ofJudge a ≡ judgeSays bytes → ofJudge b ≡ judgeSays bytes → a ≡ b
+judge-determined bytes a b e q = judge-same a b (e ∙ sym q)
+
+pub run-determined : (bytes : List ℕ) (results working : ℕ) (a b : RunAnswer) → ofRun a ≡ runSays bytes results working → ofRun b ≡ runSays bytes results working → a ≡ b
+run-determined bytes results working a b e q = run-same a b (e ∙ sym q)
