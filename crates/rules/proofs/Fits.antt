@@ -4,20 +4,19 @@ use mathlib.Core.Bool.{Bool, true, false, not, _&&_, _||_, false≢true}
 use mathlib.Core.Option.{Option, none, some}
 use Prim.Native.Nat.{ℕ, zero, suc, _+_, _-_, _*_, _/_, _^_, _%_, _<_, _≤_}
 use native.Mathlib.Omega.{arith}
-use native.Mathlib.Nat.{mod-lt, div-le-self}
 use mathlib.Core.List.{List, [], _∷_, map}
 use lib.Dec.{ltb, leb, eqb}
 use lib.Bits.{bitAnd, bitOr, bitXor, and-lt, or-lt, xor-lt}
-use lib.Arith.{digits-lt}
 use lib.ListN.{getElem?, length}
-use lib.Pow.{pow-pos, ones-sub-lt, pow-add}
+use lib.Pow.{pow-pos}
 use borrow.Author.Tests.{eqb-true, ltb-true, lt-ltb, eq-eqb}
-use Rattle.rules.specs.Words.{fitsWidth, largest, sum, difference, product, complementOf, shiftedLeft, shiftedRight, castTo, sliceWidth, sliceOf, joined}
+use Rattle.rules.specs.Words.{fitsWidth, sum, difference, product, complementOf, shiftedLeft, shiftedRight, castTo, sliceWidth, sliceOf, joined}
 use Rattle.rules.specs.Syntax.{Ty, bool, bits, Value, value, Global, Parameter, Program, Arithmetic, plus, minus, times, and, or, xor, Order, Shift, shiftLeft, shiftRight, Equality, Place, local, parameter, global, field}
 use Rattle.rules.specs.Form.{Res, ok, fault, _>>=_, named, need, andLook, onlyIf, sameTy, fits, Shape, aVariable, aHeader, shapeIn, globalAt, seesGlobals, Scope, judgeVariable, judgeField, judgeHeader, judgePlace, judgeHeaderAt, needTy, widthAt}
 use Rattle.rules.specs.Lists.{Cell, variableCell, headerCell, markOf}
 use Rattle.rules.specs.Running.{State, change, numberOf, truth, variableTy, fieldTy, headerOnly, shapeFor, declared, variableIn, fieldIn, validIn, held, setVariable, setField, zeroed, makeValid, makeInvalid, withStore, withParameters, withLocals, changeStore, put}
 use Rattle.rules.specs.Running.{calculate, compare, shiftBy, agree, arithmeticOn, orderOn, shiftOn, equalityOn, notOn, complementOn, castOn, sliceOn, concatenationOn, aBool}
+use Rattle.rules.proofs.Fitting.{sum-fits, difference-fits, product-fits, complement-fits, left-fits, right-fits, cast-fits, slice-fits, joined-fits}
 use Rattle.rules.proofs.Predicates.{All2, nil, cons, IfOk, isOk, isFault, IfSome, ifNone, ifSome, SomeOf, isSome, ok-then, ok-map, ok-found, ok-need, some-then, if-then, if-only, if-map, if-self, from-some, look-fits, change-fits}
 
 -- a number fits a type, a value has one
@@ -240,38 +239,19 @@ fits-lt : (w n : ℕ) → Fit (bits w) n → n < 2 ^ w
 unfolding fits fitsWidth
 fits-lt w n h = ltb-true n (2 ^ w) h
 
-mod-fits : (w n : ℕ) → Fit (bits w) (n % 2 ^ w)
-mod-fits w n = lt-fits w (n % 2 ^ w) (mod-lt _ (pow-pos w))
-
 calculate-fits : (o : Arithmetic) (w n m : ℕ) → Fit (bits w) n → Fit (bits w) m → Fit (bits w) (calculate o w n m)
-unfolding calculate sum difference product
-calculate-fits plus w n m h k = mod-fits w (n + m)
-calculate-fits minus w n m h k = mod-fits w (n + (2 ^ w - m))
-calculate-fits times w n m h k = mod-fits w (n * m)
+unfolding calculate
+calculate-fits plus w n m h k = lt-fits w (sum w n m) (sum-fits w n m)
+calculate-fits minus w n m h k = lt-fits w (difference w n m) (difference-fits w n m)
+calculate-fits times w n m h k = lt-fits w (product w n m) (product-fits w n m)
 calculate-fits and w n m h k = lt-fits w (bitAnd n m) (and-lt w n m (fits-lt w n h) (fits-lt w m k))
 calculate-fits or w n m h k = lt-fits w (bitOr n m) (or-lt w n m (fits-lt w n h) (fits-lt w m k))
 calculate-fits xor w n m h k = lt-fits w (bitXor n m) (xor-lt w n m (fits-lt w n h) (fits-lt w m k))
 
-left-fits : (w n m : ℕ) → Fit (bits w) (shiftedLeft w n m)
-unfolding shiftedLeft
-left-fits w n m = go (ltb m w)
-  where
-    go : (b : Bool) → Fit (bits w) (elim b [ true ↦ n * 2 ^ m % 2 ^ w | false ↦ 0 ])
-    go true = mod-fits w (n * 2 ^ m)
-    go false = zero-fits (bits w)
-
-right-fits : (w n m : ℕ) → Fit (bits w) n → Fit (bits w) (shiftedRight w n m)
-unfolding shiftedRight
-right-fits w n m h = go (ltb m w)
-  where
-    go : (b : Bool) → Fit (bits w) (elim b [ true ↦ n / 2 ^ m | false ↦ 0 ])
-    go true = lt-fits w (n / 2 ^ m) (omega (arith, fits-lt w n h, div-le-self n (2 ^ m)))
-    go false = zero-fits (bits w)
-
 shift-fits : (o : Shift) (w n m : ℕ) → Fit (bits w) n → Fit (bits w) (shiftBy o w n m)
 unfolding shiftBy
-shift-fits shiftLeft w n m h = left-fits w n m
-shift-fits shiftRight w n m h = right-fits w n m h
+shift-fits shiftLeft w n m h = lt-fits w (shiftedLeft w n m) (left-fits w n m)
+shift-fits shiftRight w n m h = lt-fits w (shiftedRight w n m) (right-fits w n m (fits-lt w n h))
 
 pub truth-has : (b : Bool) → HasTy bool (truth b)
 unfolding truth
@@ -298,20 +278,20 @@ unfolding notOn fits
 not-ok (has {n} h) = isSome (has (lt-ltb (1 - n) 2 (omega arith)))
 
 pub complement-ok : {w : ℕ} {v : Value} → HasTy (bits w) v → SomeOf (HasTy (bits w)) (complementOn v)
-unfolding complementOn complementOf largest
-complement-ok {w} (has {n} h) = isSome (has (lt-fits w (2 ^ w - 1 - n) (ones-sub-lt w n)))
+unfolding complementOn
+complement-ok {w} (has {n} h) = isSome (has (lt-fits w (complementOf w n) (complement-fits w n)))
 
 pub cast-ok : (w : ℕ) {z : ℕ} {v : Value} → HasTy (bits z) v → SomeOf (HasTy (bits w)) (castOn w v)
-unfolding castOn castTo
-cast-ok w (has {n} h) = isSome (has (mod-fits w n))
+unfolding castOn
+cast-ok w (has {n} h) = isSome (has (lt-fits w (castTo w n) (cast-fits w n)))
 
 pub slice-ok : (high low w : ℕ) {v : Value} → (leb low high && ltb high w) ≡ true → HasTy (bits w) v → SomeOf (HasTy (bits (sliceWidth high low))) (sliceOn high low v)
-unfolding sliceOn onlyIf sliceOf
-slice-ok high low w e (has {n} h) = rw e (isSome (has (mod-fits (sliceWidth high low) (n / 2 ^ low))))
+unfolding sliceOn onlyIf
+slice-ok high low w e (has {n} h) = rw e (isSome (has (lt-fits (sliceWidth high low) (sliceOf high low n) (slice-fits high low n))))
 
 pub concatenation-ok : {w z : ℕ} {v u : Value} → leb (w + z) 64 ≡ true → HasTy (bits w) v → HasTy (bits z) u → SomeOf (HasTy (bits (w + z))) (concatenationOn v u)
-unfolding concatenationOn onlyIf joined
-concatenation-ok {w} {z} e (has {n} h) (has {n = m} k) = rw e (isSome (has (lt-fits (w + z) (n * 2 ^ z + m) (rw (pow-add 2 w z) (digits-lt (fits-lt w n h) (fits-lt z m k))))))
+unfolding concatenationOn onlyIf
+concatenation-ok {w} {z} e (has {n} h) (has {n = m} k) = rw e (isSome (has (lt-fits (w + z) (joined z n m) (joined-fits w z n m (fits-lt w n h) (fits-lt z m k)))))
 
 pub bool-ok : {v : Value} → HasTy bool v → SomeOf (HasTy bool) (aBool v)
 unfolding aBool

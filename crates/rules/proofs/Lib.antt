@@ -1,4 +1,5 @@
 pub mod Predicates
+pub mod Fitting
 pub mod Fits
 pub mod Sound
 pub mod Callables

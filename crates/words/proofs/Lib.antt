@@ -1,4 +1,3 @@
-pub mod Fitting
 pub mod Halves
 pub mod Masks
 pub mod Matching

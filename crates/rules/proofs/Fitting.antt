@@ -1,5 +1,4 @@
 -- Each result fits its width. (`and`, `or` and `xor`: `and-lt`, `or-lt` and `xor-lt` of lib.Bits.)
--- Assumes nothing.
 use mathlib.Core.Bool.{Bool, true, false}
 use mathlib.Core.Path.{_≡_, refl, sym, subst}
 use Prim.Native.Nat.{ℕ, _+_, _-_, _*_, _/_, _^_, _≤_, _<_}
@@ -55,7 +54,7 @@ unfolding joined
 joined-fits front width a b h l =
     subst (λ (n : ℕ). a * 2 ^ width + b < n) (sym (pow-add 2 front width)) (digits-lt h l)
 
--- as `join` requires
+-- what is joined to at most 64 bits fits a word
 pub joined-in-word : (front width a b : ℕ) → front + width ≤ 64 → a < 2 ^ front → b < 2 ^ width
     → joined width a b < 2 ^ 64
 joined-in-word front width a b most h l = lt-of-lt-of-le (joined-fits front width a b h l) (pow-mono most)
