@@ -3,6 +3,7 @@
 
 pub mod answer;
 pub mod ceiling;
+pub mod example;
 pub mod inputs;
 pub mod judge;
 pub mod numbers;
