@@ -1,11 +1,13 @@
 //! The text form of an example: what it is about, its numbers or bytes, and the answer it has to have.
 //!
-//!     # What it is about
-//!     unjudged                  only if it is run without a judge
-//!     1 0 0 0 0                 numbers in decimal; a '#' starts a comment that ends with its line
-//!     bytes:                    only if bytes in hexadecimal follow, instead of numbers
-//!     =>
-//!     done 1 1                  the result lines, or `stuck`
+//! ```text
+//! # What it is about
+//! unjudged                  only if it is run without a judge
+//! 1 0 0 0 0                 numbers in decimal; a '#' starts a comment that ends with its line
+//! bytes:                    only if bytes in hexadecimal follow, instead of numbers
+//! =>
+//! done 1 1                  the result lines, or stuck
+//! ```
 
 use crate::answer::{marked, unjudged, Answer};
 use crate::numbers;

@@ -3,7 +3,9 @@
 
 pub mod answer;
 pub mod ceiling;
+pub mod census;
 pub mod example;
+pub mod generate;
 pub mod inputs;
 pub mod judge;
 pub mod numbers;

@@ -10,7 +10,7 @@ use crate::value::Value;
 use std::cmp::Reverse;
 
 pub const WORKING_SLOTS: usize = 8192;
-const PATIENCE: u64 = 20_000_000;
+const PATIENCE: u64 = 2_000_000;
 
 /// How many working slots there are, and after how many steps the interpreter gives up.
 #[derive(Clone, Copy)]

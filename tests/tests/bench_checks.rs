@@ -2,11 +2,16 @@
 
 mod common;
 
-use common::{bench, times};
+use common::bench;
 use second::answer::{marked, unjudged, Answer};
 
 /// The example of the result lines without its store.
 const EXAMPLE: &str = "1 1 2 4 4 1 128 1 0 1 0 4 0 1 5 0 1 3 0 1 1 0 5 0 0 1 0 0 1 0 5 0 1 0 6 0 9";
+
+/// `count` times the same words, a blank after each.
+fn times(count: usize, words: &str) -> String {
+    format!("{words} ").repeat(count)
+}
 
 fn lines(numbers: &str) -> String {
     marked(&bench(numbers)).lines()

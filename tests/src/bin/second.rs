@@ -1,9 +1,11 @@
 //! The second interpreter as a program.
 //!
-//!     second < FILE                   the result lines of one bench file
-//!     second FILE...                  for each file its name, then its result lines
-//!     second --numbers FILE...        for each file its name, then its answer as a list of numbers
-//!     second --unjudged FILE...       the same, run without a judge
+//! ```text
+//! second < FILE                   the result lines of one bench file
+//! second FILE...                  for each file its name, then its result lines
+//! second --numbers FILE...        for each file its name, then its answer as a list of numbers
+//! second --unjudged FILE...       the same, run without a judge
+//! ```
 
 use second::answer::{blanks_between, marked, unjudged, Answer};
 use std::io::{self, Read, Write};

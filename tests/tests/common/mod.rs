@@ -7,8 +7,3 @@ pub fn bench(numbers: &str) -> Vec<u8> {
     let list: Vec<u64> = numbers.split_whitespace().map(|word| word.parse().expect("a decimal number")).collect();
     numbers::write(&list)
 }
-
-/// `count` times the same words, a blank after each.
-pub fn times(count: usize, words: &str) -> String {
-    format!("{words} ").repeat(count)
-}
