@@ -29,7 +29,7 @@ impl Reader<'_> {
     }
 
     /// The next number, from a list that runs from `least` to `most`.
-    fn from_list(&mut self, least: u64, most: u64) -> Shaped<Number> {
+    fn listed(&mut self, least: u64, most: u64) -> Shaped<Number> {
         let number = self.number()?;
         if (least..=most).contains(&number.value) {
             Ok(number)
@@ -39,16 +39,16 @@ impl Reader<'_> {
     }
 
     fn width(&mut self) -> Shaped<u32> {
-        Ok(self.from_list(1, 64)?.value as u32)
+        Ok(self.listed(1, 64)?.value as u32)
     }
 
     fn members<T>(&mut self, least: u64, most: u64, mut member: impl FnMut(&mut Self) -> Shaped<T>) -> Shaped<Vec<T>> {
-        let count = self.from_list(least, most)?.value;
+        let count = self.listed(least, most)?.value;
         (0..count).map(|_| member(self)).collect()
     }
 
     fn program(&mut self) -> Shaped<Program> {
-        self.from_list(1, 1)?;
+        self.listed(1, 1)?;
         Ok(Program {
             headers: self.members(0, 8, |reader| reader.members(1, 16, Self::width))?,
             globals: self.members(0, 32, Self::global)?,
@@ -69,11 +69,11 @@ impl Reader<'_> {
     }
 
     fn plain_type(&mut self) -> Shaped<Type> {
-        Ok(plain_type(self.from_list(0, 64)?.value))
+        Ok(plain_type(self.listed(0, 64)?.value))
     }
 
     fn callable(&mut self) -> Shaped<Callable> {
-        let number = self.from_list(0, 1)?;
+        let number = self.listed(0, 1)?;
         let kind = match number.value {
             0 => CallableKind::Action,
             _ => CallableKind::Function(self.plain_type()?),
@@ -88,7 +88,7 @@ impl Reader<'_> {
     }
 
     fn parameter(&mut self) -> Shaped<Parameter> {
-        let direction = match self.from_list(0, 3)?.value {
+        let direction = match self.listed(0, 3)?.value {
             0 => Direction::None,
             1 => Direction::In,
             2 => Direction::Out,
@@ -101,13 +101,13 @@ impl Reader<'_> {
         let keys = self.members(1, 4, Self::key)?;
         let actions = self.members(1, 8, Self::number)?;
         let default = self.number()?;
-        let default_count = self.from_list(0, 8)?;
+        let default_count = self.listed(0, 8)?;
         let default_arguments = (0..default_count.value).map(|_| self.number()).collect::<Shaped<_>>()?;
         Ok(Table { keys, actions, default, default_count, default_arguments })
     }
 
     fn key(&mut self) -> Shaped<Key> {
-        let number = self.from_list(0, 2)?;
+        let number = self.listed(0, 2)?;
         let kind = match number.value {
             0 => KeyKind::Exact,
             1 => KeyKind::Lpm,
@@ -120,7 +120,7 @@ impl Reader<'_> {
     fn tag(&mut self, depth: usize, least: u64, most: u64) -> Shaped<Number> {
         match self.rest.first() {
             Some(tag) if depth > DEEPEST => Err(Refusal::at(5, tag.place)),
-            _ => self.from_list(least, most),
+            _ => self.listed(least, most),
         }
     }
 
@@ -160,14 +160,14 @@ impl Reader<'_> {
     }
 
     fn bound(&mut self) -> Shaped<u32> {
-        Ok(self.from_list(0, 63)?.value as u32)
+        Ok(self.listed(0, 63)?.value as u32)
     }
 
     fn operator(&mut self) -> Shaped<Operator> {
         use Operator::*;
-        let listed =
+        let operators =
             [Plus, Minus, Times, And, Or, Xor, ShiftLeft, ShiftRight, Equal, Unequal, Less, LessOrEqual, Both, Either];
-        Ok(listed[self.from_list(0, 13)?.value as usize])
+        Ok(operators[self.listed(0, 13)?.value as usize])
     }
 
     fn call(&mut self, holder: usize) -> Shaped<Call> {

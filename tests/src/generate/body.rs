@@ -12,12 +12,8 @@ impl Builder<'_> {
         self.ceiling += 1;
         if !self.has_room(depth) || self.random.chance(25) {
             self.leaf(scope, kind);
-        } else if self.random.chance(20) && self.call_for_value(scope, kind, depth) {
-        } else {
-            match kind {
-                Type::Bool => self.bool_expression(scope, depth),
-                Type::Bits(width) => self.bits_expression(scope, width, depth),
-            }
+        } else if !(self.random.chance(20) && self.call_for_value(scope, kind, depth)) {
+            self.operation(scope, kind, depth);
         }
         self.draft.close(Sort::Expression, start);
     }
@@ -73,7 +69,15 @@ impl Builder<'_> {
         }
     }
 
-    fn bool_expression(&mut self, scope: &Scope, depth: usize) {
+    /// An expression of a type with an operand or two.
+    fn operation(&mut self, scope: &Scope, kind: Type, depth: usize) {
+        match kind {
+            Type::Bool => self.bool_operation(scope, depth),
+            Type::Bits(width) => self.bits_operation(scope, width, depth),
+        }
+    }
+
+    fn bool_operation(&mut self, scope: &Scope, depth: usize) {
         match self.random.between(0, 7) {
             0 => self.valid(scope, depth),
             1 => self.not(scope, depth),
@@ -117,7 +121,7 @@ impl Builder<'_> {
         }
     }
 
-    fn bits_expression(&mut self, scope: &Scope, width: u32, depth: usize) {
+    fn bits_operation(&mut self, scope: &Scope, width: u32, depth: usize) {
         let kind = Type::Bits(width);
         match self.random.between(0, 9) {
             0 => {
