@@ -20,6 +20,12 @@ pub struct Example {
     pub expected: String,
 }
 
+/// The example in a file.
+pub fn read(file: &str) -> Result<Example, String> {
+    let text = std::fs::read_to_string(file).map_err(|error| format!("{file}: {error}"))?;
+    Example::parse(&text).map_err(|fault| format!("{file}: {fault}"))
+}
+
 impl Example {
     /// The example of a text, or what is wrong with the text.
     pub fn parse(text: &str) -> Result<Example, String> {

@@ -2,7 +2,7 @@
 
 use second::answer::judged;
 use second::census;
-use second::example::Example;
+use second::example::{self, Example};
 use std::collections::BTreeSet;
 use std::path::PathBuf;
 
@@ -13,8 +13,8 @@ fn corpus() -> Vec<(String, Example)> {
     for file in std::fs::read_dir(folder).expect("the corpus folder") {
         let path = file.expect("a file of the corpus").path();
         let name = path.file_stem().expect("a name").to_string_lossy().into_owned();
-        let text = std::fs::read_to_string(&path).expect("a text");
-        examples.push((name.clone(), Example::parse(&text).unwrap_or_else(|fault| panic!("{name}: {fault}"))));
+        let example = example::read(&path.to_string_lossy()).unwrap_or_else(|fault| panic!("{fault}"));
+        examples.push((name, example));
     }
     examples
 }

@@ -8,7 +8,7 @@
 //! the file, and the answer as numbers, with tabs between. A run of more than STEPS steps gets no fact.
 
 use second::answer::{blanks_between, marked, unjudged, Answer};
-use second::example::Example;
+use second::example;
 use std::fmt::Write;
 use std::path::Path;
 use std::process::ExitCode;
@@ -62,12 +62,11 @@ fn write_facts(arguments: &[String]) -> Result<(), String> {
 
 /// The bytes of an example or of a bench file.
 fn read(file: &str) -> Result<Vec<u8>, String> {
-    let bytes = std::fs::read(file).map_err(|error| format!("{file}: {error}"))?;
-    if !file.ends_with(".bench") {
-        return Ok(bytes);
+    if file.ends_with(".bench") {
+        example::read(file).map(|example| example.bytes)
+    } else {
+        std::fs::read(file).map_err(|error| format!("{file}: {error}"))
     }
-    let text = String::from_utf8(bytes).map_err(|error| format!("{file}: {error}"))?;
-    Ok(Example::parse(&text).map_err(|fault| format!("{file}: {fault}"))?.bytes)
 }
 
 fn write(folder: &str, name: &str, text: &str) -> Result<(), String> {
