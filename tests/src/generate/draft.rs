@@ -1,0 +1,65 @@
+//! A bench file in the making: its numbers, the list that each one is from, and where its subtrees stand.
+
+/// A number and the list it is from.
+#[derive(Clone, Copy)]
+pub struct Entry {
+    pub value: u64,
+    pub least: u64,
+    pub most: u64,
+    /// Whether it can change without a change in how the numbers after it are read.
+    pub free: bool,
+}
+
+#[derive(Clone, Copy, PartialEq, Eq)]
+pub enum Sort {
+    Expression,
+    Statement,
+}
+
+/// A subtree: the numbers from `start` up to `end`.
+#[derive(Clone, Copy)]
+pub struct Subtree {
+    pub sort: Sort,
+    pub start: usize,
+    pub end: usize,
+}
+
+#[derive(Default)]
+pub struct Draft {
+    pub entries: Vec<Entry>,
+    pub subtrees: Vec<Subtree>,
+}
+
+impl Draft {
+    pub fn len(&self) -> usize {
+        self.entries.len()
+    }
+
+    pub fn is_empty(&self) -> bool {
+        self.entries.is_empty()
+    }
+
+    /// Add a version, count, kind or tag, from a list that runs from `least` to `most`.
+    pub fn push(&mut self, value: u64, least: u64, most: u64) {
+        self.entries.push(Entry { value, least, most, free: false });
+    }
+
+    /// Add any other number from such a list.
+    pub fn push_free(&mut self, value: u64, least: u64, most: u64) {
+        self.entries.push(Entry { value, least, most, free: true });
+    }
+
+    /// Add a name among so many.
+    pub fn push_name(&mut self, index: usize, count: usize) {
+        self.push_free(index as u64, 0, (count as u64).saturating_sub(1));
+    }
+
+    /// Note that the numbers from `start` to here are a subtree.
+    pub fn close(&mut self, sort: Sort, start: usize) {
+        self.subtrees.push(Subtree { sort, start, end: self.len() });
+    }
+
+    pub fn numbers(&self) -> Vec<u64> {
+        self.entries.iter().map(|entry| entry.value).collect()
+    }
+}

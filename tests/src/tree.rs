@@ -1,0 +1,158 @@
+//! The tree of a program. A node keeps the place of each number that a refusal may be charged to.
+
+use crate::numbers::Number;
+
+#[derive(Clone, Copy, Debug, PartialEq, Eq)]
+pub enum Type {
+    Bool,
+    Bits(u32),
+}
+
+pub struct Program {
+    /// Each header type is its field widths.
+    pub headers: Vec<Vec<u32>>,
+    pub globals: Vec<Global>,
+    pub callables: Vec<Callable>,
+    pub tables: Vec<Table>,
+    pub apply_body: Statement,
+}
+
+pub struct Global {
+    pub place: usize,
+    pub kind: GlobalKind,
+}
+
+#[derive(Clone, Copy, Debug, PartialEq, Eq)]
+pub enum GlobalKind {
+    Plain(Type),
+    /// A header, by the number of its type.
+    Header(usize),
+}
+
+pub struct Callable {
+    pub place: usize,
+    pub kind: CallableKind,
+    pub parameters: Vec<Parameter>,
+    pub locals: Vec<Type>,
+    pub body: Statement,
+}
+
+#[derive(Clone, Copy, Debug, PartialEq, Eq)]
+pub enum CallableKind {
+    Action,
+    /// A function and the type it returns.
+    Function(Type),
+}
+
+#[derive(Clone, Copy, Debug, PartialEq, Eq)]
+pub enum Direction {
+    None,
+    In,
+    Out,
+    Inout,
+}
+
+impl Direction {
+    /// Whether the callee may write the parameter, and the call writes it back.
+    pub fn writes(self) -> bool {
+        matches!(self, Direction::Out | Direction::Inout)
+    }
+}
+
+#[derive(Clone, Copy, Debug)]
+pub struct Parameter {
+    pub direction: Direction,
+    pub kind: Type,
+}
+
+pub struct Table {
+    pub keys: Vec<Key>,
+    pub actions: Vec<Number>,
+    pub default: Number,
+    pub default_count: Number,
+    pub default_arguments: Vec<Number>,
+}
+
+pub struct Key {
+    pub place: usize,
+    pub kind: KeyKind,
+    pub expression: Expression,
+}
+
+#[derive(Clone, Copy, Debug, PartialEq, Eq)]
+pub enum KeyKind {
+    Exact,
+    Lpm,
+    Ternary,
+}
+
+pub struct Expression {
+    /// The tag's place.
+    pub place: usize,
+    pub form: ExpressionForm,
+}
+
+pub enum ExpressionForm {
+    Bool(u64),
+    Bits { width: u32, value: u64 },
+    Local(Number),
+    Parameter(Number),
+    Global(Number),
+    Field { global: Number, field: Number },
+    Valid(Number),
+    Not(Box<Expression>),
+    Complement(Box<Expression>),
+    Binary { operator: Operator, left: Box<Expression>, right: Box<Expression> },
+    Cast { width: u32, operand: Box<Expression> },
+    Slice { high: u32, low: u32, operand: Box<Expression> },
+    Concatenation(Box<Expression>, Box<Expression>),
+    Call(Call),
+}
+
+pub struct Call {
+    pub callable: Number,
+    pub arguments: Vec<Expression>,
+}
+
+#[derive(Clone, Copy, Debug, PartialEq, Eq)]
+pub enum Operator {
+    Plus,
+    Minus,
+    Times,
+    And,
+    Or,
+    Xor,
+    ShiftLeft,
+    ShiftRight,
+    Equal,
+    Unequal,
+    Less,
+    LessOrEqual,
+    Both,
+    Either,
+}
+
+pub struct Statement {
+    /// The tag's place.
+    pub place: usize,
+    pub form: StatementForm,
+}
+
+pub enum StatementForm {
+    Empty,
+    Assign { target: Expression, value: Expression },
+    If { condition: Expression, then_branch: Box<Statement>, else_branch: Box<Statement> },
+    Block(Vec<Statement>),
+    Call(Call),
+    Apply(Number),
+    ReturnValue(Expression),
+    Return,
+    Exit,
+    SetValid(Number),
+    SetInvalid(Number),
+}
+
+/// The member that a number names, if it names one.
+pub fn named<T>(members: &[T], number: u64) -> Option<&T> {
+    usize::try_from(number).ok().and_then(|index| members.get(index))
+}

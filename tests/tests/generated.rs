@@ -1,0 +1,91 @@
+//! What holds of every bench file, on generated ones.
+
+use second::answer::{judged, marked, unjudged, Answer, Refusal, Signal};
+use second::census;
+use second::generate::bench_file;
+use second::inputs::{store_numbers, store_of};
+use second::numbers::{Number, MOST_BYTES};
+use second::tree::Program;
+use std::collections::{BTreeMap, BTreeSet};
+
+const SEED: u64 = 2026;
+const FILES: u64 = 3000;
+
+fn files() -> impl Iterator<Item = Vec<u8>> {
+    (0..FILES).map(|number| bench_file(SEED, number, MOST_BYTES))
+}
+
+/// Whether the numbers are a store of the program, with zero fields in each invalid header.
+fn is_store(program: &Program, store: &[u64]) -> bool {
+    let numbers: Vec<Number> = store.iter().map(|&value| Number { value, place: 0 }).collect();
+    store_of(program, &numbers).is_some_and(|read| store_numbers(&read) == store)
+}
+
+#[test]
+fn a_judged_file_is_never_stuck_and_stays_within_its_ceiling() {
+    for bytes in files() {
+        let Ok((program, _, judged_ceiling)) = judged(&bytes) else { continue };
+        match marked(&bytes) {
+            Answer::Finished { steps, ceiling, store, .. } => {
+                assert_eq!(ceiling, judged_ceiling);
+                assert!(1 <= steps && steps <= ceiling && ceiling <= 1_000_000, "{bytes:?}");
+                assert!(is_store(&program, &store), "{bytes:?}");
+            }
+            other => panic!("{other:?} of {bytes:?}"),
+        }
+    }
+}
+
+#[test]
+fn unjudged_a_good_file_answers_the_same_without_its_ceiling() {
+    for bytes in files() {
+        if let Answer::Finished { signal, steps, store, .. } = marked(&bytes) {
+            assert_eq!(unjudged(&bytes), Answer::Finished { signal, steps, ceiling: 0, store });
+        }
+    }
+}
+
+#[test]
+fn unjudged_the_first_five_refusals_are_the_judges_and_no_other_is_given() {
+    for bytes in files() {
+        match (marked(&bytes), unjudged(&bytes)) {
+            (Answer::Refused(Refusal { number: 1..=5, place }), answer) => {
+                assert!(matches!(answer, Answer::Refused(refusal) if refusal.place == place), "{bytes:?}");
+            }
+            (_, answer) => assert!(!matches!(answer, Answer::Refused(_)), "{bytes:?}"),
+        }
+    }
+}
+
+#[test]
+fn what_is_stuck_is_refused() {
+    let stuck = files().filter(|bytes| unjudged(bytes) == Answer::Stuck);
+    let refused = |bytes: &Vec<u8>| matches!(marked(bytes), Answer::Refused(Refusal { number: 6..=11, .. }));
+    let unexpected: Vec<Vec<u8>> = stuck.filter(|bytes| !refused(bytes)).collect();
+    assert!(unexpected.is_empty(), "{unexpected:?}");
+}
+
+#[test]
+fn every_refusal_and_both_signals_occur_often() {
+    let mut counts: BTreeMap<String, u64> = BTreeMap::new();
+    for bytes in files() {
+        let name = match marked(&bytes) {
+            Answer::Refused(refusal) => refusal.number.to_string(),
+            Answer::Finished { signal: Signal::Done, .. } => "done".to_string(),
+            Answer::Finished { signal: Signal::Exit, .. } => "exit".to_string(),
+            other => panic!("{other:?}"),
+        };
+        *counts.entry(name).or_default() += 1;
+    }
+    let names = (1..=12).map(|number| number.to_string()).chain(["done".to_string(), "exit".to_string()]);
+    for name in names {
+        assert!(counts.get(&name).is_some_and(|&count| count >= 20), "{name}: {counts:?}");
+    }
+}
+
+#[test]
+fn every_construct_occurs_in_good_files() {
+    let good = files().filter_map(|bytes| judged(&bytes).ok());
+    let seen: BTreeSet<String> = good.flat_map(|(program, ..)| census::of(&program)).collect();
+    assert_eq!(seen, census::all());
+}
