@@ -1,5 +1,5 @@
--- What the promise of reading means for its callers: a count stands for the numbers that the bytes read as, and with room for
--- as many numbers as a bench file has bytes a refusal is the stream's own.
+-- What the promise of reading means for its callers: a count stands for the numbers that the bytes read as; and where
+-- there are as many slots as a bench file may have bytes, a refusal is the stream's own.
 use mathlib.Core.List.{List, [], _∷_}
 use mathlib.Core.Path.{_≡_, refl, sym, ap, _∙_}
 use Prim.Native.Nat.{ℕ, _≤_}
@@ -23,7 +23,8 @@ pub record Numbered (bytes slots : List ℕ) (count : ℕ) (left : List ℕ) : T
   pub beyond : drop count left ≡ drop count slots
 
 numbered : (bytes slots : List ℕ) (count : ℕ) (left : List ℕ) (stream : Stream) → streamOf bytes ≡ stream →
-    1 ∷ count ∷ [] ≡ readStream stream (length slots) → left ≡ leftByStream stream slots → Numbered bytes slots count left
+    1 ∷ count ∷ [] ≡ readStream stream (length slots) → left ≡ leftByStream stream slots →
+    Numbered bytes slots count left
 unfolding readStream leftByStream
 numbered bytes slots count left (numbers ns) r e l =
     let there : length ns ≤ length slots = room-there (length ns) (length slots) count (1 ∷ length ns ∷ []) e in
@@ -52,8 +53,8 @@ refused bytes slots number place (numbers ns) r h e =
     absurd (omega arith)
 refused bytes slots number place (broken n p) r h e = cc
 
-pub read-broken : (bytes slots : List ℕ) (r : ReadAnswer) (left : List ℕ) (refusal : Refusal) → Reads bytes slots r left →
-    mostBytes ≤ length slots → r ≡ Unread refusal → streamOf bytes ≡ broken (refusal .number) (refusal .place)
+pub read-broken : (bytes slots : List ℕ) (r : ReadAnswer) (left : List ℕ) (refusal : Refusal) →
+    Reads bytes slots r left → mostBytes ≤ length slots → r ≡ Unread refusal → streamOf bytes ≡ broken (refusal .number) (refusal .place)
 unfolding ofRead ofRefusal readSays
 read-broken bytes slots r left refusal p h e =
     refused bytes slots (refusal .number) (refusal .place) (streamOf bytes) refl h (ap ofRead (sym e) ∙ p .says)

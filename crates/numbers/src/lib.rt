@@ -254,7 +254,7 @@ fn store_number(number: u64, place: usize, bytes: &mut [u8]) -> usize
     at + 1
 }
 
-// The byte offset of the number with this index; the length where there are fewer numbers.
+// The byte offset of the number with this index, or the length where there is no such number.
 pub fn place_of(bytes: &[u8], index: usize) -> usize
     ensures { λ r. ⌜ r ≡ placeOf (now (bytes .entry)) index ⌝ }
 {
