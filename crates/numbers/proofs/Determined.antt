@@ -1,38 +1,12 @@
 -- The promises determine the outcome: for all inputs, two outcomes that a promise allows are equal.
 use mathlib.Core.List.{List}
-use mathlib.Core.Path.{_≡_, sym, ap, _∙_}
+use mathlib.Core.Path.{_≡_, sym, _∙_}
 use Prim.Native.Nat.{ℕ}
-use native.Mathlib.Omega.{arith}
-use Rattle.rules.specs.declared.Refusal.{Refusal}
 use Rattle.rules.specs.declared.ReadAnswer.{ReadAnswer}
-use Rattle.rules.specs.declared.ReadAnswer.the-variants.{Count, Unread}
 use Rattle.rules.specs.declared.WriteAnswer.{WriteAnswer}
-use Rattle.rules.specs.declared.WriteAnswer.the-variants.{Length, Unwritten}
 use Rattle.rules.specs.Numbers.{placeOf}
-use Rattle.rules.specs.Answers.{ofRefusal, ofRead, ofWrite}
+use Rattle.rules.proofs.Same.{read-same, write-same}
 use Rattle.numbers.specs.Promises.{Reads, Writes}
-
--- answers that say the same are the same
-pub refusal-same : (a b : Refusal) → ofRefusal a ≡ ofRefusal b → a ≡ b
-unfolding ofRefusal
-refusal-same a b e =
-    let n : a .number ≡ b .number = cc in
-    let p : a .place ≡ b .place = cc in
-    λ i. record { number = n i; place = p i }
-
-pub read-same : (a b : ReadAnswer) → ofRead a ≡ ofRead b → a ≡ b
-unfolding ofRead ofRefusal
-read-same (Count m) (Count n) e = ap Count (cc)
-read-same (Count m) (Unread b) e = let z : _≡_ {A = ℕ} 0 1 = cc in absurd (omega arith)
-read-same (Unread a) (Count n) e = let z : _≡_ {A = ℕ} 0 1 = cc in absurd (omega arith)
-read-same (Unread a) (Unread b) e = ap Unread (refusal-same a b e)
-
-pub write-same : (a b : WriteAnswer) → ofWrite a ≡ ofWrite b → a ≡ b
-unfolding ofWrite ofRefusal
-write-same (Length m) (Length n) e = ap Length (cc)
-write-same (Length m) (Unwritten b) e = let z : _≡_ {A = ℕ} 0 1 = cc in absurd (omega arith)
-write-same (Unwritten a) (Length n) e = let z : _≡_ {A = ℕ} 0 1 = cc in absurd (omega arith)
-write-same (Unwritten a) (Unwritten b) e = ap Unwritten (refusal-same a b e)
 
 pub read-determined : (bytes slots : List ℕ) (a b : ReadAnswer) (x y : List ℕ) →
     Reads bytes slots a x → Reads bytes slots b y → (a ≡ b) × (x ≡ y)
