@@ -1,4 +1,4 @@
--- The ceiling (document 01, "How it runs", last paragraph; refusal 9): the most steps that a run can take, from the program alone.
+-- The ceiling (document 01, "How it runs", last paragraph; refusal 9): at least the steps of every run, from the program alone.
 -- Each construct counts 1 and its operands; both branches of an if their larger; a call and an apply add what they run.
 use mathlib.Core.Option.{Option, none, some}
 use Prim.Native.Nat.{ℕ, zero, suc, _+_, max}
