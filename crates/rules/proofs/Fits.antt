@@ -1,5 +1,5 @@
 -- What fits: a value its type, a cell its global, a state its scope. Places that are declared are held, and can be written.
-use mathlib.Core.Path.{_≡_, refl, sym, ap, subst, _∙_}
+use mathlib.Core.Path.{_≡_, refl, sym, ap, ap₂, subst, _∙_}
 use mathlib.Core.Bool.{Bool, true, false, not, _&&_, _||_, false≢true}
 use mathlib.Core.Option.{Option, none, some}
 use Prim.Native.Nat.{ℕ, zero, suc, _+_, _-_, _*_, _/_, _^_, _%_, _<_, _≤_}
@@ -7,13 +7,13 @@ use native.Mathlib.Omega.{arith}
 use mathlib.Core.List.{List, [], _∷_, map}
 use lib.Dec.{ltb, leb, eqb}
 use lib.Bits.{bitAnd, bitOr, bitXor, and-lt, or-lt, xor-lt}
-use lib.ListN.{getElem?, length}
+use lib.ListN.{getElem?, length, length-append}
 use lib.Pow.{pow-pos}
 use borrow.Author.Tests.{eqb-true, ltb-true, lt-ltb, eq-eqb}
 use Rattle.rules.specs.Words.{fitsWidth, sum, difference, product, complementOf, shiftedLeft, shiftedRight, castTo, sliceWidth, sliceOf, joined}
 use Rattle.rules.specs.Syntax.{Ty, bool, bits, Value, value, Global, Parameter, Program, Arithmetic, plus, minus, times, and, or, xor, Order, Shift, shiftLeft, shiftRight, Equality, Place, local, parameter, global, field}
 use Rattle.rules.specs.Form.{Res, ok, fault, _>>=_, named, need, andLook, onlyIf, sameTy, fits, Shape, aVariable, aHeader, shapeIn, globalAt, seesGlobals, Scope, judgeVariable, judgeField, judgeHeader, judgePlace, judgeHeaderAt, needTy, widthAt}
-use Rattle.rules.specs.Lists.{Cell, variableCell, headerCell, markOf}
+use Rattle.rules.specs.Lists.{Cell, variableCell, headerCell, markOf, slotsOfCell, slotsOf}
 use Rattle.rules.specs.Running.{State, change, numberOf, truth, variableTy, fieldTy, headerOnly, shapeFor, declared, variableIn, fieldIn, validIn, held, setVariable, setField, zeroed, makeValid, makeInvalid, withStore, withParameters, withLocals, changeStore, put}
 use Rattle.rules.specs.Running.{calculate, compare, shiftBy, agree, arithmeticOn, orderOn, shiftOn, equalityOn, notOn, complementOn, castOn, sliceOn, concatenationOn, aBool}
 use Rattle.rules.proofs.Fitting.{sum-fits, difference-fits, product-fits, complement-fits, left-fits, right-fits, cast-fits, slice-fits, joined-fits}
@@ -296,3 +296,34 @@ concatenation-ok {w} {z} e (has {n} h) (has {n = m} k) = rw e (isSome (has (lt-f
 pub bool-ok : {v : Value} → HasTy bool v → SomeOf (HasTy bool) (aBool v)
 unfolding aBool
 bool-ok (has h) = isSome (has h)
+
+-- stores that fit one program have as many numbers
+all2-length : {A B : Type 0} {R : A → B → Type 0} {xs : List A} {ys : List B} → All2 R xs ys → length ys ≡ length xs
+all2-length nil = refl
+all2-length (cons r rs) = ap suc (all2-length rs)
+
+-- how many numbers a global of a shape has in the store
+numbersIn : Shape → ℕ
+numbersIn (aVariable t) = 1
+numbersIn (aHeader widths) = suc (length widths)
+
+cell-length : {shape : Shape} {c : Cell} → CellFits shape c → length (slotsOfCell c) ≡ numbersIn shape
+unfolding slotsOfCell numbersIn
+cell-length (variableFits h) = refl
+cell-length (validFits h) = ap suc (all2-length h)
+cell-length (invalidFits h) = ap suc (all2-length h)
+
+global-length : {P : Program} {g : Global} {c d : Cell} → GlobalFits P g c → GlobalFits P g d → length (slotsOfCell c) ≡ length (slotsOfCell d)
+global-length (globalFits {shape = x} e h) (globalFits {shape = y} q k) = cell-length h ∙ (ap numbersIn (same e q) ∙ sym (cell-length k))
+  where
+    same : {o : Option Shape} → o ≡ some x → o ≡ some y → x ≡ y
+    same e q = cc
+
+cells-length : {P : Program} {gs : List Global} {cs ds : List Cell} → All2 (GlobalFits P) gs cs → All2 (GlobalFits P) gs ds → length (slotsOf cs) ≡ length (slotsOf ds)
+unfolding slotsOf
+cells-length nil nil = refl
+cells-length (cons {b = c} {ys = cs} h hs) (cons {b = d} {ys = ds} k ks) =
+    length-append (slotsOfCell c) (slotsOf cs) ∙ (ap₂ (λ n m. n + m) (global-length h k) (cells-length hs ks) ∙ sym (length-append (slotsOfCell d) (slotsOf ds)))
+
+pub store-length : (P : Program) (cs ds : List Cell) → StoreFits P cs → StoreFits P ds → length (slotsOf cs) ≡ length (slotsOf ds)
+store-length P cs ds h k = cells-length h k

@@ -11,8 +11,10 @@ use Rattle.rules.specs.declared.RunAnswer.{RunAnswer}
 use Rattle.rules.specs.Numbers.{mostBytes, numbers, streamOf, bytesOf}
 use Rattle.rules.specs.Syntax.{Program}
 use Rattle.rules.specs.Ceiling.{mostSteps, calleeIn, ceilingsBelow, ceilingOf}
+use Rattle.rules.specs.Lists.{Cell, slotsOf}
 use Rattle.rules.specs.Running.{callsBelow, runProgram}
 use Rattle.rules.specs.Answers.{ofRead, ofWrite, ofJudge, ofRun, readSays, writeSays, judgeSays, runSays, Bench, judged, accepted, marked}
+use Rattle.rules.proofs.Fits.{StoreFits, store-length}
 use Rattle.rules.proofs.Sound.{CallsOk}
 use Rattle.rules.proofs.Callables.{AllJudged, calls-below}
 use Rattle.rules.proofs.Accepted.{Ends, accepted-ends, never-stuck}
@@ -28,6 +30,10 @@ sound = accepted-ends
 
 pub result-not-stuck : (bytes : List ℕ) → marked bytes ≡ 3 ∷ [] → ⊥
 result-not-stuck = never-stuck
+
+-- Stores that fit one program, as the first and the last of a run do, have as many numbers.
+pub as-many-numbers : (P : Program) (cs ds : List Cell) → StoreFits P cs → StoreFits P ds → length (slotsOf cs) ≡ length (slotsOf ds)
+as-many-numbers = store-length
 
 -- Inside a run: a call on numbers that fit its parameters keeps every parameter and local within its type, a function's body returns a
 -- value of its type, and it takes at most its ceiling (`CallsOk` of Sound).
