@@ -16,12 +16,12 @@ use Rattle.rules.specs.Syntax.{bool, KeyKind, exact, lpm, ternary, Globa
 use Rattle.rules.specs.Reading.{Got, got, bad, Reader}
 use Rattle.rules.specs.Form.{Res, ok, fault, need, onlyIf, fits, Shape, aVariable, aHeader, shapeIn, inApply, isApply, isFunction, applyScope, judgeCallables, judgeTable, judgeTables, judgeGlobals, judgeStmt, judgeProgram, andLook}
 use Rattle.rules.specs.Ceiling.{mostSteps, calleeIn, ceilingsBelow, ceilingTable, ceilingWith, ceilingOf}
-use Rattle.rules.specs.Lists.{Pattern, exactly, prefixed, masked, Entry, Cell, variableCell, headerCell, passing, keyWidth, actionAt, numbered, asked, readPattern, readPatterns, readArguments, readEntry, readEntries, readFields, readCell, readCells, readStore, slotsOf}
-use Rattle.rules.specs.Running.{State, Ending, Out, done, stuck, full, callsBelow, argumentsFit, given, patternFits, patternsFit, runTable, signalOf, finished, finish, runStmt, runProgram}
-use Rattle.rules.specs.Answers.{Bench, checked, judging, Judged, accepted, refused, placed, judgedStream, judged, outcomeOf, runBench, fileOutcome, numbersOf, ofSignal, workingSlots, marked}
+use Rattle.rules.specs.Lists.{Pattern, exactly, prefixed, masked, Entry, Cell, variableCell, headerCell, passing, keyWidth, actionAt, numbered, asked, readPattern, readPatterns, readArguments, readEntry, readEntries, readFields, readShape, readCell, readCells, readStore, slotsOf}
+use Rattle.rules.specs.Running.{State, Ending, Out, done, stuck, full, callsBelow, argumentsFit, argumentsGiven, patternFits, patternsFit, runTable, finish, started, runStmt, runProgram}
+use Rattle.rules.specs.Answers.{Bench, checked, judging, Judged, accepted, refused, placed, judgedStream, judged, outcomeOf, runBench, fileOutcome, toldWith, numbersOf, ofSignal, workingSlots, marked}
 use Rattle.rules.proofs.Predicates.{and-both, both-true, All2, nil, cons, All, none-left, also, IfOk, isOk, isFault, IfSome, ifNone, ifSome, IfGot, isGot, isBad, SomeOf, isSome, ok-then, ok-map, ok-self, ok-need, from-ok, from-some, if-then, if-map, if-self, Reads, reads-then, reads-pure, reads-looked-up, reads-any, reads-repeat, Good, good, isFull, Runs}
 use Rattle.rules.proofs.Fits.{Fit, FitWidth, CellFits, variableFits, validFits, invalidFits, GlobalFits, globalFits, StoreFits, StateFits}
-use Rattle.rules.proofs.Sound.{EndOk, okOnward, okValue, okEnd, okReturn, okExit, CallsOk, AppliesOk, sound-stmt}
+use Rattle.rules.proofs.Sound.{EndOk, CallsOk, AppliesOk, sound-stmt}
 use Rattle.rules.proofs.Callables.{judged-all, calls-below}
 use Rattle.rules.proofs.Tables.{EntryOk, table-ok}
 
@@ -62,7 +62,7 @@ module _ (P : Program) where
   arguments-read (p ∷ ps) = reads-then (reads-asked P (fits (p .ty))) λ n h. reads-then (arguments-read ps) λ ns hs. reads-pure _ (both-true _ _ h hs)
 
   entry-reads : Reads (EntryOk P) (readEntry true P)
-  unfolding readEntry given
+  unfolding readEntry argumentsGiven
   entry-reads = reads-then (reads-numbered 10 (getElem? (P .tables))) λ t ht. reads-then (patterns-read (t .1 .keys)) λ ps hp. reads-then (reads-numbered 10 (actionAt P (t .1))) λ a ha.
       reads-then (arguments-read (a .1 .parameters)) λ ns hn. reads-pure _ λ T e. rw (same T (t .1) e ht) (hp, rw ha hn)
     where
@@ -92,14 +92,20 @@ header-fits : (valid : Bool) {widths ns : List ℕ} → FieldsFit valid widths n
 header-fits true h = validFits (h .0 refl)
 header-fits false h = invalidFits (h .1 refl)
 
+shape-reads : (shape : Shape) → Reads (CellFits shape) (readShape shape)
+unfolding readShape
+shape-reads (aVariable t) = reads-then (reads-passing 11 (fits t)) λ n h. reads-pure (variableCell n) (variableFits h)
+shape-reads (aHeader widths) = reads-then (reads-any (passing 11 (fits bool))) λ mark _. reads-then (fields-read (eqb mark 1) widths) λ ns h.
+    reads-pure (headerCell (eqb mark 1) ns) (header-fits (eqb mark 1) h)
+
+got-some : {shape : Shape} {g : Got Cell} → IfGot (CellFits shape) g → IfGot (λ c. SomeOf (λ s. CellFits s c) (some shape)) g
+got-some (isGot h) = isGot (isSome h)
+got-some isBad = isBad
+
 cell-reads : (o : Option Shape) → Reads (λ c. SomeOf (λ shape. CellFits shape c) o) (readCell o)
 unfolding readCell
 cell-reads none = record { reads = λ left at. isBad }
-cell-reads (some (aVariable t)) = record { reads = λ left at. (reads-then (reads-passing 11 (fits t)) λ n h. reads-pure (variableCell n) (isSome (variableFits h))) .reads left at }
-cell-reads (some (aHeader widths)) = record {
-  reads = λ left at. (reads-then (reads-any (passing 11 (fits bool))) λ mark _. reads-then (fields-read (eqb mark 1) widths) λ ns h.
-      reads-pure (headerCell (eqb mark 1) ns) (isSome (header-fits (eqb mark 1) h))) .reads left at;
-}
+cell-reads (some shape) = record { reads = λ left at. got-some (shape-reads shape .reads left at) }
 
 shape-found : (P : Program) (g : Global) (c : Cell) {o : Option Shape} → shapeIn P (g .ty) ≡ o → SomeOf (λ shape. CellFits shape c) o → GlobalFits P g c
 shape-found P g c e (isSome h) = globalFits e h
@@ -158,25 +164,14 @@ tables-judged P (T ∷ Ts) = ok-then (ok-self (judgeTable P T)) λ _ h. ok-map (
     look zero h hs = ifSome h
     look (suc t) h hs = hs t
 
-signal-ok : {b : Bool} {e : Ending} → EndOk inApply b e → SomeOf (λ _. Unit {0}) (signalOf e)
-unfolding signalOf
-signal-ok okOnward = isSome tt
-signal-ok (okEnd q) = isSome tt
-signal-ok (okReturn q) = isSome tt
-signal-ok (okExit q) = isSome tt
-
 -- how a run of an accepted file ends: within the ceiling, with a store that fits; or full
 pub data Ends (P : Program) : Out (List Cell) Signal → Type 0 where
   ends : (signal : Signal) (store : List Cell) (steps : ℕ) → steps ≤ ceilingOf P → StoreFits P store → Ends P (done signal store steps)
   fills : Ends P full
 
-finished-ends : (P : Program) {n : ℕ} {cells : List Cell} {o : Option Signal} → SomeOf (λ _. Unit {0}) o → StoreFits P cells → n ≤ ceilingOf P → Ends P (finished cells n o)
-unfolding finished
-finished-ends P (isSome {a} _) h q = ends a _ _ q h
-
 finish-ends : (P : Program) {b : Bool} {o : Out State Ending} → Good _≤_ (StateFits (applyScope P)) (EndOk inApply b) (ceilingOf P) o → Ends P (finish o)
 unfolding finish applyScope
-finish-ends P (good n r f q) = finished-ends P (signal-ok r) (f .store-fits) q
+finish-ends P (good n r f q) = ends _ _ n q (f .store-fits)
 finish-ends P isFull = fills
 
 module _ (capacity : ℕ) (P : Program) (entries : List Entry) (fit : All (EntryOk P) entries) where
@@ -192,7 +187,7 @@ module _ (capacity : ℕ) (P : Program) (entries : List Entry) (fit : All (Entry
       go (some T) e (ifSome j) = ifSome (from-ok (rw j at (table-ok P used (callsBelow capacity P (length (P .callables))) (calleeIn (ceilingsBelow P (length (P .callables)))) h entries fit t T e)))
 
   program-ok : IfOk (λ _. (store : List Cell) → StoreFits P store → Ends P (runProgram capacity P entries store)) (judgeProgram P)
-  unfolding judgeProgram runProgram ceilingOf ceilingWith applyScope
+  unfolding judgeProgram runProgram started ceilingOf ceilingWith applyScope
   program-ok = ok-then (ok-self (judgeGlobals P (P .globals))) λ _ _. ok-then (judged-all P 0 (P .callables)) λ _ callables. ok-then (tables-judged P (P .tables)) λ _ tables. ok-map (ok-self (judgeStmt (applyScope P) (P .body))) λ _ j store h.
       finish-ends P ((from-ok (rw j at (sound-stmt (applyScope P) (length (slotsOf store)) (callsBelow capacity P (length (P .callables))) (calleeIn (ceilingsBelow P (length (P .callables))))
       (calls-below capacity P callables (length (P .callables))) _ _ (applies (length (slotsOf store)) (calls-below capacity P callables (length (P .callables))) tables) (P .body)))) .run _ (record { store-fits = h; parameters-fit = nil; locals-fit = nil }))
@@ -204,7 +199,7 @@ accepted-ends capacity bytes bench e = let known = judged-ok bytes bench e in
 
 -- so no file's result is the stuck one
 ends-told : (P : Program) (ceiling : ℕ) {o : Out (List Cell) Signal} → Ends P o → numbersOf (outcomeOf ceiling o) ≡ 3 ∷ [] → ⊥
-unfolding numbersOf outcomeOf ofSignal
+unfolding numbersOf toldWith outcomeOf ofSignal
 ends-told P ceiling (ends Done store steps q h) e = let z : _≡_ {A = ℕ} 1 3 = cc in omega arith
 ends-told P ceiling (ends Exit store steps q h) e = let z : _≡_ {A = ℕ} 2 3 = cc in omega arith
 ends-told P ceiling fills e = let z : _≡_ {A = ℕ} 0 3 = cc in omega arith
@@ -213,7 +208,7 @@ file-told : (capacity : ℕ) (j : Judged) → ((bench : Bench) → j ≡ accepte
     → numbersOf (fileOutcome capacity j) ≡ 3 ∷ [] → ⊥
 unfolding fileOutcome runBench
 file-told capacity (accepted bench) h e = ends-told (bench .program) (ceilingOf (bench .program)) (h bench refl) e
-file-told capacity (refused number place) h e = unfold numbersOf in let z : _≡_ {A = ℕ} 0 3 = cc in omega arith
+file-told capacity (refused number place) h e = unfold numbersOf toldWith in let z : _≡_ {A = ℕ} 0 3 = cc in omega arith
 
 pub never-stuck : (bytes : List ℕ) → marked bytes ≡ 3 ∷ [] → ⊥
 unfolding marked

@@ -10,7 +10,7 @@ use lib.Bits.{bitAnd, bitOr, bitXor, and-lt, or-lt, xor-lt}
 use lib.ListN.{getElem?, length, length-append}
 use lib.Pow.{pow-pos}
 use borrow.Author.Tests.{eqb-true, ltb-true, lt-ltb, eq-eqb}
-use Rattle.rules.specs.Words.{fitsWidth, sum, difference, product, complementOf, shiftedLeft, shiftedRight, castTo, sliceWidth, sliceOf, joined}
+use Rattle.rules.specs.Words.{fitsWidth, sum, difference, product, complementOf, shiftedLeft, shiftedRight, castTo, sliceFits, sliceWidth, sliceOf, joinFits, joined}
 use Rattle.rules.specs.Syntax.{Ty, bool, bits, Value, value, Global, Parameter, Program, Arithmetic, plus, minus, times, and, or, xor, Order, Shift, shiftLeft, shiftRight, Equality, Place, local, parameter, global, field}
 use Rattle.rules.specs.Form.{Res, ok, fault, _>>=_, named, need, andLook, onlyIf, sameTy, fits, Shape, aVariable, aHeader, shapeIn, globalAt, seesGlobals, Scope, judgeVariable, judgeField, judgeHeader, judgePlace, judgeHeaderAt, needTy, widthAt}
 use Rattle.rules.specs.Lists.{Cell, variableCell, headerCell, markOf, slotsOfCell, slotsOf}
@@ -285,11 +285,11 @@ pub cast-ok : (w : ℕ) {z : ℕ} {v : Value} → HasTy (bits z) v → SomeOf (H
 unfolding castOn
 cast-ok w (has {n} h) = isSome (has (lt-fits w (castTo w n) (cast-fits w n)))
 
-pub slice-ok : (high low w : ℕ) {v : Value} → (leb low high && ltb high w) ≡ true → HasTy (bits w) v → SomeOf (HasTy (bits (sliceWidth high low))) (sliceOn high low v)
+pub slice-ok : (high low w : ℕ) {v : Value} → sliceFits high low w ≡ true → HasTy (bits w) v → SomeOf (HasTy (bits (sliceWidth high low))) (sliceOn high low v)
 unfolding sliceOn onlyIf
 slice-ok high low w e (has {n} h) = rw e (isSome (has (lt-fits (sliceWidth high low) (sliceOf high low n) (slice-fits high low n))))
 
-pub concatenation-ok : {w z : ℕ} {v u : Value} → leb (w + z) 64 ≡ true → HasTy (bits w) v → HasTy (bits z) u → SomeOf (HasTy (bits (w + z))) (concatenationOn v u)
+pub concatenation-ok : {w z : ℕ} {v u : Value} → joinFits w z ≡ true → HasTy (bits w) v → HasTy (bits z) u → SomeOf (HasTy (bits (w + z))) (concatenationOn v u)
 unfolding concatenationOn onlyIf
 concatenation-ok {w} {z} e (has {n} h) (has {n = m} k) = rw e (isSome (has (lt-fits (w + z) (joined z n m) (joined-fits w z n m (fits-lt w n h) (fits-lt z m k)))))
 

@@ -8,19 +8,20 @@ use mathlib.Core.List.{List, [], _∷_, _++_, map}
 use lib.Dec.{ltb, leb, eqb}
 use lib.ListN.{getElem?, getD, length}
 use borrow.Author.Tests.{eqb-true, eqb-false, ltb-true, ltb-false, lt-ltb, le-ltb}
+use Rattle.rules.specs.Words.{sliceFits, joinFits}
 use Rattle.rules.specs.Syntax.{Ty, bool, bits, Value, value, Direction, byNone, byIn, byOut, byInout, Operator, arithmetic, order, shift, equality, logic, Logic, both, either, Place}
 use Rattle.rules.specs.Syntax.{Expr, boolLiteral, bitsLiteral, readOf, validOf, negation, complement, binary, cast, slice, concatenation, callExpr, Args, noArgs, arg}
 use Rattle.rules.specs.Syntax.{Stmt, empty, assign, ifElse, block, callStmt, apply, returnValue, return, exit, setValid, setInvalid, Stmts, noStmts, stmt}
 use Rattle.rules.specs.Syntax.{Parameter, Callable, Program, placeIn}
-use Rattle.rules.specs.Form.{Res, ok, fault, _>>=_, named, need, andLook, onlyIf, sameTy, fits, aHeader, globalAt, callableBelow, wantsPlace, comesBack, Entering, enterValue, enterPlace, enterZero, entering, Body, inFunction, inAction, inApply, Scope, writable, writableIn}
+use Rattle.rules.specs.Form.{Res, ok, fault, _>>=_, named, need, andLook, onlyIf, sameTy, fits, aHeader, globalAt, callableBelow, wantsPlace, goesIn, comesBack, Body, inFunction, inAction, inApply, Scope, writable, writableIn}
 use Rattle.rules.specs.Form.{judgePlace, judgeHeaderAt, judgeOperator, Given, typesAgree, placesAgree, judgeGiven, functionTy, mayCall, judgeExpr, judgeArgs, judgeReturned, isApply, isFunction, judgeStmt, judgeStmts, returnsOn, someReturns, bodyOf, scopeOf, judgeCallable, judgeCallables}
 use Rattle.rules.specs.Ceiling.{ceilingExpr, ceilingArgs, ceilingStmt, ceilingStmts, calleeIn, noTable, ceilingAt, ceilingsBelow}
 use Rattle.rules.specs.Lists.{Cell}
 use Rattle.rules.specs.Running.{State, Ending, onward, returned, returnedValue, exited, Out, done, stuck, full, M, pure, tick, orStuck, must, gets, puts, nowhere, held, put, declared, shapeFor, headerOnly, readAt, writeAt, changeHeader, validAt, validIn, numberOf, truth, withStore, changeStore, makeValid, makeInvalid}
-use Rattle.rules.specs.Running.{choose, logicWith, binaryWith, andThenRun, valueOf, afterCall, bodyEnded, Calls, enter, onStore, outPlace, goIn, writeBack, comeBack, afterBody, runCall, runExpr, runArgs, returnedFrom, notInFunction, runStmt, runStmts, left, leave, runBody, runNumber, callsBelow}
+use Rattle.rules.specs.Running.{choose, logicWith, binaryWith, andThenRun, valueOf, afterCall, bodyEnded, Calls, enter, onStore, declaredAs, outPlace, takeIn, goIn, writeBack, comeBack, afterBody, runCall, runExpr, runArgs, returnedFrom, notInFunction, runStmt, runStmts, left, leave, fresh, runBody, runNumber, callsBelow}
 use Rattle.rules.specs.Running as Running
 use Rattle.rules.proofs.Predicates.{and-both, All2, nil, cons, IfOk, isOk, isFault, IfSome, ifNone, ifSome, SomeOf, isSome, ok-then, ok-map, ok-self, ok-and, ok-named, ok-found, ok-need, from-ok, some-then, if-then, if-map, if-self, from-some, look-fits}
-use Rattle.rules.proofs.Predicates.{Counts, at-most, Good, good, isFull, Runs, runs-then, runs-tick, runs-pure, runs-some, runs-must, runs-gets, runs-puts, runs-map, runs-le}
+use Rattle.rules.proofs.Predicates.{Counts, at-most, Good, good, isFull, Runs, runs-then, runs-tick, runs-pure, runs-some, runs-must, runs-gets, runs-puts, runs-map, runs-le, runs-holds}
 use Rattle.rules.proofs.Fits.{Fit, HasTy, has, FitParameter, CellFits, variableFits, validFits, invalidFits, StoreFits, StateFits, sameTy-true, sameTy-refl, ok-type, ok-bits, zero-fits, number-of, truth-has, make-valid, make-invalid, store-look, store-change, with-store, held-at, put-at, declared-ok, header-at}
 use Rattle.rules.proofs.Fits.{arithmetic-ok, order-ok, shift-ok, equality-ok, not-ok, complement-ok, cast-ok, slice-ok, concatenation-ok, bool-ok}
 
@@ -213,20 +214,26 @@ module _ (Γ : Scope) where
   named-place (callExpr at f xs) t e p q = absurd (no-place q)
 
   -- an argument that has to be a place is one, and can be written
-  out-place : (t : Ty) (place : Option Place) → writableIn Γ place ≡ true → ((p : Place) → place ≡ some p → declared Γ p ≡ some t) → SomeOf (λ p. place ≡ some p) (outPlace Γ t place)
-  unfolding writableIn outPlace andLook onlyIf
-  out-place t none w h = absurd (false≢true w)
-  out-place t (some p) w h = rw (h p refl, w, sameTy-refl t) (isSome refl)
+  out-place : (t : Ty) (place : Option Place) → writableIn Γ place ≡ true → ((p : Place) → place ≡ some p → declared Γ p ≡ some t) → outPlace Γ t place ≡ true
+  unfolding writableIn outPlace declaredAs
+  out-place t none w h = w
+  out-place t (some p) w h = rw (h p refl, w, sameTy-refl t)
+
+  asked-place : (b : Bool) (t : Ty) (place : Option Place) → (not b || writableIn Γ place) ≡ true → ((p : Place) → place ≡ some p → declared Γ p ≡ some t) → (not b || outPlace Γ t place) ≡ true
+  asked-place true t place w h = out-place t place w h
+  asked-place false t place w h = refl
+
+  take-in : (b : Bool) (t : Ty) {c : ℕ} {run : M State Value} → Runs _≤_ Fine (HasTy t) c run → 1 ≤ c → Runs _≤_ Fine (Fit t) c (takeIn b t run)
+  unfolding takeIn
+  take-in true t h k = runs-le (omega arith) (runs-then at-most h λ v hv. runs-some at-most (number-of hv))
+  take-in false t h k = runs-le k (runs-tick at-most (runs-pure at-most 0 (zero-fits t)))
+
+  go-in : (p : Parameter) (place : Option Place) → ((q : Place) → place ≡ some q → declared Γ q ≡ some (p .ty)) → (not (wantsPlace (p .direction)) || writableIn Γ place) ≡ true
+      → {c : ℕ} {run : M State Value} → Runs _≤_ Fine (HasTy (p .ty)) c run → 1 ≤ c → Runs _≤_ Fine (Fit (p .ty)) c (goIn Γ p place run)
+  unfolding goIn
+  go-in p place declares w h k = runs-holds _ (asked-place (wantsPlace (p .direction)) (p .ty) place w declares) (take-in (goesIn (p .direction)) (p .ty) h k)
 
   module _ (t : Ty) (place : Option Place) (declares : (p : Place) → place ≡ some p → declared Γ p ≡ some t) where
-    go-in : (d : Direction) {c : ℕ} {run : M State Value} → (not (wantsPlace d) || writableIn Γ place) ≡ true → Runs _≤_ Fine (HasTy t) c run → 1 ≤ c
-        → Runs _≤_ Fine (Fit t) c (goIn Γ (entering d) t place run)
-    unfolding goIn entering wantsPlace
-    go-in byNone w h k = runs-le (omega arith) (runs-then at-most h λ v hv. runs-some at-most (number-of hv))
-    go-in byIn w h k = runs-le (omega arith) (runs-then at-most h λ v hv. runs-some at-most (number-of hv))
-    go-in byOut w h k = runs-le k (runs-tick at-most (runs-then at-most (runs-some at-most (out-place t place w declares)) λ _ _. runs-pure at-most 0 (zero-fits t)))
-    go-in byInout w h k = runs-le (omega arith) (runs-then at-most (runs-some at-most (out-place t place w declares)) λ _ _. runs-then at-most h λ v hv. runs-some at-most (number-of hv))
-
     write-place : (place : Option Place) → writableIn Γ place ≡ true → ((p : Place) → place ≡ some p → declared Γ p ≡ some t) → (n : ℕ) → Fit t n → Runs _≤_ Fine (λ _. Unit {0}) 0 (writeBack Γ place (value t n))
     unfolding writableIn writeBack
     write-place none w h n hn = absurd (false≢true w)
@@ -321,7 +328,7 @@ module _ (Γ : Scope) (used : ℕ) (calls : Calls) (callee : ℕ → ℕ) (calls
       let e≡ : t ≡ p .ty = sym (sameTy-true (p .ty) t (same .0)) in
       let declares : (q : Place) → placeIn e ≡ some q → declared Γ q ≡ some (p .ty) = λ q x. rw e≡ at (named-place Γ e t j q x) in
       let runs : Runs _≤_ (StateFits Γ) (HasTy (p .ty)) (ceilingExpr callee e) (runExpr Γ used calls e) = rw e≡ at h in (
-        runs-le (omega arith) (runs-then at-most (go-in Γ (p .ty) (placeIn e) declares (p .direction) (places .0) runs (one-step callee e)) λ n hn. runs-then at-most (rest .0) λ ns hns. runs-pure at-most _ (cons hn hns)),
+        runs-le (omega arith) (runs-then at-most (go-in Γ p (placeIn e) declares (places .0) runs (one-step callee e)) λ n hn. runs-then at-most (rest .0) λ ns hns. runs-pure at-most _ (cons hn hns)),
         back-cons Γ e xs p ps (write-back Γ (p .ty) (placeIn e) declares (p .direction) (places .0)) (rest .1),
       )
 
@@ -352,9 +359,9 @@ module _ (Γ : Scope) (used : ℕ) (calls : Calls) (callee : ℕ → ℕ) (calls
     sound-expr (complement at a) = ok-then (sound-expr a) λ t h. ok-then (ok-bits at t) λ w e. isOk (runs-le (omega arith) (runs-tick at-most (runs-then at-most h λ v hv. runs-some at-most (complement-ok (rw e at hv)))))
     sound-expr (binary at o a b) = ok-then (sound-expr a) λ t h. ok-then (sound-expr b) λ u k. ok-map (binary-ok at o t u h k) λ r w. runs-tick at-most w
     sound-expr (cast at w a) = ok-then (sound-expr a) λ t h. ok-then (ok-bits at t) λ z e. isOk (runs-le (omega arith) (runs-tick at-most (runs-then at-most h λ v hv. runs-some at-most (cast-ok w (rw e at hv)))))
-    sound-expr (slice at high low a) = ok-then (sound-expr a) λ t h. ok-then (ok-bits at t) λ w e. ok-then (ok-need 7 at (leb low high && ltb high w)) λ _ q.
+    sound-expr (slice at high low a) = ok-then (sound-expr a) λ t h. ok-then (ok-bits at t) λ w e. ok-then (ok-need 7 at (sliceFits high low w)) λ _ q.
         isOk (runs-le (omega arith) (runs-tick at-most (runs-then at-most h λ v hv. runs-some at-most (slice-ok high low w q (rw e at hv)))))
-    sound-expr (concatenation at a b) = ok-then (sound-expr a) λ t h. ok-then (sound-expr b) λ u k. ok-then (ok-bits at t) λ w e. ok-then (ok-bits at u) λ z q. ok-then (ok-need 7 at (leb (w + z) 64)) λ _ l.
+    sound-expr (concatenation at a b) = ok-then (sound-expr a) λ t h. ok-then (sound-expr b) λ u k. ok-then (ok-bits at t) λ w e. ok-then (ok-bits at u) λ z q. ok-then (ok-need 7 at (joinFits w z)) λ _ l.
         isOk (runs-le (omega arith) (runs-tick at-most (runs-then at-most h λ v hv. runs-then at-most k λ x hx. runs-some at-most (concatenation-ok l (rw e at hv) (rw q at hx)))))
     sound-expr (callExpr at f xs) = ok-map (look-ok (suc at) (calls-ok f) λ c hc. ok-then (sound-args xs) λ gs ha. ok-then (given-ok at (c .parameters) gs) λ _ q. ok-map (function-ok at (c .returns)) λ t e.
         runs-then at-most (runs-some at-most {R = λ _. Unit {0}} (rw e (isSome tt))) λ _ _.
@@ -409,22 +416,13 @@ zeros-fit : (ts : List Ty) → All2 Fit ts (map (λ _. 0) ts)
 zeros-fit [] = nil
 zeros-fit (t ∷ ts) = cons (zero-fits t) (zeros-fit ts)
 
-action-ends : {e : Ending} → EndOk inAction true e → SomeOf (EndOk inAction true) (bodyEnded none e)
-unfolding bodyEnded
-action-ends (okEnd q) = isSome (okEnd q)
-action-ends (okReturn q) = isSome (okReturn q)
-action-ends (okExit q) = isSome (okExit q)
-
 function-ends : {t : Ty} {e : Ending} → EndOk (inFunction t) true e → SomeOf (EndOk (inFunction t) true) (bodyEnded (some t) e)
-unfolding bodyEnded isFunction
-function-ends (okValue h) = isSome (okValue h)
-function-ends (okEnd q) = absurd (false≢true (sym q))
-function-ends (okReturn q) = absurd (false≢true (sym q))
-function-ends (okExit q) = absurd (false≢true (sym q))
+unfolding bodyEnded
+function-ends h = some-then (value-ok h) λ v hv. isSome (okValue hv)
 
 body-ends : (r : Option Ty) {e : Ending} → EndOk (bodyOf r) true e → SomeOf (EndOk (bodyOf r) true) (bodyEnded r e)
-unfolding bodyOf
-body-ends none h = action-ends h
+unfolding bodyOf bodyEnded
+body-ends none h = isSome h
 body-ends (some t) h = function-ends h
 
 must-end : (r : Option Ty) (m : Bool) {e : Ending} → (not (isFunction (bodyOf r)) || m) ≡ true → EndOk (bodyOf r) m e → EndOk (bodyOf r) true e
@@ -439,10 +437,9 @@ unfolding bodyOf isApply
 never none = refl
 never (some t) = refl
 
-fresh : (P : Program) (n : ℕ) (c : Callable) (cells : List Cell) (ns : List ℕ) → StoreFits P cells → All2 FitParameter (c .parameters) ns
-    → StateFits (scopeOf P n c) (record { store = cells; parameters = ns; locals = map (λ _. 0) (c .locals) })
-unfolding scopeOf
-fresh P n c cells ns hc hns = record { store-fits = hc; parameters-fit = hns; locals-fit = zeros-fit (c .locals) }
+fresh-fits : (P : Program) (n : ℕ) (c : Callable) (cells : List Cell) (ns : List ℕ) → StoreFits P cells → All2 FitParameter (c .parameters) ns → StateFits (scopeOf P n c) (fresh c ns cells)
+unfolding scopeOf fresh
+fresh-fits P n c cells ns hc hns = record { store-fits = hc; parameters-fit = hns; locals-fit = zeros-fit (c .locals) }
 
 module _ (capacity : ℕ) (P : Program) where
   left-good : (c : Callable) {k n : ℕ} {o : Option Ending} {ns : List ℕ} {cells : List Cell} → SomeOf (EndOk (bodyOf (c .returns)) true) o → All2 FitParameter (c .parameters) ns → StoreFits P cells → n ≤ k
@@ -477,8 +474,8 @@ module _ (capacity : ℕ) (P : Program) where
       go : (taken : ℕ) (b : Bool) {a : Unit {0}} → judgeStmt (scopeOf P n c) (c .body) ≡ ok a → (not (isFunction (bodyOf (c .returns))) || returnsOn (c .body)) ≡ true
           → (ns : List ℕ) → All2 FitParameter (c .parameters) ns → (cells : List Cell) → StoreFits P cells
           → Good _≤_ (StoreFits P) (CallResult c) (ceilingStmt callee noTable (c .body)) (elim b [
-            | true ↦ leave (c .returns) (runStmt (scopeOf P n c) taken lower (λ t. nowhere) (c .body) (record { store = cells; parameters = ns; locals = map (λ _. 0) (c .locals) }))
+            | true ↦ leave (c .returns) (runStmt (scopeOf P n c) taken lower (λ t. nowhere) (c .body) (fresh c ns cells))
             | false ↦ full
           ])
-      go taken true j w ns hns cells hc = body-good n c lower callee h j w taken _ (fresh P n c cells ns hc hns)
+      go taken true j w ns hns cells hc = body-good n c lower callee h j w taken _ (fresh-fits P n c cells ns hc hns)
       go taken false j w ns hns cells hc = isFull

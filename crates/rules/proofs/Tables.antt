@@ -12,7 +12,7 @@ use Rattle.rules.specs.Syntax.{Ty, bool, bits, Value, value, Parameter, 
 use Rattle.rules.specs.Form.{Res, ok, fault, _>>=_, named, need, andLook, onlyIf, fits, callableBelow, inApply, Scope, isFunction, applyScope, widthAt, judgeExpr, judgeActions, judgeKeys, keysAreBits, literalsFit, oneLpm, listable, judgeListed, judgeTable}
 use Rattle.rules.specs.Ceiling.{ceilingExpr, ceilingKeys, largestOf, ceilingTable}
 use Rattle.rules.specs.Lists.{Pattern, Entry, widthOf, keyWidth, actionAt}
-use Rattle.rules.specs.Running.{State, Ending, Calls, argumentsFit, patternsFit, given, matchesAll, Found, found, nothing, better, lookUp, longestWins, entriesOf, Worked, worked, isFine, entriesFit, runKeys, runAction, runFound, runTable, afterCall, orStuck, must}
+use Rattle.rules.specs.Running.{State, Ending, Calls, argumentsFit, patternsFit, argumentsGiven, matchesAll, Found, found, nothing, better, lookUp, longestWins, entriesOf, Worked, worked, isFine, entriesFit, runKeys, runAction, runFound, runTable, afterCall, orStuck, must}
 use Rattle.rules.specs.Running as Running
 use Rattle.rules.proofs.Predicates.{and-both, both-true, All2, nil, cons, All, none-left, also, IfOk, isOk, isFault, IfSome, ifNone, ifSome, SomeOf, isSome, ok-then, ok-map, ok-self, ok-and, ok-found, ok-need, from-ok, some-is, from-some, if-map, look-fits, Runs, at-most, runs-then, runs-pure, runs-some, runs-must, runs-le, runs-known, runs-holds}
 use Rattle.rules.proofs.Fits.{Fit, HasTy, has, FitParameter, StateFits, ok-bits}
@@ -21,7 +21,7 @@ use Rattle.rules.proofs.Sound.{EndOk, okOnward, okExit, CallOk, CallsOk
 -- an entry that fits its table
 abbrev pub EntryOk : Program → Entry → Type 0
 EntryOk P e = (T : Table) → getElem? (P .tables) (e .table) ≡ some T
-    → (patternsFit (map (keyWidth P) (T .keys)) (e .patterns) ≡ true) × (given (actionAt P T (e .position)) (e .arguments) ≡ true)
+    → (patternsFit (map (keyWidth P) (T .keys)) (e .patterns) ≡ true) × (argumentsGiven (actionAt P T (e .position)) (e .arguments) ≡ true)
 
 fitting : (P : Program) (t : ℕ) (T : Table) → getElem? (P .tables) t ≡ some T → {es : List Entry} → All (EntryOk P) es → entriesFit P T (map (keyWidth P) (T .keys)) (entriesOf t es) ≡ true
 unfolding entriesFit entriesOf
@@ -35,10 +35,10 @@ fitting P t T e (also {a = x} {xs = es} h hs) = go (eqb (x .table) t) refl (fitt
 
 -- an entry that is found is one that can act
 data FoundOk (P : Program) (T : Table) : Found → Type 0 where
-  foundOk : {e : Entry} → given (actionAt P T (e .position)) (e .arguments) ≡ true → FoundOk P T (found e)
+  foundOk : {e : Entry} → argumentsGiven (actionAt P T (e .position)) (e .arguments) ≡ true → FoundOk P T (found e)
   nothingOk : FoundOk P T nothing
 
-better-ok : (P : Program) (T : Table) (longest : Bool) {b : Found} → FoundOk P T b → (e : Entry) → given (actionAt P T (e .position)) (e .arguments) ≡ true → FoundOk P T (better longest b e)
+better-ok : (P : Program) (T : Table) (longest : Bool) {b : Found} → FoundOk P T b → (e : Entry) → argumentsGiven (actionAt P T (e .position)) (e .arguments) ≡ true → FoundOk P T (better longest b e)
 unfolding better
 better-ok P T longest nothingOk e h = foundOk h
 better-ok P T longest (foundOk {e = b} g) e h = go (longest && ltb (Running.prefixOf (b .patterns)) (Running.prefixOf (e .patterns)))
@@ -52,7 +52,7 @@ unfolding lookUp entriesFit
 look-up-ok P T longest ks widths b h [] e = h
 look-up-ok P T longest ks widths b h (x ∷ es) e = go (matchesAll ks (x .patterns)) (look-up-ok P T longest ks widths (better longest b x) (better-ok P T longest h x (acts .0)) es (acts .1)) (look-up-ok P T longest ks widths b h es (acts .1))
   where
-    acts : (given (actionAt P T (x .position)) (x .arguments) ≡ true) × (entriesFit P T widths es ≡ true)
+    acts : (argumentsGiven (actionAt P T (x .position)) (x .arguments) ≡ true) × (entriesFit P T widths es ≡ true)
     acts = and-both _ _ ((and-both (patternsFit widths (x .patterns)) _ e) .1)
 
     go : (y : Bool) → FoundOk P T (lookUp longest ks (better longest b x) es) → FoundOk P T (lookUp longest ks b es)
@@ -132,13 +132,13 @@ some-found-two (isSome {a} q) (ifSome r) = (a, refl, q, r)
 abbrev Acting : Program → List ℕ → Numeral → Type 0
 Acting P ns a = (c : Callable) × (getElem? (P .callables) (a .number) ≡ some c) × (listable c ≡ true) × (argumentsFit (c .parameters) ns ≡ true)
 
-acting : (P : Program) (ns : List ℕ) (o : Option Numeral) {x : Option Callable} → IfSome (λ a. SomeOf (Listed P a) x) o → given (andLook o λ a. getElem? (P .callables) (a .number)) ns ≡ true → SomeOf (Acting P ns) o
-unfolding given andLook
+acting : (P : Program) (ns : List ℕ) (o : Option Numeral) {x : Option Callable} → IfSome (λ a. SomeOf (Listed P a) x) o → argumentsGiven (andLook o λ a. getElem? (P .callables) (a .number)) ns ≡ true → SomeOf (Acting P ns) o
+unfolding argumentsGiven andLook
 acting P ns none h g = absurd (false≢true g)
 acting P ns (some a) (ifSome (isSome {a = c} l)) g = isSome (c, l .0, l .1, rw (l .0) at g)
 
-default-acts : (P : Program) (c : Callable) (ns : List ℕ) {o : Option Numeral} → SomeOf (λ a. Lists P a c) o → argumentsFit (c .parameters) ns ≡ true → given (andLook o λ a. getElem? (P .callables) (a .number)) ns ≡ true
-unfolding given andLook
+default-acts : (P : Program) (c : Callable) (ns : List ℕ) {o : Option Numeral} → SomeOf (λ a. Lists P a c) o → argumentsFit (c .parameters) ns ≡ true → argumentsGiven (andLook o λ a. getElem? (P .callables) (a .number)) ns ≡ true
+unfolding argumentsGiven andLook
 default-acts P c ns (isSome e) a = rw e a
 
 no-fault : {A : Type 0} {a : A} {n at : ℕ} → fault n at ≡ ok a → ⊥
@@ -172,14 +172,14 @@ module _ (P : Program) (used : ℕ) (calls : Calls) (callee : ℕ → ℕ) (call
   action-runs f c e l ns a = runs-le (omega arith) (runs-then at-most (runs-must at-most _ (both-true _ _ l a)) λ _ _.
       runs-then at-most (on-store (applyScope P) ((from-some (rw (reached P f c e) at (calls-ok f))) used ns (arguments-fit (c .parameters) ns a))) λ r hr. runs-pure at-most _ (after-call inApply (hr .0) λ _. refl))
 
-  action-ok : (T : Table) {cs : List Callable} → All2 (Listed P) (T .actions) cs → (position : ℕ) (ns : List ℕ) → given (actionAt P T position) ns ≡ true
+  action-ok : (T : Table) {cs : List Callable} → All2 (Listed P) (T .actions) cs → (position : ℕ) (ns : List ℕ) → argumentsGiven (actionAt P T position) ns ≡ true
       → Runs _≤_ Fine (EndOk inApply false) (largestOf callee (T .actions)) (runAction P used calls T position ns)
   unfolding runAction actionAt
   action-ok T listed position ns g =
       let (a, e, acts, most) = some-found-two (acting P ns (getElem? (T .actions) position) (look-fits listed position) g) (member-most callee (T .actions) position) in
       runs-known a e λ x q. rw q (runs-known (acts .0) (acts .1) λ y p. rw p (runs-le most (action-runs (a .number) (acts .0) (acts .1) (acts .2) ns (acts .3))))
 
-  found-ok : (T : Table) {cs : List Callable} → All2 (Listed P) (T .actions) cs → given (actionAt P T (T .default .number)) (map (λ n. n .number) (T .arguments)) ≡ true → {b : Found} → FoundOk P T b
+  found-ok : (T : Table) {cs : List Callable} → All2 (Listed P) (T .actions) cs → argumentsGiven (actionAt P T (T .default .number)) (map (λ n. n .number) (T .arguments)) ≡ true → {b : Found} → FoundOk P T b
       → Runs _≤_ Fine (EndOk inApply false) (largestOf callee (T .actions)) (runFound P used calls T b)
   unfolding runFound
   found-ok T listed d (foundOk {e} g) = action-ok T listed (e .position) (e .arguments) g

@@ -1,6 +1,7 @@
--- What the public operations answer and leave in the slots lent to them (document 01, "The answers"). An answer is a list of numbers:
--- 0, a refusal's number and its place; or 1 (2 where a run ends by exit) and what is told.
--- Answers depend on the bytes or numbers given and on how many slots are lent: what the slots held occurs only in what is left.
+-- What the public operations answer and leave in the slots lent to them (document 01, "The answers"). An answer is a
+-- list of numbers: 0, a refusal's number and its place; or 1 (2 where a run ends by exit) and what is told. A stuck run
+-- would be 3, which is no answer. Answers depend on the bytes or numbers given and on how many slots are lent: what the
+-- slots held occurs only in what is left.
 use mathlib.Core.Bool.{Bool, true, false, _&&_}
 use Prim.Native.Nat.{ℕ}
 use mathlib.Core.List.{List, [], _∷_, _++_}
@@ -27,8 +28,11 @@ use Rattle.rules.specs.Running.{Out, done, stuck, full, runProgram}
 use Rattle.rules.specs.Computing.{computed}
 
 -- the cases of the answers in the paper's numbers
+abbrev pub refusing : ℕ → ℕ → List ℕ
+refusing number place = 0 ∷ number ∷ place ∷ []
+
 unfoldable pub ofRefusal : Refusal → List ℕ
-ofRefusal r = 0 ∷ r .number ∷ r .place ∷ []
+ofRefusal r = refusing (r .number) (r .place)
 
 unfoldable pub ofRead : ReadAnswer → List ℕ
 ofRead (Count count) = 1 ∷ count ∷ []
@@ -52,7 +56,7 @@ ofRun (Unrun r) = ofRefusal r
 
 -- so many slots or bytes are wanted and so many lent: the answer, or 13
 unfoldable pub withRoom : ℕ → ℕ → List ℕ → List ℕ
-withRoom wanted lent answer = elim (leb wanted lent) [ true ↦ answer | false ↦ 0 ∷ 13 ∷ 0 ∷ [] ]
+withRoom wanted lent answer = elim (leb wanted lent) [ true ↦ answer | false ↦ refusing 13 0 ]
 
 -- what slots hold that are to take a list: the list and, beyond it, what they held; with too few, what they held
 unfoldable pub filled : List ℕ → List ℕ → List ℕ
@@ -61,7 +65,7 @@ filled ns slots = elim (leb (length ns) (length slots)) [ true ↦ ns ++ drop (l
 -- reading: 1 to 3 first, then 13
 unfoldable pub readStream : Stream → ℕ → List ℕ
 readStream (numbers ns) lent = withRoom (length ns) lent (1 ∷ length ns ∷ [])
-readStream (broken number place) lent = 0 ∷ number ∷ place ∷ []
+readStream (broken number place) lent = refusing number place
 
 unfoldable pub leftByStream : Stream → List ℕ → List ℕ
 leftByStream (numbers ns) slots = filled ns slots
@@ -118,12 +122,12 @@ judged bytes = judgedStream bytes (streamOf bytes)
 
 unfoldable pub toldByJudge : Judged → List ℕ
 toldByJudge (accepted bench) = 1 ∷ ceilingOf (bench .program) ∷ length (slotsOf (bench .store)) ∷ []
-toldByJudge (refused number place) = 0 ∷ number ∷ place ∷ []
+toldByJudge (refused number place) = refusing number place
 
 unfoldable pub judgeSays : List ℕ → List ℕ
 judgeSays bytes = toldByJudge (judged bytes)
 
--- how a run comes out: refused; ended, with steps, ceiling and the store's numbers; full, which is 14; stuck, which is no answer
+-- how a run comes out: refused; ended, with steps, ceiling and the store's numbers; full, which is 14; stuck
 pub data Outcome : Type 0 where
   refusal : ℕ → ℕ → Outcome
   ended : Signal → ℕ → ℕ → List ℕ → Outcome
@@ -135,7 +139,8 @@ outcomeOf ceiling stuck = sticks
 outcomeOf ceiling full = fills
 
 unfoldable pub runBench : ℕ → Bench → Outcome
-runBench capacity bench = outcomeOf (ceilingOf (bench .program)) (runProgram capacity (bench .program) (bench .entries) (bench .store))
+runBench capacity bench =
+    outcomeOf (ceilingOf (bench .program)) (runProgram capacity (bench .program) (bench .entries) (bench .store))
 
 -- the working slots that a run asks for, and the first so many of which it leaves at 0
 abbrev pub workingSlots : ℕ
@@ -144,16 +149,25 @@ workingSlots = 8192
 -- with so many result and working slots lent: 13 comes behind the judge's refusals
 unfoldable pub runWith : ℕ → ℕ → ℕ → Judged → Outcome
 runWith capacity results working (refused number place) = refusal number place
-runWith capacity results working (accepted bench) = elim (leb capacity working && leb (length (slotsOf (bench .store))) results) [
-  | true ↦ runBench capacity bench
-  | false ↦ refusal 13 0
-]
+runWith capacity results working (accepted bench) =
+    elim (leb capacity working && leb (length (slotsOf (bench .store))) results) [
+      | true ↦ runBench capacity bench
+      | false ↦ refusal 13 0
+    ]
 
+-- an outcome in numbers, with what is told of the store
+unfoldable pub toldWith : (List ℕ → List ℕ) → Outcome → List ℕ
+toldWith ofStore (refusal number place) = refusing number place
+toldWith ofStore (ended signal steps ceiling store) = ofSignal signal ∷ steps ∷ ceiling ∷ ofStore store
+toldWith ofStore fills = refusing 14 0
+toldWith ofStore sticks = 3 ∷ []
+
+-- a run answers the store's length; a result has the store
 unfoldable pub toldByRun : Outcome → List ℕ
-toldByRun (refusal number place) = 0 ∷ number ∷ place ∷ []
-toldByRun (ended signal steps ceiling store) = ofSignal signal ∷ steps ∷ ceiling ∷ length store ∷ []
-toldByRun fills = 0 ∷ 14 ∷ 0 ∷ []
-toldByRun sticks = 3 ∷ []
+toldByRun = toldWith λ store. length store ∷ []
+
+unfoldable pub numbersOf : Outcome → List ℕ
+numbersOf = toldWith λ store. store
 
 -- the result slots take the store of a finished run
 unfoldable pub resultsAfter : Outcome → List ℕ → List ℕ
@@ -189,7 +203,9 @@ unfoldable pub fileOutcome : ℕ → Judged → Outcome
 fileOutcome capacity (accepted bench) = runBench capacity bench
 fileOutcome capacity (refused number place) = refusal number place
 
--- the running rules alone, with 1 to 5 asked: entries and a store are cut out of the numbers, and what is left over does not matter
+-- the running rules alone, with 1 to 5 asked: entries are cut out of the numbers, a store is read that fits, and
+-- what is left over does not matter; where either cannot be had the run is stuck from the start; 0 stands for the
+-- ceiling
 unfoldable pub cutting : Program → Reader Bench
 cutting program = do
   entries ← readEntries false program
@@ -208,18 +224,11 @@ unfoldable pub runStream : ℕ → List ℕ → Stream → Outcome
 runStream capacity bytes (numbers ns) = runRead capacity bytes (readProgram ns 0)
 runStream capacity bytes (broken number place) = refusal number place
 
--- results as numbers
-unfoldable pub numbersOf : Outcome → List ℕ
-numbersOf (refusal number place) = 0 ∷ number ∷ place ∷ []
-numbersOf (ended signal steps ceiling store) = ofSignal signal ∷ steps ∷ ceiling ∷ store
-numbersOf fills = 0 ∷ 14 ∷ 0 ∷ []
-numbersOf sticks = 3 ∷ []
-
 -- what a file gives, and what its program gives unjudged; whoever unfolds one of them computes
 unfoldable pub marked : List ℕ → List ℕ
-unfolding computed checked judging placed judgedStream judged outcomeOf runBench fileOutcome numbersOf ofSignal
+unfolding computed checked judging placed judgedStream judged outcomeOf runBench fileOutcome toldWith numbersOf ofSignal
 marked bytes = numbersOf (fileOutcome workingSlots (judged bytes))
 
 unfoldable pub unjudged : List ℕ → List ℕ
-unfolding computed cutting runCut runRead runStream outcomeOf numbersOf ofSignal
+unfolding computed cutting runCut runRead runStream outcomeOf toldWith numbersOf ofSignal
 unjudged bytes = numbersOf (runStream workingSlots bytes (streamOf bytes))

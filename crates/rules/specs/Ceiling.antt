@@ -1,5 +1,6 @@
--- The ceiling (document 01, "How it runs", last paragraph; refusal 9): at least the steps of every run, from the program alone.
--- Each construct counts 1 and its operands; both branches of an if their larger; a call and an apply add what they run.
+-- The ceiling (document 01, "How it runs", last paragraph; refusal 9): at least the steps of every run, from the
+-- program alone. Each construct counts 1 and its operands; both branches of an if their larger; a call and an apply
+-- add what they run.
 use mathlib.Core.Option.{Option, none, some}
 use Prim.Native.Nat.{ℕ, zero, suc, _+_, max}
 use mathlib.Core.List.{List, [], _∷_, _++_}
@@ -84,7 +85,8 @@ ceilingTable callee (some T) = ceilingKeys callee (T .keys) + largestOf callee (
 
 -- the program's: its apply body's
 unfoldable pub ceilingWith : List ℕ → Program → ℕ
-ceilingWith ceilings P = ceilingStmt (calleeIn ceilings) (λ t. ceilingTable (calleeIn ceilings) (getElem? (P .tables) t)) (P .body)
+ceilingWith ceilings P =
+    ceilingStmt (calleeIn ceilings) (λ t. ceilingTable (calleeIn ceilings) (getElem? (P .tables) t)) (P .body)
 
 unfoldable pub ceilingOf : Program → ℕ
 ceilingOf P = ceilingWith (ceilingsBelow P (length (P .callables))) P

@@ -1,31 +1,34 @@
--- Bench checks (document 01, the section of that name): one table, one claim, proved by computation. A row is a bench file with what it
--- gives; `paper` rows are the document's, `ours` tell the mistakes apart that it warns of, and show refusals 13 and 14 and a printed result.
+-- Bench checks (document 01, the section of that name): one table, one claim, proved by computation. A row is a
+-- bench file with what it gives. `paper` rows are the document's. `ours` tell the mistakes apart that it warns of,
+-- show refusals 13 and 14, and hold one sentence of the rules each.
 use mathlib.Core.Path.{_≡_, refl}
-use Prim.Native.Nat.{ℕ}
+use Prim.Native.Nat.{ℕ, zero, suc, _+_}
 use mathlib.Core.List.{List, [], _∷_, _++_}
-use lib.ListN.{length}
+use lib.ListN.{length, replicate}
 use Rattle.rules.specs.Numbers.{bytesOf}
-use Rattle.rules.specs.Answers.{judged, Outcome, fileOutcome, runWith, toldByRun, resultsAfter, workingAfter, cleared, filled, numbersOf, workingSlots, marked, unjudged}
-use Rattle.rules.specs.Lines.{wordOf, digitsBefore, decimal, behindBlanks, betweenBlanks, refusedLine, linesOf}
+use Rattle.rules.specs.Answers.{judged, Outcome, fileOutcome, runWith, toldByRun, resultsAfter, workingAfter, cleared, filled, numbersOf, marked, unjudged}
+use Rattle.rules.specs.Lines.{wordOf, digitsBefore, decimal, behindBlanks, betweenBlanks, refusedLine, linesOf, printed}
 
 pub data Origin : Type 0 where
   paper ours : Origin
 
--- what is looked at: bytes; numbers, written as bytes; the same unjudged; printed; with another capacity; with slots lent
+-- what is looked at: bytes; numbers, written as bytes; the same unjudged; its lines; with another capacity; with
+-- slots lent
 pub data Given : Type 0 where
-  bytes bench program printed : List ℕ → Given
+  bytes bench program lines : List ℕ → Given
   within : ℕ → List ℕ → Given
   lending : ℕ → List ℕ → List ℕ → List ℕ → Given
 
 -- an answer, then the result slots, then the working slots
 unfoldable pub answerAndSlots : ℕ → Outcome → List ℕ → List ℕ → List ℕ
-answerAndSlots capacity outcome results working = toldByRun outcome ++ resultsAfter outcome results ++ workingAfter capacity outcome working
+answerAndSlots capacity outcome results working =
+    toldByRun outcome ++ resultsAfter outcome results ++ workingAfter capacity outcome working
 
 unfoldable pub gives : Given → List ℕ
 gives (bytes s) = marked s
 gives (bench ns) = marked (bytesOf ns)
 gives (program ns) = unjudged (bytesOf ns)
-gives (printed ns) = linesOf (fileOutcome workingSlots (judged (bytesOf ns)))
+gives (lines ns) = printed (bytesOf ns)
 gives (within capacity ns) = numbersOf (fileOutcome capacity (judged (bytesOf ns)))
 gives (lending capacity ns results working) =
     answerAndSlots capacity (runWith capacity (length results) (length working) (judged (bytesOf ns))) results working
@@ -36,10 +39,27 @@ pub data Row : Type 0 where
 
 -- the document's example up to its store; and with a parameter of 5 bits for 4
 abbrev example : List ℕ
-example = 1 ∷ 1 ∷ 2 ∷ 4 ∷ 4 ∷ 1 ∷ 128 ∷ 1 ∷ 0 ∷ 1 ∷ 0 ∷ 4 ∷ 0 ∷ 1 ∷ 5 ∷ 0 ∷ 1 ∷ 3 ∷ 0 ∷ 1 ∷ 1 ∷ 0 ∷ 5 ∷ 0 ∷ 0 ∷ 1 ∷ 0 ∷ 0 ∷ 1 ∷ 0 ∷ 5 ∷ 0 ∷ 1 ∷ 0 ∷ 6 ∷ 0 ∷ 9 ∷ []
+example = 1 ∷ 1 ∷ 2 ∷ 4 ∷ 4 ∷ 1 ∷ 128 ∷ 1 ∷ 0 ∷ 1 ∷ 0 ∷ 4 ∷ 0 ∷ 1 ∷ 5 ∷ 0
+    ∷ 1 ∷ 3 ∷ 0 ∷ 1 ∷ 1 ∷ 0 ∷ 5 ∷ 0 ∷ 0 ∷ 1 ∷ 0 ∷ 0 ∷ 1 ∷ 0 ∷ 5 ∷ 0 ∷ 1 ∷ 0 ∷ 6 ∷ 0 ∷ 9 ∷ []
 
 abbrev example5 : List ℕ
-example5 = 1 ∷ 1 ∷ 2 ∷ 4 ∷ 4 ∷ 1 ∷ 128 ∷ 1 ∷ 0 ∷ 1 ∷ 0 ∷ 5 ∷ 0 ∷ 1 ∷ 5 ∷ 0 ∷ 1 ∷ 3 ∷ 0 ∷ 1 ∷ 1 ∷ 0 ∷ 5 ∷ 0 ∷ 0 ∷ 1 ∷ 0 ∷ 0 ∷ 1 ∷ 0 ∷ 5 ∷ 0 ∷ 1 ∷ 0 ∷ 6 ∷ 0 ∷ 9 ∷ []
+example5 = 1 ∷ 1 ∷ 2 ∷ 4 ∷ 4 ∷ 1 ∷ 128 ∷ 1 ∷ 0 ∷ 1 ∷ 0 ∷ 5 ∷ 0 ∷ 1 ∷ 5 ∷ 0
+    ∷ 1 ∷ 3 ∷ 0 ∷ 1 ∷ 1 ∷ 0 ∷ 5 ∷ 0 ∷ 0 ∷ 1 ∷ 0 ∷ 0 ∷ 1 ∷ 0 ∷ 5 ∷ 0 ∷ 1 ∷ 0 ∷ 6 ∷ 0 ∷ 9 ∷ []
+
+-- a statement inside so many blocks of one member
+abbrev blocks : ℕ → List ℕ → List ℕ
+blocks zero s = s
+blocks (suc n) s = 3 ∷ 1 ∷ blocks n s
+
+abbrev many : ℕ → List ℕ → List ℕ
+many zero s = []
+many (suc n) s = s ++ many n s
+
+-- four actions and an if whose dearer branch, with so many empty statements, is not taken
+abbrev dear : ℕ → List ℕ
+dear n = 1 ∷ 0 ∷ 0 ∷ 4 ∷ 0 ∷ 0 ∷ 0 ∷ 3 ∷ 27 ∷ many 27 (0 ∷ []) ++ 0 ∷ 0 ∷ 0 ∷ 3 ∷ 16 ∷ many 16 (4 ∷ 0 ∷ 0 ∷ [])
+    ++ 0 ∷ 0 ∷ 0 ∷ 3 ∷ 11 ∷ many 11 (4 ∷ 1 ∷ 0 ∷ []) ++ 0 ∷ 0 ∷ 0 ∷ 3 ∷ 13 ∷ many 13 (4 ∷ 2 ∷ 0 ∷ [])
+    ++ 0 ∷ 2 ∷ 0 ∷ 0 ∷ 3 ∷ (15 + n) ∷ many 15 (4 ∷ 3 ∷ 0 ∷ []) ++ many n (0 ∷ []) ++ (0 ∷ 0 ∷ [])
 
 -- one global of a width, which starts at 0 and is given the value of an expression
 abbrev gets : ℕ → List ℕ → List ℕ
@@ -56,7 +76,7 @@ abbrev parameterThenGlobal : List ℕ
 parameterThenGlobal = inoutInto (3 ∷ 2 ∷ 1 ∷ 3 ∷ 0 ∷ 1 ∷ 8 ∷ 2 ∷ 1 ∷ 4 ∷ 0 ∷ 1 ∷ 8 ∷ 1 ∷ [])
 
 pub checks : List Row
-unfolding marked unjudged gives answerAndSlots toldByRun resultsAfter workingAfter cleared filled runWith wordOf digitsBefore decimal behindBlanks betweenBlanks refusedLine linesOf
+unfolding marked unjudged gives answerAndSlots toldByRun resultsAfter workingAfter cleared filled runWith wordOf digitsBefore decimal behindBlanks betweenBlanks refusedLine linesOf printed
 checks =
     -- the example of 41 bytes, with other ends, and with a parameter that is too wide
     row paper (bench (example ++ (1 ∷ 6 ∷ 2 ∷ []))) (1 ∷ 4 ∷ 4 ∷ 1 ∷ 6 ∷ 9 ∷ []) refl
@@ -64,9 +84,9 @@ checks =
     ∷ row paper (bench (example ++ (0 ∷ 0 ∷ 0 ∷ []))) (1 ∷ 4 ∷ 4 ∷ 0 ∷ 0 ∷ 0 ∷ []) refl
     ∷ row paper (bench (example ++ (0 ∷ 6 ∷ 2 ∷ []))) (0 ∷ 11 ∷ 39 ∷ []) refl
     ∷ row paper (bench (example5 ++ (1 ∷ 6 ∷ 2 ∷ []))) (0 ∷ 7 ∷ 14 ∷ []) refl
-    -- stuck: its assignment; a sum of 4 and 5 bits; an if on bits; a function whose body is empty
+    -- stuck: its assignment; a sum of 4 and 5 bits, cast to 4; an if on bits; a function whose body is empty
     ∷ row paper (program (example5 ++ (1 ∷ 6 ∷ 2 ∷ []))) (3 ∷ []) refl
-    ∷ row paper (program (gets 4 (9 ∷ 0 ∷ 1 ∷ 4 ∷ 1 ∷ 1 ∷ 5 ∷ 1 ∷ []))) (3 ∷ []) refl
+    ∷ row paper (program (gets 4 (10 ∷ 4 ∷ 9 ∷ 0 ∷ 1 ∷ 4 ∷ 1 ∷ 1 ∷ 5 ∷ 1 ∷ []))) (3 ∷ []) refl
     ∷ row paper (program (1 ∷ 0 ∷ 0 ∷ 0 ∷ 0 ∷ 2 ∷ 1 ∷ 4 ∷ 1 ∷ 0 ∷ 0 ∷ 0 ∷ [])) (3 ∷ []) refl
     ∷ row paper (program (1 ∷ 0 ∷ 0 ∷ 1 ∷ 1 ∷ 8 ∷ 0 ∷ 0 ∷ 0 ∷ 0 ∷ 4 ∷ 0 ∷ 0 ∷ 0 ∷ [])) (3 ∷ []) refl
     -- the shortest file; one that ends too early; none; a number that does not end; one that is written too long
@@ -83,27 +103,178 @@ checks =
     -- bits 7 to 4 of 165; 10 joined to 5
     ∷ row paper (bench (gets 4 (11 ∷ 7 ∷ 4 ∷ 1 ∷ 8 ∷ 165 ∷ []))) (1 ∷ 3 ∷ 3 ∷ 10 ∷ []) refl
     ∷ row paper (bench (gets 8 (12 ∷ 1 ∷ 4 ∷ 10 ∷ 1 ∷ 4 ∷ 5 ∷ []))) (1 ∷ 4 ∷ 4 ∷ 165 ∷ []) refl
-    -- the global, then the inout parameter; the parameter, then the global, which a write through at once would leave at 1
+    -- the global, then the inout parameter; the parameter, then the global, which a write through at once would
+    -- leave at 1
     ∷ row paper (bench globalThenParameter) (1 ∷ 7 ∷ 7 ∷ 2 ∷ []) refl
     ∷ row ours (bench parameterThenGlobal) (1 ∷ 7 ∷ 7 ∷ 2 ∷ []) refl
     -- out parameters 1 and 2 on one place: the last is written last
-    ∷ row ours (bench (1 ∷ 0 ∷ 1 ∷ 8 ∷ 1 ∷ 0 ∷ 2 ∷ 2 ∷ 8 ∷ 2 ∷ 8 ∷ 0 ∷ 3 ∷ 2 ∷ 1 ∷ 3 ∷ 0 ∷ 1 ∷ 8 ∷ 1 ∷ 1 ∷ 3 ∷ 1 ∷ 1 ∷ 8 ∷ 2 ∷ 0 ∷ 4 ∷ 0 ∷ 2 ∷ 4 ∷ 0 ∷ 4 ∷ 0 ∷ 0 ∷ 0 ∷ []))
+    ∷ row ours (bench (1 ∷ 0 ∷ 1 ∷ 8 ∷ 1 ∷ 0 ∷ 2 ∷ 2 ∷ 8 ∷ 2 ∷ 8 ∷ 0 ∷ 3 ∷ 2 ∷ 1 ∷ 3 ∷ 0 ∷ 1 ∷ 8 ∷ 1 ∷ 1 ∷ 3 ∷ 1
+    ∷ 1 ∷ 8 ∷ 2 ∷ 0 ∷ 4 ∷ 0 ∷ 2 ∷ 4 ∷ 0 ∷ 4 ∷ 0 ∷ 0 ∷ 0 ∷ []))
     (1 ∷ 8 ∷ 8 ∷ 2 ∷ []) refl
     -- prefixes of 2 and 3 bits match 100: the longer is taken, though it is the later
-    ∷ row ours (bench (1 ∷ 0 ∷ 2 ∷ 8 ∷ 8 ∷ 1 ∷ 0 ∷ 1 ∷ 0 ∷ 8 ∷ 0 ∷ 1 ∷ 4 ∷ 1 ∷ 3 ∷ 0 ∷ 1 ∷ 1 ∷ 1 ∷ 4 ∷ 0 ∷ 1 ∷ 0 ∷ 0 ∷ 1 ∷ 0 ∷ 5 ∷ 0
+    ∷ row ours (bench (1 ∷ 0 ∷ 2 ∷ 8 ∷ 8 ∷ 1 ∷ 0 ∷ 1 ∷ 0 ∷ 8 ∷ 0 ∷ 1 ∷ 4 ∷ 1 ∷ 3 ∷ 0 ∷ 1 ∷ 1 ∷ 1 ∷ 4 ∷ 0 ∷ 1 ∷ 0
+    ∷ 0 ∷ 1 ∷ 0 ∷ 5 ∷ 0
     ∷ 2 ∷ 0 ∷ 64 ∷ 2 ∷ 0 ∷ 1 ∷ 0 ∷ 96 ∷ 3 ∷ 0 ∷ 2 ∷ 100 ∷ 0 ∷ []))
     (1 ∷ 4 ∷ 4 ∷ 100 ∷ 2 ∷ []) refl
     -- a header that is set invalid has only zeros, and so when it is set valid again
     ∷ row ours (bench (1 ∷ 1 ∷ 1 ∷ 8 ∷ 1 ∷ 128 ∷ 0 ∷ 0 ∷ 10 ∷ 0 ∷ 0 ∷ 1 ∷ 7 ∷ [])) (1 ∷ 1 ∷ 1 ∷ 0 ∷ 0 ∷ []) refl
-    ∷ row ours (bench (1 ∷ 1 ∷ 1 ∷ 8 ∷ 1 ∷ 128 ∷ 0 ∷ 0 ∷ 3 ∷ 2 ∷ 10 ∷ 0 ∷ 9 ∷ 0 ∷ 0 ∷ 1 ∷ 7 ∷ [])) (1 ∷ 3 ∷ 3 ∷ 1 ∷ 0 ∷ []) refl
+    ∷ row ours (bench (1 ∷ 1 ∷ 1 ∷ 8 ∷ 1 ∷ 128 ∷ 0 ∷ 0 ∷ 3 ∷ 2 ∷ 10 ∷ 0 ∷ 9 ∷ 0 ∷ 0 ∷ 1 ∷ 7 ∷ []))
+    (1 ∷ 3 ∷ 3 ∷ 1 ∷ 0 ∷ []) refl
     -- the store and one parameter take two slots: full with one
     ∷ row ours (within 2 globalThenParameter) (1 ∷ 7 ∷ 7 ∷ 2 ∷ []) refl
     ∷ row ours (within 1 globalThenParameter) (0 ∷ 14 ∷ 0 ∷ []) refl
-    -- slots lent: a finished run fills the results and zeroes the working slots; 13 leaves both, with short working or result slots; 14 zeroes
-    ∷ row ours (lending 2 globalThenParameter (9 ∷ 9 ∷ []) (5 ∷ 6 ∷ 7 ∷ [])) (1 ∷ 7 ∷ 7 ∷ 1 ∷ 2 ∷ 9 ∷ 0 ∷ 0 ∷ 7 ∷ []) refl
+    -- slots lent: a finished run fills the results and zeroes the working slots; 13, for short working slots and
+    -- for short results, leaves both; 14 zeroes the working slots
+    ∷ row ours (lending 2 globalThenParameter (9 ∷ 9 ∷ []) (5 ∷ 6 ∷ 7 ∷ []))
+    (1 ∷ 7 ∷ 7 ∷ 1 ∷ 2 ∷ 9 ∷ 0 ∷ 0 ∷ 7 ∷ []) refl
     ∷ row ours (lending 3 globalThenParameter (9 ∷ 9 ∷ []) (5 ∷ 6 ∷ [])) (0 ∷ 13 ∷ 0 ∷ 9 ∷ 9 ∷ 5 ∷ 6 ∷ []) refl
     ∷ row ours (lending 2 globalThenParameter [] (5 ∷ 6 ∷ 7 ∷ [])) (0 ∷ 13 ∷ 0 ∷ 5 ∷ 6 ∷ 7 ∷ []) refl
     ∷ row ours (lending 1 globalThenParameter (9 ∷ 9 ∷ []) (5 ∷ 6 ∷ [])) (0 ∷ 14 ∷ 0 ∷ 9 ∷ 9 ∷ 0 ∷ 6 ∷ []) refl
-    -- printed: `done 4 4`, then `1 6 9`
-    ∷ row ours (printed (example ++ (1 ∷ 6 ∷ 2 ∷ []))) (100 ∷ 111 ∷ 110 ∷ 101 ∷ 32 ∷ 52 ∷ 32 ∷ 52 ∷ 10 ∷ 49 ∷ 32 ∷ 54 ∷ 32 ∷ 57 ∷ 10 ∷ []) refl
+    -- printed: `done 4 4`, then `1 6 9`; `done 1 1`, then an empty line
+    ∷ row paper (lines (example ++ (1 ∷ 6 ∷ 2 ∷ [])))
+    (100 ∷ 111 ∷ 110 ∷ 101 ∷ 32 ∷ 52 ∷ 32 ∷ 52 ∷ 10 ∷ 49 ∷ 32 ∷ 54 ∷ 32 ∷ 57 ∷ 10 ∷ []) refl
+    ∷ row paper (lines (1 ∷ 0 ∷ 0 ∷ 0 ∷ 0 ∷ 0 ∷ 0 ∷ [])) (100 ∷ 111 ∷ 110 ∷ 101 ∷ 32 ∷ 49 ∷ 32 ∷ 49 ∷ 10 ∷ 10 ∷ []) refl
+    -- exit leaves a call inside a call: nothing is written back
+    ∷ row ours (bench (1 ∷ 0 ∷ 1 ∷ 8 ∷ 2 ∷ 0 ∷ 1 ∷ 3 ∷ 8 ∷ 0 ∷ 3 ∷ 2 ∷ 1 ∷ 3 ∷ 0 ∷ 1 ∷ 8 ∷ 5 ∷ 8 ∷ 0 ∷ 1 ∷ 3 ∷ 8
+    ∷ 0 ∷ 3 ∷ 2 ∷ 1 ∷ 3 ∷ 0 ∷ 1 ∷ 8 ∷ 4 ∷ 4 ∷ 0 ∷ 1 ∷ 3 ∷ 0 ∷ 0 ∷ 4 ∷ 1 ∷ 1 ∷ 4 ∷ 0 ∷ 0 ∷ 1 ∷ []))
+    (2 ∷ 11 ∷ 11 ∷ 1 ∷ []) refl
+    -- return ends a table action, not the apply body
+    ∷ row ours (bench (1 ∷ 0 ∷ 2 ∷ 8 ∷ 8 ∷ 2 ∷ 0 ∷ 1 ∷ 0 ∷ 8 ∷ 0 ∷ 1 ∷ 4 ∷ 1 ∷ 3 ∷ 0 ∷ 0 ∷ 0 ∷ 0 ∷ 7 ∷ 1 ∷ 1 ∷ 2
+    ∷ 4 ∷ 0 ∷ 2 ∷ 0 ∷ 1 ∷ 0 ∷ 1 ∷ 99 ∷ 3 ∷ 2 ∷ 5 ∷ 0 ∷ 1 ∷ 4 ∷ 0 ∷ 1 ∷ 8 ∷ 3 ∷ 1 ∷ 0 ∷ 77 ∷ 255 ∷ 1 ∷ 77 ∷ 0
+    ∷ [])) (1 ∷ 6 ∷ 7 ∷ 3 ∷ 0 ∷ []) refl
+    -- an out parameter starts at 0, and its argument is a step
+    ∷ row ours (bench (1 ∷ 0 ∷ 1 ∷ 8 ∷ 1 ∷ 0 ∷ 1 ∷ 2 ∷ 8 ∷ 0 ∷ 0 ∷ 0 ∷ 4 ∷ 0 ∷ 1 ∷ 4 ∷ 0 ∷ 0 ∷ 9 ∷ []))
+    (1 ∷ 3 ∷ 3 ∷ 0 ∷ []) refl
+    -- set valid on a valid header
+    ∷ row ours (bench (1 ∷ 1 ∷ 1 ∷ 8 ∷ 1 ∷ 128 ∷ 0 ∷ 0 ∷ 9 ∷ 0 ∷ 0 ∷ 1 ∷ 5 ∷ [])) (1 ∷ 1 ∷ 1 ∷ 1 ∷ 5 ∷ []) refl
+    -- equal prefixes: the earliest
+    ∷ row ours (bench (1 ∷ 0 ∷ 2 ∷ 8 ∷ 8 ∷ 2 ∷ 0 ∷ 1 ∷ 0 ∷ 8 ∷ 0 ∷ 1 ∷ 4 ∷ 1 ∷ 3 ∷ 0 ∷ 0 ∷ 0 ∷ 0 ∷ 7 ∷ 1 ∷ 1 ∷ 1
+    ∷ 4 ∷ 0 ∷ 2 ∷ 0 ∷ 1 ∷ 0 ∷ 1 ∷ 99 ∷ 5 ∷ 0 ∷ 2 ∷ 0 ∷ 76 ∷ 7 ∷ 0 ∷ 5 ∷ 0 ∷ 76 ∷ 7 ∷ 0 ∷ 6 ∷ 77 ∷ 0 ∷ []))
+    (1 ∷ 4 ∷ 4 ∷ 77 ∷ 5 ∷ []) refl
+    -- lpm and ternary keys: the earliest
+    ∷ row ours (bench (1 ∷ 0 ∷ 2 ∷ 8 ∷ 8 ∷ 2 ∷ 0 ∷ 1 ∷ 0 ∷ 8 ∷ 0 ∷ 1 ∷ 4 ∷ 1 ∷ 3 ∷ 0 ∷ 0 ∷ 0 ∷ 0 ∷ 7 ∷ 1 ∷ 2 ∷ 1
+    ∷ 4 ∷ 0 ∷ 2 ∷ 4 ∷ 0 ∷ 2 ∷ 0 ∷ 1 ∷ 0 ∷ 1 ∷ 99 ∷ 5 ∷ 0 ∷ 2 ∷ 0 ∷ 0 ∷ 0 ∷ 0 ∷ 0 ∷ 0 ∷ 5 ∷ 0 ∷ 77 ∷ 8 ∷ 77
+    ∷ 255 ∷ 0 ∷ 6 ∷ 77 ∷ 0 ∷ [])) (1 ∷ 5 ∷ 5 ∷ 77 ∷ 5 ∷ []) refl
+    -- a mask leaves bits out
+    ∷ row ours (bench (1 ∷ 0 ∷ 2 ∷ 8 ∷ 8 ∷ 2 ∷ 0 ∷ 1 ∷ 0 ∷ 8 ∷ 0 ∷ 1 ∷ 4 ∷ 1 ∷ 3 ∷ 0 ∷ 0 ∷ 0 ∷ 0 ∷ 7 ∷ 1 ∷ 1 ∷ 2
+    ∷ 4 ∷ 0 ∷ 2 ∷ 0 ∷ 1 ∷ 0 ∷ 1 ∷ 99 ∷ 5 ∷ 0 ∷ 1 ∷ 0 ∷ 64 ∷ 64 ∷ 0 ∷ 5 ∷ 77 ∷ 0 ∷ []))
+    (1 ∷ 4 ∷ 4 ∷ 77 ∷ 5 ∷ []) refl
+    -- no entry matches: the default
+    ∷ row ours (bench (1 ∷ 0 ∷ 2 ∷ 8 ∷ 8 ∷ 2 ∷ 0 ∷ 1 ∷ 0 ∷ 8 ∷ 0 ∷ 1 ∷ 4 ∷ 1 ∷ 3 ∷ 0 ∷ 0 ∷ 0 ∷ 0 ∷ 7 ∷ 1 ∷ 1 ∷ 2
+    ∷ 4 ∷ 0 ∷ 2 ∷ 0 ∷ 1 ∷ 0 ∷ 1 ∷ 99 ∷ 5 ∷ 0 ∷ 1 ∷ 0 ∷ 1 ∷ 255 ∷ 0 ∷ 5 ∷ 77 ∷ 0 ∷ []))
+    (1 ∷ 4 ∷ 4 ∷ 77 ∷ 99 ∷ []) refl
+    -- entries of two tables
+    ∷ row ours (bench (1 ∷ 0 ∷ 1 ∷ 8 ∷ 1 ∷ 0 ∷ 1 ∷ 0 ∷ 8 ∷ 0 ∷ 1 ∷ 4 ∷ 0 ∷ 3 ∷ 0 ∷ 2 ∷ 1 ∷ 0 ∷ 1 ∷ 1 ∷ 1 ∷ 1 ∷ 0
+    ∷ 0 ∷ 1 ∷ 1 ∷ 1 ∷ 0 ∷ 1 ∷ 1 ∷ 1 ∷ 1 ∷ 0 ∷ 0 ∷ 1 ∷ 2 ∷ 5 ∷ 1 ∷ 2 ∷ 0 ∷ 1 ∷ 0 ∷ 10 ∷ 1 ∷ 1 ∷ 0 ∷ 20 ∷ 0
+    ∷ [])) (1 ∷ 4 ∷ 4 ∷ 20 ∷ []) refl
+    -- either stops early
+    ∷ row ours (bench (1 ∷ 0 ∷ 1 ∷ 0 ∷ 0 ∷ 0 ∷ 1 ∷ 4 ∷ 0 ∷ 9 ∷ 13 ∷ 0 ∷ 1 ∷ 0 ∷ 1 ∷ 0 ∷ 0 ∷ []))
+    (1 ∷ 3 ∷ 4 ∷ 1 ∷ []) refl
+    -- both stops early
+    ∷ row ours (bench (1 ∷ 0 ∷ 1 ∷ 0 ∷ 0 ∷ 0 ∷ 1 ∷ 4 ∷ 0 ∷ 9 ∷ 12 ∷ 0 ∷ 0 ∷ 0 ∷ 1 ∷ 0 ∷ 1 ∷ []))
+    (1 ∷ 3 ∷ 4 ∷ 0 ∷ []) refl
+    -- and
+    ∷ row ours (bench (1 ∷ 0 ∷ 1 ∷ 8 ∷ 0 ∷ 0 ∷ 1 ∷ 4 ∷ 0 ∷ 9 ∷ 3 ∷ 1 ∷ 8 ∷ 12 ∷ 1 ∷ 8 ∷ 10 ∷ 0 ∷ 0 ∷ []))
+    (1 ∷ 4 ∷ 4 ∷ 8 ∷ []) refl
+    -- or
+    ∷ row ours (bench (1 ∷ 0 ∷ 1 ∷ 8 ∷ 0 ∷ 0 ∷ 1 ∷ 4 ∷ 0 ∷ 9 ∷ 4 ∷ 1 ∷ 8 ∷ 12 ∷ 1 ∷ 8 ∷ 10 ∷ 0 ∷ 0 ∷ []))
+    (1 ∷ 4 ∷ 4 ∷ 14 ∷ []) refl
+    -- xor
+    ∷ row ours (bench (1 ∷ 0 ∷ 1 ∷ 8 ∷ 0 ∷ 0 ∷ 1 ∷ 4 ∷ 0 ∷ 9 ∷ 5 ∷ 1 ∷ 8 ∷ 12 ∷ 1 ∷ 8 ∷ 10 ∷ 0 ∷ 0 ∷ []))
+    (1 ∷ 4 ∷ 4 ∷ 6 ∷ []) refl
+    -- complement
+    ∷ row ours (bench (1 ∷ 0 ∷ 1 ∷ 8 ∷ 0 ∷ 0 ∷ 1 ∷ 4 ∷ 0 ∷ 8 ∷ 1 ∷ 8 ∷ 165 ∷ 0 ∷ 0 ∷ [])) (1 ∷ 3 ∷ 3 ∷ 90 ∷ []) refl
+    -- shift right
+    ∷ row ours (bench (1 ∷ 0 ∷ 1 ∷ 8 ∷ 0 ∷ 0 ∷ 1 ∷ 4 ∷ 0 ∷ 9 ∷ 7 ∷ 1 ∷ 8 ∷ 165 ∷ 1 ∷ 3 ∷ 4 ∷ 0 ∷ 0 ∷ []))
+    (1 ∷ 4 ∷ 4 ∷ 10 ∷ []) refl
+    -- 7 is not less than 7
+    ∷ row ours (bench (1 ∷ 0 ∷ 1 ∷ 0 ∷ 0 ∷ 0 ∷ 1 ∷ 4 ∷ 0 ∷ 9 ∷ 10 ∷ 1 ∷ 8 ∷ 7 ∷ 1 ∷ 8 ∷ 7 ∷ 0 ∷ 1 ∷ []))
+    (1 ∷ 4 ∷ 4 ∷ 0 ∷ []) refl
+    -- 7 is less than or equal to 7
+    ∷ row ours (bench (1 ∷ 0 ∷ 1 ∷ 0 ∷ 0 ∷ 0 ∷ 1 ∷ 4 ∷ 0 ∷ 9 ∷ 11 ∷ 1 ∷ 8 ∷ 7 ∷ 1 ∷ 8 ∷ 7 ∷ 0 ∷ 0 ∷ []))
+    (1 ∷ 4 ∷ 4 ∷ 1 ∷ []) refl
+    -- unequal
+    ∷ row ours (bench (1 ∷ 0 ∷ 1 ∷ 0 ∷ 0 ∷ 0 ∷ 1 ∷ 4 ∷ 0 ∷ 9 ∷ 9 ∷ 1 ∷ 8 ∷ 7 ∷ 1 ∷ 8 ∷ 8 ∷ 0 ∷ 0 ∷ []))
+    (1 ∷ 4 ∷ 4 ∷ 1 ∷ []) refl
+    -- not
+    ∷ row ours (bench (1 ∷ 0 ∷ 1 ∷ 0 ∷ 0 ∷ 0 ∷ 1 ∷ 4 ∷ 0 ∷ 7 ∷ 0 ∷ 0 ∷ 0 ∷ 0 ∷ [])) (1 ∷ 3 ∷ 3 ∷ 1 ∷ []) refl
+    -- inout read at its turn, before a later argument changes the place
+    ∷ row ours (bench (1 ∷ 0 ∷ 1 ∷ 8 ∷ 2 ∷ 1 ∷ 8 ∷ 1 ∷ 2 ∷ 8 ∷ 0 ∷ 3 ∷ 2 ∷ 1 ∷ 3 ∷ 0 ∷ 1 ∷ 8 ∷ 30 ∷ 6 ∷ 1 ∷ 8
+    ∷ 4 ∷ 0 ∷ 2 ∷ 3 ∷ 8 ∷ 1 ∷ 8 ∷ 0 ∷ 0 ∷ 0 ∷ 4 ∷ 1 ∷ 2 ∷ 4 ∷ 0 ∷ 13 ∷ 0 ∷ 1 ∷ 4 ∷ 0 ∷ 0 ∷ 9 ∷ []))
+    (1 ∷ 10 ∷ 10 ∷ 9 ∷ []) refl
+    -- write-back to a header set invalid in the body
+    ∷ row ours (bench (1 ∷ 1 ∷ 1 ∷ 8 ∷ 1 ∷ 128 ∷ 1 ∷ 0 ∷ 1 ∷ 3 ∷ 8 ∷ 0 ∷ 10 ∷ 0 ∷ 0 ∷ 4 ∷ 0 ∷ 1 ∷ 5 ∷ 0 ∷ 0 ∷ 0
+    ∷ 1 ∷ 9 ∷ [])) (1 ∷ 3 ∷ 3 ∷ 0 ∷ 0 ∷ []) refl
+    -- an if: its branches, then its own 7
+    ∷ row ours (bench (1 ∷ 0 ∷ 0 ∷ 0 ∷ 0 ∷ 2 ∷ 1 ∷ 4 ∷ 1 ∷ 0 ∷ 6 ∷ 0 ∷ 0 ∷ 0 ∷ [])) (0 ∷ 8 ∷ 10 ∷ []) refl
+    -- a call: 7 before 8
+    ∷ row ours (bench (1 ∷ 0 ∷ 0 ∷ 1 ∷ 0 ∷ 2 ∷ 2 ∷ 8 ∷ 1 ∷ 8 ∷ 0 ∷ 0 ∷ 0 ∷ 4 ∷ 0 ∷ 2 ∷ 1 ∷ 8 ∷ 1 ∷ 1 ∷ 4 ∷ 1 ∷ 0
+    ∷ [])) (0 ∷ 7 ∷ 13 ∷ []) refl
+    -- a call: its name before its arguments
+    ∷ row ours (bench (1 ∷ 0 ∷ 0 ∷ 1 ∷ 0 ∷ 0 ∷ 0 ∷ 0 ∷ 0 ∷ 4 ∷ 1 ∷ 1 ∷ 1 ∷ 1 ∷ 9 ∷ 0 ∷ [])) (0 ∷ 6 ∷ 10 ∷ []) refl
+    -- missing return: 8 at the kind
+    ∷ row ours (bench (1 ∷ 0 ∷ 0 ∷ 1 ∷ 1 ∷ 8 ∷ 0 ∷ 0 ∷ 0 ∷ 0 ∷ 0 ∷ 0 ∷ [])) (0 ∷ 8 ∷ 4 ∷ []) refl
+    -- a table: names, then keys
+    ∷ row ours (bench (1 ∷ 0 ∷ 0 ∷ 1 ∷ 0 ∷ 0 ∷ 0 ∷ 0 ∷ 1 ∷ 1 ∷ 0 ∷ 1 ∷ 1 ∷ 9 ∷ 1 ∷ 0 ∷ 1 ∷ 0 ∷ 0 ∷ 0 ∷ []))
+    (0 ∷ 6 ∷ 16 ∷ []) refl
+    -- a table: 7s, then 8s
+    ∷ row ours (bench (1 ∷ 0 ∷ 0 ∷ 1 ∷ 0 ∷ 1 ∷ 1 ∷ 1 ∷ 0 ∷ 0 ∷ 1 ∷ 2 ∷ 1 ∷ 1 ∷ 1 ∷ 1 ∷ 1 ∷ 1 ∷ 1 ∷ 1 ∷ 1 ∷ 0 ∷ 0
+    ∷ 1 ∷ 2 ∷ 0 ∷ 0 ∷ [])) (0 ∷ 7 ∷ 24 ∷ []) refl
+    -- a table: second lpm key, then listed actions
+    ∷ row ours (bench (1 ∷ 0 ∷ 0 ∷ 1 ∷ 0 ∷ 1 ∷ 1 ∷ 1 ∷ 0 ∷ 0 ∷ 1 ∷ 2 ∷ 1 ∷ 1 ∷ 1 ∷ 1 ∷ 1 ∷ 1 ∷ 1 ∷ 1 ∷ 1 ∷ 0 ∷ 0
+    ∷ 1 ∷ 1 ∷ 0 ∷ 0 ∷ [])) (0 ∷ 8 ∷ 16 ∷ []) refl
+    -- left over
+    ∷ row ours (bench (1 ∷ 0 ∷ 0 ∷ 0 ∷ 0 ∷ 0 ∷ 0 ∷ 7 ∷ [])) (0 ∷ 12 ∷ 7 ∷ []) refl
+    -- depth 32
+    ∷ row paper (bench (1 ∷ 0 ∷ 0 ∷ 0 ∷ 0 ∷ blocks 31 (0 ∷ 0 ∷ []))) (1 ∷ 32 ∷ 32 ∷ []) refl
+    -- depth 33
+    ∷ row paper (bench (1 ∷ 0 ∷ 0 ∷ 0 ∷ 0 ∷ blocks 32 (0 ∷ 0 ∷ []))) (0 ∷ 5 ∷ 69 ∷ []) refl
+    -- a bad tag at depth 33: 5
+    ∷ row paper (bench (1 ∷ 0 ∷ 0 ∷ 0 ∷ 0 ∷ blocks 32 (99 ∷ 0 ∷ []))) (0 ∷ 5 ∷ 69 ∷ []) refl
+    -- exit in a function
+    ∷ row ours (program (1 ∷ 0 ∷ 0 ∷ 1 ∷ 1 ∷ 0 ∷ 0 ∷ 0 ∷ 8 ∷ 0 ∷ 4 ∷ 0 ∷ 0 ∷ 0 ∷ [])) (3 ∷ []) refl
+    -- return without a value in a function
+    ∷ row ours (program (1 ∷ 0 ∷ 0 ∷ 1 ∷ 1 ∷ 0 ∷ 0 ∷ 0 ∷ 7 ∷ 0 ∷ 4 ∷ 0 ∷ 0 ∷ 0 ∷ [])) (3 ∷ []) refl
+    -- an in parameter is written
+    ∷ row ours (program (1 ∷ 0 ∷ 0 ∷ 1 ∷ 0 ∷ 1 ∷ 1 ∷ 8 ∷ 0 ∷ 1 ∷ 3 ∷ 0 ∷ 1 ∷ 8 ∷ 1 ∷ 0 ∷ 4 ∷ 0 ∷ 1 ∷ 1 ∷ 8 ∷ 1
+    ∷ 0 ∷ [])) (3 ∷ []) refl
+    -- a function reads a global
+    ∷ row ours (program (1 ∷ 0 ∷ 1 ∷ 8 ∷ 1 ∷ 1 ∷ 8 ∷ 0 ∷ 0 ∷ 6 ∷ 4 ∷ 0 ∷ 0 ∷ 4 ∷ 0 ∷ 0 ∷ 0 ∷ 0 ∷ [])) (3 ∷ []) refl
+    -- a function calls an action
+    ∷ row ours (program (1 ∷ 0 ∷ 0 ∷ 2 ∷ 0 ∷ 0 ∷ 0 ∷ 0 ∷ 1 ∷ 0 ∷ 0 ∷ 0 ∷ 3 ∷ 2 ∷ 4 ∷ 0 ∷ 0 ∷ 6 ∷ 0 ∷ 1 ∷ 0 ∷ 4
+    ∷ 1 ∷ 0 ∷ 0 ∷ [])) (3 ∷ []) refl
+    -- two lpm keys
+    ∷ row ours (program (1 ∷ 0 ∷ 1 ∷ 8 ∷ 1 ∷ 0 ∷ 0 ∷ 0 ∷ 0 ∷ 1 ∷ 2 ∷ 1 ∷ 4 ∷ 0 ∷ 1 ∷ 4 ∷ 0 ∷ 1 ∷ 0 ∷ 0 ∷ 0 ∷ 5
+    ∷ 0 ∷ 0 ∷ 0 ∷ [])) (3 ∷ []) refl
+    -- an unfit entry
+    ∷ row ours (program (1 ∷ 0 ∷ 2 ∷ 8 ∷ 8 ∷ 2 ∷ 0 ∷ 1 ∷ 0 ∷ 8 ∷ 0 ∷ 1 ∷ 4 ∷ 1 ∷ 3 ∷ 0 ∷ 0 ∷ 0 ∷ 0 ∷ 7 ∷ 1 ∷ 1
+    ∷ 0 ∷ 4 ∷ 0 ∷ 2 ∷ 0 ∷ 1 ∷ 0 ∷ 1 ∷ 99 ∷ 5 ∷ 0 ∷ 1 ∷ 0 ∷ 256 ∷ 1 ∷ 0 ∷ 0 ∷ [])) (3 ∷ []) refl
+    -- a listed function is chosen
+    ∷ row ours (program (1 ∷ 0 ∷ 1 ∷ 8 ∷ 1 ∷ 1 ∷ 0 ∷ 0 ∷ 0 ∷ 6 ∷ 0 ∷ 1 ∷ 1 ∷ 1 ∷ 0 ∷ 4 ∷ 0 ∷ 1 ∷ 0 ∷ 0 ∷ 0 ∷ 5
+    ∷ 0 ∷ 0 ∷ 0 ∷ [])) (3 ∷ []) refl
+    -- a bool literal 2
+    ∷ row ours (program (1 ∷ 0 ∷ 1 ∷ 0 ∷ 0 ∷ 0 ∷ 1 ∷ 4 ∷ 0 ∷ 0 ∷ 2 ∷ 0 ∷ 0 ∷ [])) (3 ∷ []) refl
+    -- a literal that does not fit
+    ∷ row ours (program (1 ∷ 0 ∷ 1 ∷ 8 ∷ 0 ∷ 0 ∷ 1 ∷ 4 ∷ 0 ∷ 1 ∷ 8 ∷ 256 ∷ 0 ∷ 0 ∷ [])) (3 ∷ []) refl
+    -- a bool key
+    ∷ row ours (program (1 ∷ 0 ∷ 0 ∷ 1 ∷ 0 ∷ 0 ∷ 0 ∷ 0 ∷ 1 ∷ 1 ∷ 0 ∷ 0 ∷ 1 ∷ 1 ∷ 0 ∷ 0 ∷ 0 ∷ 5 ∷ 0 ∷ 0 ∷ []))
+    (3 ∷ []) refl
+    -- the second operand of both is bits
+    ∷ row ours (program (1 ∷ 0 ∷ 0 ∷ 0 ∷ 0 ∷ 2 ∷ 9 ∷ 8 ∷ 9 ∷ 12 ∷ 0 ∷ 1 ∷ 1 ∷ 1 ∷ 1 ∷ 1 ∷ 1 ∷ 1 ∷ 0 ∷ 0 ∷ 0 ∷ []))
+    (3 ∷ []) refl
+    -- an out argument that is no place, though the body exits
+    ∷ row ours (program (1 ∷ 0 ∷ 0 ∷ 1 ∷ 0 ∷ 1 ∷ 2 ∷ 8 ∷ 0 ∷ 8 ∷ 0 ∷ 4 ∷ 0 ∷ 1 ∷ 1 ∷ 8 ∷ 1 ∷ 0 ∷ [])) (3 ∷ []) refl
+    -- an in parameter as out argument
+    ∷ row ours (program (1 ∷ 0 ∷ 0 ∷ 2 ∷ 0 ∷ 1 ∷ 2 ∷ 8 ∷ 0 ∷ 8 ∷ 0 ∷ 1 ∷ 1 ∷ 8 ∷ 0 ∷ 4 ∷ 0 ∷ 1 ∷ 3 ∷ 0 ∷ 0 ∷ 4
+    ∷ 1 ∷ 1 ∷ 1 ∷ 8 ∷ 1 ∷ 0 ∷ [])) (3 ∷ []) refl
+    -- 65 bits joined
+    ∷ row ours (program (1 ∷ 0 ∷ 1 ∷ 1 ∷ 0 ∷ 0 ∷ 1 ∷ 4 ∷ 0 ∷ 11 ∷ 0 ∷ 0 ∷ 12 ∷ 1 ∷ 64 ∷ 1 ∷ 1 ∷ 1 ∷ 1 ∷ 0 ∷ 0
+    ∷ [])) (3 ∷ []) refl
+    -- a bool equal to bits
+    ∷ row ours (program (1 ∷ 0 ∷ 1 ∷ 0 ∷ 0 ∷ 0 ∷ 1 ∷ 4 ∷ 0 ∷ 9 ∷ 8 ∷ 0 ∷ 1 ∷ 1 ∷ 1 ∷ 1 ∷ 0 ∷ 0 ∷ [])) (3 ∷ []) refl
+    -- ceilings of 1,000,000 and 1,000,001; 4,096 bytes, which fail at their version, and 4,097
+    ∷ row paper (bench (dear 7)) (1 ∷ 3 ∷ 1000000 ∷ []) refl
+    ∷ row paper (bench (dear 8)) (0 ∷ 9 ∷ 0 ∷ []) refl
+    ∷ row paper (bytes (replicate 4096 0)) (0 ∷ 4 ∷ 0 ∷ []) refl
+    ∷ row paper (bytes (replicate 4097 0)) (0 ∷ 1 ∷ 0 ∷ []) refl
     ∷ []

@@ -1,17 +1,18 @@
--- What is well formed (document 01, the section of that name; refusals 6, 7 and 8). A part is fine, with what is known of it, or has a
--- fault with its index. A construct's names come first, then its operands from left to right, then itself: 7 before 8.
+-- What is well formed (document 01, the section of that name; refusals 6, 7 and 8). A part is fine, with what is
+-- known of it, or has a fault with its index. A construct's names come first, then its operands from left to right,
+-- then itself: 7 before 8.
 use mathlib.Core.Bool.{Bool, true, false, not, _&&_, _||_}
 use mathlib.Core.Option.{Option, none, some}
-use Prim.Native.Nat.{ℕ, zero, suc, _+_}
+use Prim.Native.Nat.{ℕ, suc, _+_}
 use mathlib.Core.List.{List, [], _∷_}
-use lib.Dec.{ltb, leb, eqb}
+use lib.Dec.{ltb, eqb}
 use lib.ListN.{getElem?, length}
-use Rattle.rules.specs.Words.{fitsWidth, sliceWidth}
+use Rattle.rules.specs.Words.{fitsWidth, sliceFits, sliceWidth, joinFits}
 use Rattle.rules.specs.Syntax.{Ty, bool, bits, GlobalTy, variable, header, Direction, byNone, byIn, byOut, byInout, KeyKind, exact, lpm, ternary}
 use Rattle.rules.specs.Syntax.{Operator, arithmetic, order, shift, equality, logic, Place, local, parameter, global, field}
 use Rattle.rules.specs.Syntax.{Expr, boolLiteral, bitsLiteral, readOf, validOf, negation, complement, binary, cast, slice, concatenation, callExpr, Args, noArgs, arg}
 use Rattle.rules.specs.Syntax.{Stmt, empty, assign, ifElse, block, callStmt, apply, returnValue, return, exit, setValid, setInvalid, Stmts, noStmts, stmt}
-use Rattle.rules.specs.Syntax.{HeaderTy, Global, Parameter, Callable, Numeral, Key, Table, Program, atOf, placeIn}
+use Rattle.rules.specs.Syntax.{Global, Parameter, Callable, Numeral, Key, Table, Program, atOf, placeIn}
 
 infixl 20 _>>=_
 -- fine, with what is known; or a fault and its index
@@ -69,12 +70,19 @@ globalAt P g = andLook (getElem? (P .globals) g) λ x. shapeIn P (x .ty)
 unfoldable pub callableBelow : Program → ℕ → ℕ → Option Callable
 callableBelow P reach f = onlyIf (ltb f reach) (getElem? (P .callables) f)
 
--- the four questions asked of a direction, and whether a table may list an action with such a parameter
+-- the four questions asked of a direction: must the argument be a place, does its value go in (or 0), may the
+-- callee write it, does it come back; and whether a table may list an action with such a parameter
 unfoldable pub wantsPlace : Direction → Bool
 wantsPlace byNone = false
 wantsPlace byIn = false
 wantsPlace byOut = true
 wantsPlace byInout = true
+
+unfoldable pub goesIn : Direction → Bool
+goesIn byNone = true
+goesIn byIn = true
+goesIn byOut = false
+goesIn byInout = true
 
 unfoldable pub calleeMayWrite : Direction → Bool
 calleeMayWrite byNone = false
@@ -87,15 +95,6 @@ comesBack byNone = false
 comesBack byIn = false
 comesBack byOut = true
 comesBack byInout = true
-
-pub data Entering : Type 0 where
-  enterValue enterPlace enterZero : Entering
-
-unfoldable pub entering : Direction → Entering
-entering byNone = enterValue
-entering byIn = enterValue
-entering byOut = enterZero
-entering byInout = enterPlace
 
 unfoldable pub tableGives : Direction → Bool
 tableGives byNone = true
@@ -121,7 +120,7 @@ seesGlobals (inFunction t) = false
 seesGlobals inAction = true
 seesGlobals inApply = true
 
--- a place that may be written: not a parameter that only goes in
+-- of the places that there are, those that may be written: not a parameter that only goes in
 unfoldable pub writableAs : Option Parameter → Bool
 writableAs none = false
 writableAs (some p) = calleeMayWrite (p .direction)
@@ -152,12 +151,23 @@ judgeHeader at (aHeader widths) = ok tt
 unfoldable pub judgePlace : Scope → ℕ → Place → Res Ty
 judgePlace Γ at (local i) = named (suc at) (getElem? (Γ .locals) i)
 judgePlace Γ at (parameter i) = named (suc at) (getElem? (Γ .parameters) i) >>= λ p. ok (p .ty)
-judgePlace Γ at (global g) = named (suc at) (globalAt (Γ .program) g) >>= λ shape. judgeVariable at shape >>= λ t. need 8 at (seesGlobals (Γ .body)) >>= λ _. ok t
-judgePlace Γ at (field g f) = named (suc at) (globalAt (Γ .program) g) >>= λ shape. judgeField at f shape >>= λ t. need 8 at (seesGlobals (Γ .body)) >>= λ _. ok t
+judgePlace Γ at (global g) = do
+  shape ← named (suc at) (globalAt (Γ .program) g)
+  t ← judgeVariable at shape
+  seen ← need 8 at (seesGlobals (Γ .body))
+  ok t
+judgePlace Γ at (field g f) = do
+  shape ← named (suc at) (globalAt (Γ .program) g)
+  t ← judgeField at f shape
+  seen ← need 8 at (seesGlobals (Γ .body))
+  ok t
 
 -- a header by its name, for tag 6 and statements 9 and 10
 unfoldable pub judgeHeaderAt : Scope → ℕ → ℕ → Res (Unit {0})
-judgeHeaderAt Γ at g = named (suc at) (globalAt (Γ .program) g) >>= λ shape. judgeHeader at shape >>= λ _. need 8 at (seesGlobals (Γ .body))
+judgeHeaderAt Γ at g = do
+  shape ← named (suc at) (globalAt (Γ .program) g)
+  isHeader ← judgeHeader at shape
+  need 8 at (seesGlobals (Γ .body))
 
 unfoldable pub widthAt : ℕ → Ty → Res ℕ
 widthAt at bool = fault 7 at
@@ -214,15 +224,32 @@ unfoldable mutual
   judgeExpr Γ (complement at a) = judgeExpr Γ a >>= λ t. widthAt at t >>= λ width. ok (bits width)
   judgeExpr Γ (binary at o a b) = judgeExpr Γ a >>= λ t. judgeExpr Γ b >>= λ u. judgeOperator at o t u
   judgeExpr Γ (cast at width a) = judgeExpr Γ a >>= λ t. widthAt at t >>= λ _. ok (bits width)
-  judgeExpr Γ (slice at high low a) = judgeExpr Γ a >>= λ t. widthAt at t >>= λ width. need 7 at (leb low high && ltb high width) >>= λ _. ok (bits (sliceWidth high low))
-  judgeExpr Γ (concatenation at a b) = judgeExpr Γ a >>= λ t. judgeExpr Γ b >>= λ u. widthAt at t >>= λ v. widthAt at u >>= λ w. need 7 at (leb (v + w) 64) >>= λ _. ok (bits (v + w))
-  judgeExpr Γ (callExpr at f xs) = named (suc at) (callableBelow (Γ .program) (Γ .reach) f) >>= λ c. judgeArgs Γ xs >>= λ given. judgeGiven at (c .parameters) given >>= λ _. functionTy at (c .returns)
+  judgeExpr Γ (slice at high low a) = do
+    t ← judgeExpr Γ a
+    width ← widthAt at t
+    bounds ← need 7 at (sliceFits high low width)
+    ok (bits (sliceWidth high low))
+  judgeExpr Γ (concatenation at a b) = do
+    t ← judgeExpr Γ a
+    u ← judgeExpr Γ b
+    v ← widthAt at t
+    w ← widthAt at u
+    most ← need 7 at (joinFits v w)
+    ok (bits (v + w))
+  judgeExpr Γ (callExpr at f xs) = do
+    c ← named (suc at) (callableBelow (Γ .program) (Γ .reach) f)
+    given ← judgeArgs Γ xs
+    agree ← judgeGiven at (c .parameters) given
+    functionTy at (c .returns)
 
   pub judgeArgs : Scope → Args → Res (List Given)
   judgeArgs Γ noArgs = ok []
-  judgeArgs Γ (arg e xs) = judgeExpr Γ e >>= λ t. judgeArgs Γ xs >>= λ given. ok (record { ty = t; writable = writableIn Γ (placeIn e) } ∷ given)
+  judgeArgs Γ (arg e xs) = do
+    t ← judgeExpr Γ e
+    given ← judgeArgs Γ xs
+    ok (record { ty = t; writable = writableIn Γ (placeIn e) } ∷ given)
 
--- return with a value stands in functions only; return without one, and exit, elsewhere only; apply in the apply body only
+-- return with a value stands in functions only; return without one, and exit, elsewhere; apply in the apply body only
 unfoldable pub judgeReturned : ℕ → Body → Ty → Res (Unit {0})
 judgeReturned at (inFunction t) u = needTy at t u
 judgeReturned at inAction u = fault 8 at
@@ -241,10 +268,22 @@ isFunction inApply = false
 unfoldable mutual
   pub judgeStmt : Scope → Stmt → Res (Unit {0})
   judgeStmt Γ (empty at) = ok tt
-  judgeStmt Γ (assign at target p e) = judgePlace Γ target p >>= λ t. judgeExpr Γ e >>= λ u. needTy at t u >>= λ _. need 8 at (writable Γ p)
-  judgeStmt Γ (ifElse at c a b) = judgeExpr Γ c >>= λ t. judgeStmt Γ a >>= λ _. judgeStmt Γ b >>= λ _. needTy at bool t
+  judgeStmt Γ (assign at target p e) = do
+    t ← judgePlace Γ target p
+    u ← judgeExpr Γ e
+    oneType ← needTy at t u
+    need 8 at (writable Γ p)
+  judgeStmt Γ (ifElse at c a b) = do
+    t ← judgeExpr Γ c
+    first ← judgeStmt Γ a
+    second ← judgeStmt Γ b
+    needTy at bool t
   judgeStmt Γ (block at ss) = judgeStmts Γ ss
-  judgeStmt Γ (callStmt at f xs) = named (suc at) (callableBelow (Γ .program) (Γ .reach) f) >>= λ c. judgeArgs Γ xs >>= λ given. judgeGiven at (c .parameters) given >>= λ _. need 8 at (mayCall (Γ .body) (c .returns))
+  judgeStmt Γ (callStmt at f xs) = do
+    c ← named (suc at) (callableBelow (Γ .program) (Γ .reach) f)
+    given ← judgeArgs Γ xs
+    agree ← judgeGiven at (c .parameters) given
+    need 8 at (mayCall (Γ .body) (c .returns))
   judgeStmt Γ (apply at t) = named (suc at) (getElem? (Γ .program .tables) t) >>= λ _. need 8 at (isApply (Γ .body))
   judgeStmt Γ (returnValue at e) = judgeExpr Γ e >>= λ t. judgeReturned at (Γ .body) t
   judgeStmt Γ (return at) = need 8 at (not (isFunction (Γ .body)))
@@ -286,10 +325,13 @@ bodyOf none = inAction
 bodyOf (some t) = inFunction t
 
 unfoldable pub scopeOf : Program → ℕ → Callable → Scope
-scopeOf P n c = record { program = P; reach = n; parameters = c .parameters; locals = c .locals; body = bodyOf (c .returns) }
+scopeOf P n c =
+    record { program = P; reach = n; parameters = c .parameters; locals = c .locals; body = bodyOf (c .returns) }
 
 unfoldable pub judgeCallable : Program → ℕ → Callable → Res (Unit {0})
-judgeCallable P n c = judgeStmt (scopeOf P n c) (c .body) >>= λ _. need 8 (c .at) (not (isFunction (bodyOf (c .returns))) || returnsOn (c .body))
+judgeCallable P n c = do
+  judged ← judgeStmt (scopeOf P n c) (c .body)
+  need 8 (c .at) (not (isFunction (bodyOf (c .returns))) || returnsOn (c .body))
 
 unfoldable pub judgeCallables : Program → ℕ → List Callable → Res (Unit {0})
 judgeCallables P n [] = ok tt
@@ -302,7 +344,10 @@ applyScope P = record { program = P; reach = length (P .callables); parameters =
 -- a table: its names, its keys, its 7s in file order, its 8s in file order
 unfoldable pub judgeActions : Program → List Numeral → Res (List Callable)
 judgeActions P [] = ok []
-judgeActions P (a ∷ rest) = named (a .at) (getElem? (P .callables) (a .number)) >>= λ c. judgeActions P rest >>= λ cs. ok (c ∷ cs)
+judgeActions P (a ∷ rest) = do
+  c ← named (a .at) (getElem? (P .callables) (a .number))
+  cs ← judgeActions P rest
+  ok (c ∷ cs)
 
 unfoldable pub judgeKeys : Scope → List Key → Res (List Ty)
 judgeKeys Γ [] = ok []
@@ -341,14 +386,15 @@ judgeListed (a ∷ rest) [] = ok tt
 judgeListed (a ∷ rest) (c ∷ cs) = need 8 (a .at) (listable c) >>= λ _. judgeListed rest cs
 
 unfoldable pub judgeTable : Program → Table → Res (Unit {0})
-judgeTable P T = judgeActions P (T .actions) >>= λ cs.
-    named (T .default .at) (getElem? cs (T .default .number)) >>= λ c.
-    judgeKeys (applyScope P) (T .keys) >>= λ ts.
-    keysAreBits (T .keys) ts >>= λ _.
-    need 7 (T .countAt) (eqb (length (T .arguments)) (length (c .parameters))) >>= λ _.
-    literalsFit (c .parameters) (T .arguments) >>= λ _.
-    oneLpm false (T .keys) >>= λ _.
-    judgeListed (T .actions) cs
+judgeTable P T = do
+  cs ← judgeActions P (T .actions)
+  c ← named (T .default .at) (getElem? cs (T .default .number))
+  ts ← judgeKeys (applyScope P) (T .keys)
+  areBits ← keysAreBits (T .keys) ts
+  asMany ← need 7 (T .countAt) (eqb (length (T .arguments)) (length (c .parameters)))
+  fit ← literalsFit (c .parameters) (T .arguments)
+  single ← oneLpm false (T .keys)
+  judgeListed (T .actions) cs
 
 unfoldable pub judgeTables : Program → List Table → Res (Unit {0})
 judgeTables P [] = ok tt
@@ -356,7 +402,8 @@ judgeTables P (T ∷ Ts) = judgeTable P T >>= λ _. judgeTables P Ts
 
 -- the program, in file order
 unfoldable pub judgeProgram : Program → Res (Unit {0})
-judgeProgram P = judgeGlobals P (P .globals) >>= λ _.
-    judgeCallables P 0 (P .callables) >>= λ _.
-    judgeTables P (P .tables) >>= λ _.
-    judgeStmt (applyScope P) (P .body)
+judgeProgram P = do
+  globals ← judgeGlobals P (P .globals)
+  callables ← judgeCallables P 0 (P .callables)
+  tables ← judgeTables P (P .tables)
+  judgeStmt (applyScope P) (P .body)

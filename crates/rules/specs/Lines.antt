@@ -1,11 +1,11 @@
--- The result lines (document 01, the section of that name): the bytes that the marking program prints for an outcome, in ASCII.
+-- The result lines (document 01, the section of that name): the bytes that the marking program prints, in ASCII.
 use mathlib.Core.Bool.{Bool, true, false}
 use Prim.Native.Nat.{ℕ, zero, suc, _+_, _/_, _%_}
 use mathlib.Core.List.{List, [], _∷_, _++_}
 use lib.Dec.{ltb}
 use Rattle.rules.specs.declared.Signal.{Signal}
 use Rattle.rules.specs.declared.Signal.the-variants.{Done, Exit}
-use Rattle.rules.specs.Answers.{Outcome, refusal, ended, fills, sticks}
+use Rattle.rules.specs.Answers.{judged, Outcome, refusal, ended, fills, sticks, fileOutcome, workingSlots}
 
 abbrev pub blank : ℕ
 blank = 32
@@ -24,7 +24,10 @@ refusedWord = 114 ∷ 101 ∷ 102 ∷ 117 ∷ 115 ∷ 101 ∷ 100 ∷ []
 -- a number's decimal digits in front of others; twenty are enough for every number below 2^64
 unfoldable pub digitsBefore : ℕ → ℕ → List ℕ → List ℕ
 digitsBefore zero n others = others
-digitsBefore (suc most) n others = elim (ltb n 10) [ true ↦ (48 + n) ∷ others | false ↦ digitsBefore most (n / 10) ((48 + n % 10) ∷ others) ]
+digitsBefore (suc most) n others = elim (ltb n 10) [
+  | true ↦ (48 + n) ∷ others
+  | false ↦ digitsBefore most (n / 10) ((48 + n % 10) ∷ others)
+]
 
 unfoldable pub decimal : ℕ → List ℕ
 decimal n = digitsBefore 20 n []
@@ -44,6 +47,11 @@ refusedLine number place = refusedWord ++ behindBlanks (number ∷ place ∷ [])
 -- a stuck run prints nothing: no judged file has one
 unfoldable pub linesOf : Outcome → List ℕ
 linesOf (refusal number place) = refusedLine number place
-linesOf (ended signal steps ceiling store) = wordOf signal ++ behindBlanks (steps ∷ ceiling ∷ []) ++ newline ∷ betweenBlanks store ++ (newline ∷ [])
+linesOf (ended signal steps ceiling store) =
+    wordOf signal ++ behindBlanks (steps ∷ ceiling ∷ []) ++ newline ∷ betweenBlanks store ++ (newline ∷ [])
 linesOf fills = refusedLine 14 0
 linesOf sticks = []
+
+-- what the marking program prints for a bench file
+unfoldable pub printed : List ℕ → List ℕ
+printed bytes = linesOf (fileOutcome workingSlots (judged bytes))

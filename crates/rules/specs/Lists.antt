@@ -1,14 +1,15 @@
--- Entries and store (document 01, "What is well formed", last paragraph; refusals 10, 11 and 12): the numbers behind the program,
--- strictly in file order. `strict` is true for the judge; where it is false, entries are only cut out of the numbers, fit or not.
+-- Entries and store (document 01, "What is well formed", last paragraph; refusals 10, 11 and 12): the numbers
+-- behind the program, strictly in file order. `strict` is true for the judge; where it is false, entries are only
+-- cut out of the numbers, fit or not.
 use mathlib.Core.Bool.{Bool, true, false, not, _&&_, _||_}
 use mathlib.Core.Option.{Option, none, some}
 use Prim.Native.Nat.{ℕ}
 use mathlib.Core.List.{List, [], _∷_, _++_}
-use lib.Dec.{ltb, eqb}
-use lib.ListN.{getElem?, length}
+use lib.Dec.{eqb}
+use lib.ListN.{getElem?}
 use Rattle.rules.specs.Words.{fitsWidth, prefixFits, maskFits}
-use Rattle.rules.specs.Syntax.{Ty, bool, bits, KeyKind, exact, lpm, ternary, Global, Parameter, Callable, Numeral, Key, Table, Program}
-use Rattle.rules.specs.Reading.{Got, got, bad, Reader, _>>=_, pure, lookedUp, within, repeat}
+use Rattle.rules.specs.Syntax.{Ty, bool, bits, KeyKind, exact, lpm, ternary, Global, Parameter, Callable, Key, Table, Program}
+use Rattle.rules.specs.Reading.{got, bad, Reader, _>>=_, pure, lookedUp, within, repeat}
 use Rattle.rules.specs.Form.{Res, ok, fault, andLook, onlyIf, fits, Shape, aVariable, aHeader, shapeIn, judgeExpr, applyScope}
 
 -- what an entry asks of a key: a value; a value and a prefix length; a value and a mask
@@ -28,6 +29,9 @@ pub record Entry : Type 0 where
 pub data Cell : Type 0 where
   variableCell : ℕ → Cell
   headerCell : Bool → List ℕ → Cell
+
+abbrev pub mostEntries : ℕ
+mostEntries = 64
 
 -- the next number, if it passes a test
 unfoldable pub passing : ℕ → (ℕ → Bool) → Reader ℕ
@@ -56,8 +60,14 @@ module _ (strict : Bool) (P : Program) where
 
   unfoldable pub readPattern : KeyKind → ℕ → Reader Pattern
   readPattern exact width = passing 10 (asked (fitsWidth width)) >>= λ v. pure (exactly v)
-  readPattern lpm width = passing 10 (asked (fitsWidth width)) >>= λ v. passing 10 (asked (prefixFits width v)) >>= λ n. pure (prefixed v n)
-  readPattern ternary width = passing 10 (asked (fitsWidth width)) >>= λ v. passing 10 (asked (maskFits width v)) >>= λ n. pure (masked v n)
+  readPattern lpm width = do
+    v ← passing 10 (asked (fitsWidth width))
+    prefix ← passing 10 (asked (prefixFits width v))
+    pure (prefixed v prefix)
+  readPattern ternary width = do
+    v ← passing 10 (asked (fitsWidth width))
+    mask ← passing 10 (asked (maskFits width v))
+    pure (masked v mask)
 
   unfoldable pub readPatterns : List Key → Reader (List Pattern)
   readPatterns [] = pure []
@@ -76,17 +86,27 @@ module _ (strict : Bool) (P : Program) where
     pure (record { table = table .0; patterns = patterns; position = action .0; arguments = arguments })
 
   unfoldable pub readEntries : Reader (List Entry)
-  readEntries = lookedUp 10 (within 0 64) >>= λ n. repeat n readEntry
+  readEntries = lookedUp 10 (within 0 mostEntries) >>= λ n. repeat n readEntry
 
 -- the store: an invalid header has zero fields
 unfoldable pub readFields : Bool → List ℕ → Reader (List ℕ)
 readFields valid [] = pure []
-readFields valid (width ∷ widths) = passing 11 (λ n. fitsWidth width n && (valid || eqb n 0)) >>= λ n. readFields valid widths >>= λ ns. pure (n ∷ ns)
+readFields valid (width ∷ widths) = do
+  n ← passing 11 (λ n. fitsWidth width n && (valid || eqb n 0))
+  ns ← readFields valid widths
+  pure (n ∷ ns)
 
+unfoldable pub readShape : Shape → Reader Cell
+readShape (aVariable t) = passing 11 (fits t) >>= λ n. pure (variableCell n)
+readShape (aHeader widths) = do
+  mark ← passing 11 (fits bool)
+  ns ← readFields (eqb mark 1) widths
+  pure (headerCell (eqb mark 1) ns)
+
+-- no judged program has a global of no shape
 unfoldable pub readCell : Option Shape → Reader Cell
 readCell none left at = bad 11 at
-readCell (some (aVariable t)) left at = (passing 11 (fits t) >>= λ n. pure (variableCell n)) left at
-readCell (some (aHeader widths)) left at = (passing 11 (fits bool) >>= λ mark. readFields (eqb mark 1) widths >>= λ ns. pure (headerCell (eqb mark 1) ns)) left at
+readCell (some shape) left at = readShape shape left at
 
 unfoldable pub readCells : Program → List Global → Reader (List Cell)
 readCells P [] = pure []

@@ -1,6 +1,6 @@
--- The bench file as numbers (document 01, "The bench file", first paragraph; refusals 1, 2 and 3; the places of refusals).
--- A number is written in groups of seven bits, the least significant first; each byte but the last has its top bit set.
-use mathlib.Core.Bool.{Bool, true, false, not, _&&_, _||_}
+-- The bench file as numbers (document 01, "The bench file", first paragraph; refusals 1, 2 and 3; places). A number is
+-- written in groups of seven bits, the least significant first; each byte but the last has its top bit set.
+use mathlib.Core.Bool.{Bool, true, false, _&&_, _||_}
 use Prim.Native.Nat.{ℕ, zero, suc, _+_, _-_, _*_, _/_, _%_, _^_}
 use mathlib.Core.List.{List, [], _∷_, _++_}
 use lib.Dec.{ltb, leb, eqb}
@@ -30,7 +30,10 @@ tenth byte = elim (eqb byte 1) [ true ↦ last 1 | false ↦ wrong ]
 
 -- a byte, behind so many others of its number
 unfoldable pub groupOf : ℕ → ℕ → Group
-groupOf before byte = elim (eqb before 9) [ true ↦ tenth byte | false ↦ elim (leb 128 byte) [ true ↦ more (byte - 128) | false ↦ endsWith before byte ] ]
+groupOf before byte = elim (eqb before 9) [
+  | true ↦ tenth byte
+  | false ↦ elim (leb 128 byte) [ true ↦ more (byte - 128) | false ↦ endsWith before byte ]
+]
 
 unfoldable pub withFirst : ℕ → Stream → Stream
 withFirst n (numbers ns) = numbers (n ∷ ns)
@@ -52,7 +55,10 @@ streamFrom place before value (byte ∷ bytes) = elim (groupOf before byte) [
 
 -- 1: no bytes, or too many; then 2 and 3, at the first bad number
 unfoldable pub streamOf : List ℕ → Stream
-streamOf bytes = elim (eqb (length bytes) 0 || ltb mostBytes (length bytes)) [ true ↦ broken 1 0 | false ↦ streamFrom 0 0 0 bytes ]
+streamOf bytes = elim (eqb (length bytes) 0 || ltb mostBytes (length bytes)) [
+  | true ↦ broken 1 0
+  | false ↦ streamFrom 0 0 0 bytes
+]
 
 -- writing: so many groups at the most behind the first
 unfoldable pub groupsOf : ℕ → ℕ → List ℕ
@@ -71,4 +77,7 @@ bytesOf (n ∷ ns) = bytesOfNumber n ++ bytesOf ns
 unfoldable pub placeOf : List ℕ → ℕ → ℕ
 placeOf [] i = 0
 placeOf (byte ∷ bytes) zero = 0
-placeOf (byte ∷ bytes) (suc i) = elim (leb 128 byte) [ true ↦ suc (placeOf bytes (suc i)) | false ↦ suc (placeOf bytes i) ]
+placeOf (byte ∷ bytes) (suc i) = elim (leb 128 byte) [
+  | true ↦ suc (placeOf bytes (suc i))
+  | false ↦ suc (placeOf bytes i)
+]

@@ -1,13 +1,15 @@
--- Reading a program from the list of numbers (document 01, "The bench file"; refusals 5 and 4). A reader takes the numbers that are left
--- and the index of the first of them. It gives what it read, or the fault with its index: the first one in file order, 5 before 4.
+-- Reading a program from the list of numbers (document 01, "The bench file"; refusals 5 and 4). A reader takes the
+-- numbers that are left and the index of the first of them. It gives what it read, or the fault with its index: the
+-- first one in file order, 5 before 4 at one number.
 use mathlib.Core.Bool.{Bool, true, false, _&&_}
 use mathlib.Core.Option.{Option, none, some}
 use Prim.Native.Nat.{ℕ, zero, suc, _-_}
 use mathlib.Core.List.{List, [], _∷_}
 use lib.Dec.{leb}
 use lib.ListN.{getElem?}
+use Rattle.rules.specs.Words.{widest}
 use Rattle.rules.specs.Syntax.{Ty, bool, bits, GlobalTy, variable, header, Direction, byNone, byIn, byOut, byInout, KeyKind, exact, lpm, ternary}
-use Rattle.rules.specs.Syntax.{Arithmetic, plus, minus, times, and, or, xor, Order, less, lessOrEqual, Shift, shiftLeft, shiftRight, Equality, equal, unequal, Logic, both, either}
+use Rattle.rules.specs.Syntax.{plus, minus, times, and, or, xor, less, lessOrEqual, shiftLeft, shiftRight, equal, unequal, both, either}
 use Rattle.rules.specs.Syntax.{Operator, arithmetic, order, shift, equality, logic, Place, local, parameter, global, field}
 use Rattle.rules.specs.Syntax.{Expr, boolLiteral, bitsLiteral, readOf, validOf, negation, complement, binary, cast, slice, concatenation, callExpr, Args, noArgs, arg}
 use Rattle.rules.specs.Syntax.{Stmt, empty, assign, ifElse, block, callStmt, apply, returnValue, return, exit, setValid, setInvalid, Stmts, noStmts, stmt}
@@ -76,6 +78,44 @@ tooDeep (n ∷ left) at = bad 5 at
 abbrev pub deepest : ℕ
 deepest = 32
 
+-- the most members of each list
+abbrev pub mostHeaders : ℕ
+mostHeaders = 8
+
+abbrev pub mostFields : ℕ
+mostFields = 16
+
+abbrev pub mostGlobals : ℕ
+mostGlobals = 32
+
+abbrev pub mostCallables : ℕ
+mostCallables = 16
+
+abbrev pub mostParameters : ℕ
+mostParameters = 8
+
+abbrev pub mostLocals : ℕ
+mostLocals = 8
+
+abbrev pub mostTables : ℕ
+mostTables = 8
+
+abbrev pub mostKeys : ℕ
+mostKeys = 4
+
+abbrev pub mostActions : ℕ
+mostActions = 8
+
+abbrev pub mostArguments : ℕ
+mostArguments = 8
+
+abbrev pub mostMembers : ℕ
+mostMembers = 64
+
+-- the highest bound of a slice
+abbrev pub highestBound : ℕ
+highestBound = 63
+
 -- the lists of the page, by position; a later version changes them and nothing else
 pub data PlaceTag : Type 0 where
   tagLocal tagParameter tagGlobal tagField : PlaceTag
@@ -86,7 +126,8 @@ pub data ExprTag : Type 0 where
   tagValid tagNot tagComplement tagBinary tagCast tagSlice tagConcatenation tagCall : ExprTag
 
 pub data StmtTag : Type 0 where
-  tagEmpty tagAssign tagIf tagBlock tagCallStmt tagApply tagReturnValue tagReturn tagExit tagSetValid tagSetInvalid : StmtTag
+  tagEmpty tagAssign tagIf tagBlock tagCallStmt tagApply tagReturnValue tagReturn tagExit : StmtTag
+  tagSetValid tagSetInvalid : StmtTag
 
 pub data CallableKind : Type 0 where
   kindAction kindFunction : CallableKind
@@ -96,15 +137,17 @@ versionOf = within 1 1
 
 module _ (version : ℕ) where
   abbrev pub exprTags : List ExprTag
-  exprTags = tagBool ∷ tagBits ∷ tagPlace tagLocal ∷ tagPlace tagParameter ∷ tagPlace tagGlobal ∷ tagPlace tagField ∷ tagValid
-      ∷ tagNot ∷ tagComplement ∷ tagBinary ∷ tagCast ∷ tagSlice ∷ tagConcatenation ∷ tagCall ∷ []
+  exprTags = tagBool ∷ tagBits ∷ tagPlace tagLocal ∷ tagPlace tagParameter ∷ tagPlace tagGlobal ∷ tagPlace tagField
+      ∷ tagValid ∷ tagNot ∷ tagComplement ∷ tagBinary ∷ tagCast ∷ tagSlice ∷ tagConcatenation ∷ tagCall ∷ []
 
   abbrev pub operators : List Operator
   operators = arithmetic plus ∷ arithmetic minus ∷ arithmetic times ∷ arithmetic and ∷ arithmetic or ∷ arithmetic xor
-      ∷ shift shiftLeft ∷ shift shiftRight ∷ equality equal ∷ equality unequal ∷ order less ∷ order lessOrEqual ∷ logic both ∷ logic either ∷ []
+      ∷ shift shiftLeft ∷ shift shiftRight ∷ equality equal ∷ equality unequal ∷ order less ∷ order lessOrEqual
+      ∷ logic both ∷ logic either ∷ []
 
   abbrev pub stmtTags : List StmtTag
-  stmtTags = tagEmpty ∷ tagAssign ∷ tagIf ∷ tagBlock ∷ tagCallStmt ∷ tagApply ∷ tagReturnValue ∷ tagReturn ∷ tagExit ∷ tagSetValid ∷ tagSetInvalid ∷ []
+  stmtTags = tagEmpty ∷ tagAssign ∷ tagIf ∷ tagBlock ∷ tagCallStmt ∷ tagApply ∷ tagReturnValue ∷ tagReturn ∷ tagExit
+      ∷ tagSetValid ∷ tagSetInvalid ∷ []
 
   abbrev pub callableKinds : List CallableKind
   callableKinds = kindAction ∷ kindFunction ∷ []
@@ -115,6 +158,16 @@ module _ (version : ℕ) where
   abbrev pub keyKinds : List KeyKind
   keyKinds = exact ∷ lpm ∷ ternary ∷ []
 
+  -- the widths of header fields, of bits literals, of casts
+  abbrev pub fieldWidth : Reader ℕ
+  fieldWidth = between 1 widest
+
+  abbrev pub literalWidth : Reader ℕ
+  literalWidth = between 1 widest
+
+  abbrev pub castWidth : Reader ℕ
+  castWidth = between 1 widest
+
   -- 0 is bool, 1 to 64 is bits
   unfoldable pub bitsOf : Option ℕ → Option Ty
   bitsOf none = none
@@ -122,7 +175,7 @@ module _ (version : ℕ) where
 
   unfoldable pub typeOf : ℕ → Option Ty
   typeOf zero = some bool
-  typeOf (suc n) = bitsOf (within 1 64 (suc n))
+  typeOf (suc n) = bitsOf (within 1 widest (suc n))
 
   -- a global may also be of header type 0 to 7, written 128 to 135
   unfoldable pub orHeader : ℕ → Option Ty → Option GlobalTy
@@ -164,34 +217,45 @@ module _ (version : ℕ) where
   -- what stands behind an expression's tag; `operand` reads an expression one level down
   unfoldable pub readExprAs : ExprTag → ℕ → Reader Expr → Reader Expr
   readExprAs tagBool at operand = number >>= λ n. pure (boolLiteral at n)
-  readExprAs tagBits at operand = between 1 64 >>= λ width. number >>= λ n. pure (bitsLiteral at width n)
+  readExprAs tagBits at operand = literalWidth >>= λ width. number >>= λ n. pure (bitsLiteral at width n)
   readExprAs (tagPlace t) at operand = readPlace t >>= λ p. pure (readOf at p)
   readExprAs tagValid at operand = number >>= λ g. pure (validOf at g)
   readExprAs tagNot at operand = operand >>= λ a. pure (negation at a)
   readExprAs tagComplement at operand = operand >>= λ a. pure (complement at a)
-  readExprAs tagBinary at operand = standsFor (getElem? operators) >>= λ o. operand >>= λ a. operand >>= λ b. pure (binary at o a b)
-  readExprAs tagCast at operand = between 1 64 >>= λ width. operand >>= λ a. pure (cast at width a)
-  readExprAs tagSlice at operand = between 0 63 >>= λ high. between 0 63 >>= λ low. operand >>= λ a. pure (slice at high low a)
+  readExprAs tagBinary at operand = standsFor (getElem? operators) >>= λ o. operand >>= λ a. operand >>= λ b.
+      pure (binary at o a b)
+  readExprAs tagCast at operand = castWidth >>= λ width. operand >>= λ a. pure (cast at width a)
+  readExprAs tagSlice at operand = between 0 highestBound >>= λ high. between 0 highestBound >>= λ low. operand >>= λ a.
+      pure (slice at high low a)
   readExprAs tagConcatenation at operand = operand >>= λ a. operand >>= λ b. pure (concatenation at a b)
-  readExprAs tagCall at operand = number >>= λ f. listOf 0 8 operand >>= λ xs. pure (callExpr at f (toArgs xs))
+  readExprAs tagCall at operand = number >>= λ f. listOf 0 mostArguments operand >>= λ xs.
+      pure (callExpr at f (toArgs xs))
 
   -- with so many levels allowed
   unfoldable pub readExpr : ℕ → Reader Expr
   readExpr zero = tooDeep
-  readExpr (suc depth) = here >>= λ at. standsFor (getElem? exprTags) >>= λ tag. readExprAs tag at (readExpr depth)
+  readExpr (suc depth) = do
+    at ← here
+    tag ← standsFor (getElem? exprTags)
+    readExprAs tag at (readExpr depth)
 
   -- an assignment's target, with its own tag's index
   unfoldable pub readTarget : ℕ → Reader (ℕ × Place)
   readTarget zero = tooDeep
-  readTarget (suc depth) = here >>= λ at. standsFor (λ n. placeTagOf (getElem? exprTags n)) >>= λ tag. readPlace tag >>= λ p. pure (at, p)
+  readTarget (suc depth) = do
+    at ← here
+    tag ← standsFor (λ n. placeTagOf (getElem? exprTags n))
+    p ← readPlace tag
+    pure (at, p)
 
   -- what stands behind a statement's tag; `operand`, `target` and `inner` read one level down
   unfoldable pub readStmtAs : StmtTag → ℕ → Reader Expr → Reader (ℕ × Place) → Reader Stmt → Reader Stmt
   readStmtAs tagEmpty at operand target inner = pure (empty at)
   readStmtAs tagAssign at operand target inner = target >>= λ p. operand >>= λ e. pure (assign at (p .0) (p .1) e)
   readStmtAs tagIf at operand target inner = operand >>= λ c. inner >>= λ a. inner >>= λ b. pure (ifElse at c a b)
-  readStmtAs tagBlock at operand target inner = listOf 0 64 inner >>= λ ss. pure (block at (toStmts ss))
-  readStmtAs tagCallStmt at operand target inner = number >>= λ f. listOf 0 8 operand >>= λ xs. pure (callStmt at f (toArgs xs))
+  readStmtAs tagBlock at operand target inner = listOf 0 mostMembers inner >>= λ ss. pure (block at (toStmts ss))
+  readStmtAs tagCallStmt at operand target inner = number >>= λ f. listOf 0 mostArguments operand >>= λ xs.
+      pure (callStmt at f (toArgs xs))
   readStmtAs tagApply at operand target inner = number >>= λ t. pure (apply at t)
   readStmtAs tagReturnValue at operand target inner = operand >>= λ e. pure (returnValue at e)
   readStmtAs tagReturn at operand target inner = pure (return at)
@@ -201,12 +265,15 @@ module _ (version : ℕ) where
 
   unfoldable pub readStmt : ℕ → Reader Stmt
   readStmt zero = tooDeep
-  readStmt (suc depth) = here >>= λ at. standsFor (getElem? stmtTags) >>= λ tag. readStmtAs tag at (readExpr depth) (readTarget depth) (readStmt depth)
+  readStmt (suc depth) = do
+    at ← here
+    tag ← standsFor (getElem? stmtTags)
+    readStmtAs tag at (readExpr depth) (readTarget depth) (readStmt depth)
 
   unfoldable pub readHeader : Reader HeaderTy
   readHeader = do
     at ← here
-    widths ← listOf 1 16 (between 1 64)
+    widths ← listOf 1 mostFields fieldWidth
     pure (record { at = at; widths = widths })
 
   unfoldable pub readGlobal : Reader Global
@@ -231,8 +298,8 @@ module _ (version : ℕ) where
     at ← here
     kind ← standsFor (getElem? callableKinds)
     returns ← readReturns kind
-    parameters ← listOf 0 8 readParameter
-    locals ← listOf 0 8 (standsFor typeOf)
+    parameters ← listOf 0 mostParameters readParameter
+    locals ← listOf 0 mostLocals (standsFor typeOf)
     body ← readStmt deepest
     pure (record { at = at; returns = returns; parameters = parameters; locals = locals; body = body })
 
@@ -252,21 +319,35 @@ module _ (version : ℕ) where
   unfoldable pub readTable : Reader Table
   readTable = do
     at ← here
-    keys ← listOf 1 4 readKey
-    actions ← listOf 1 8 readNumeral
+    keys ← listOf 1 mostKeys readKey
+    actions ← listOf 1 mostActions readNumeral
     default ← readNumeral
     countAt ← here
-    arguments ← listOf 0 8 readNumeral
-    pure (record { at = at; keys = keys; actions = actions; default = default; countAt = countAt; arguments = arguments })
+    arguments ← listOf 0 mostArguments readNumeral
+    pure (record {
+      at = at;
+      keys = keys;
+      actions = actions;
+      default = default;
+      countAt = countAt;
+      arguments = arguments;
+    })
 
   unfoldable pub readAfterVersion : Reader Program
   readAfterVersion = do
-    headers ← listOf 0 8 readHeader
-    globals ← listOf 0 32 readGlobal
-    callables ← listOf 0 16 readCallable
-    tables ← listOf 0 8 readTable
+    headers ← listOf 0 mostHeaders readHeader
+    globals ← listOf 0 mostGlobals readGlobal
+    callables ← listOf 0 mostCallables readCallable
+    tables ← listOf 0 mostTables readTable
     body ← readStmt deepest
-    pure (record { version = version; headers = headers; globals = globals; callables = callables; tables = tables; body = body })
+    pure (record {
+      version = version;
+      headers = headers;
+      globals = globals;
+      callables = callables;
+      tables = tables;
+      body = body;
+    })
 
 unfoldable pub readProgram : Reader Program
 readProgram = standsFor versionOf >>= λ version. readAfterVersion version

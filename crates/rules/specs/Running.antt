@@ -1,7 +1,8 @@
--- How it runs (document 01, the section of that name). A construct runs to an answer, a later state and a number of steps; it is stuck
--- where its values, places, names or argument counts are not as "What is well formed" asks; it is full where a call's slots pass the capacity.
--- Directions, copy-in and copy-out are those of source document 000, section 2.2, but that an out parameter starts at 0 (against its call
--- rule); calls and signals those of 004.
+-- How it runs (document 01, the section of that name). A construct runs to an answer, a later state and a number of
+-- steps; it is stuck where its values, places, names or argument counts are not as "What is well formed" asks; it
+-- is full where a call's slots pass the capacity. Directions, copy-in and copy-out are those of source document
+-- 000, section 2.2; an out parameter starts at 0, as that document's prose has it and its call rule has not. Calls
+-- and signals are 004's.
 use mathlib.Core.Bool.{Bool, true, false, not, _&&_, _||_}
 use mathlib.Core.Option.{Option, none, some}
 use Prim.Native.Nat.{ℕ, zero, suc, _+_, _-_}
@@ -11,14 +12,14 @@ use lib.Bits.{bitAnd, bitOr, bitXor}
 use lib.ListN.{getElem?, length}
 use Rattle.rules.specs.declared.Signal.{Signal}
 use Rattle.rules.specs.declared.Signal.the-variants.{Done, Exit}
-use Rattle.rules.specs.Words.{fitsWidth, sum, difference, product, complementOf, shiftedLeft, shiftedRight, castTo, sliceWidth, sliceOf, joined, prefixMatches, prefixFits, maskMatches, maskFits}
-use Rattle.rules.specs.Syntax.{Ty, bool, bits, Value, value, Direction, KeyKind, exact, lpm, ternary}
+use Rattle.rules.specs.Words.{fitsWidth, sum, difference, product, complementOf, shiftedLeft, shiftedRight, castTo, sliceFits, sliceWidth, sliceOf, joinFits, joined, prefixMatches, prefixFits, maskMatches, maskFits}
+use Rattle.rules.specs.Syntax.{Ty, bool, bits, Value, value, KeyKind, exact, lpm, ternary}
 use Rattle.rules.specs.Syntax.{Arithmetic, plus, minus, times, and, or, xor, Order, less, lessOrEqual, Shift, shiftLeft, shiftRight, Equality, equal, unequal, Logic, both, either}
 use Rattle.rules.specs.Syntax.{Operator, arithmetic, order, shift, equality, logic, Place, local, parameter, global, field}
 use Rattle.rules.specs.Syntax.{Expr, boolLiteral, bitsLiteral, readOf, validOf, negation, complement, binary, cast, slice, concatenation, callExpr, Args, noArgs, arg}
 use Rattle.rules.specs.Syntax.{Stmt, empty, assign, ifElse, block, callStmt, apply, returnValue, return, exit, setValid, setInvalid, Stmts, noStmts, stmt}
-use Rattle.rules.specs.Syntax.{Parameter, Callable, Numeral, Key, Table, Program, placeIn}
-use Rattle.rules.specs.Form.{Res, ok, fault, andLook, onlyIf, sameTy, fits, Shape, aVariable, aHeader, globalAt, callableBelow, comesBack, Entering, enterValue, enterPlace, enterZero, entering}
+use Rattle.rules.specs.Syntax.{Parameter, Callable, Key, Table, Program, placeIn}
+use Rattle.rules.specs.Form.{Res, ok, fault, andLook, onlyIf, sameTy, fits, Shape, aVariable, aHeader, globalAt, callableBelow, wantsPlace, goesIn, comesBack}
 use Rattle.rules.specs.Form.{Body, inFunction, inAction, inApply, Scope, seesGlobals, writable, mayCall, isFunction, scopeOf, applyScope, isLpm, oneLpm, listable}
 use Rattle.rules.specs.Lists.{Pattern, exactly, prefixed, masked, Entry, Cell, variableCell, headerCell, actionAt, markOf, slotsOf}
 
@@ -180,16 +181,25 @@ put (field g f) n s = changeStore (setField f n) g s
 
 -- reading and writing: a place holds its declared type, and takes no other
 unfoldable pub readAt : Scope → Place → M State Value
-readAt Γ p = orStuck (declared Γ p) >>= λ t. gets (held p) >>= λ n. pure (value t n)
+readAt Γ p = do
+  t ← orStuck (declared Γ p)
+  n ← gets (held p)
+  pure (value t n)
 
 unfoldable pub writeAt : Scope → Place → Value → M State (Unit {0})
-writeAt Γ p v = orStuck (onlyIf (writable Γ p) (declared Γ p)) >>= λ t. orStuck (numberOf t v) >>= λ n. puts (put p n)
+writeAt Γ p v = do
+  t ← orStuck (onlyIf (writable Γ p) (declared Γ p))
+  n ← orStuck (numberOf t v)
+  puts (put p n)
 
 unfoldable pub changeHeader : Scope → ℕ → (Cell → Option Cell) → M State (Unit {0})
 changeHeader Γ g f = orStuck (andLook (shapeFor Γ g) headerOnly) >>= λ _. puts (changeStore f g)
 
 unfoldable pub validAt : Scope → ℕ → M State Value
-validAt Γ g = orStuck (andLook (shapeFor Γ g) headerOnly) >>= λ _. gets (λ s. andLook (getElem? (s .store) g) validIn) >>= λ b. pure (truth b)
+validAt Γ g = do
+  widths ← orStuck (andLook (shapeFor Γ g) headerOnly)
+  b ← gets (λ s. andLook (getElem? (s .store) g) validIn)
+  pure (truth b)
 
 -- operators on values
 unfoldable pub calculate : Arithmetic → ℕ → ℕ → ℕ → ℕ
@@ -215,7 +225,8 @@ agree unequal b = not b
 unfoldable pub arithmeticOn : Arithmetic → Value → Value → Option Value
 arithmeticOn o (value bool n) v = none
 arithmeticOn o (value (bits width) n) (value bool m) = none
-arithmeticOn o (value (bits width) n) (value (bits other) m) = onlyIf (eqb width other) (some (value (bits width) (calculate o width n m)))
+arithmeticOn o (value (bits width) n) (value (bits other) m) =
+    onlyIf (eqb width other) (some (value (bits width) (calculate o width n m)))
 
 unfoldable pub orderOn : Order → Value → Value → Option Value
 orderOn o (value bool n) v = none
@@ -244,12 +255,14 @@ castOn width (value (bits other) n) = some (value (bits width) (castTo width n))
 
 unfoldable pub sliceOn : ℕ → ℕ → Value → Option Value
 sliceOn high low (value bool n) = none
-sliceOn high low (value (bits width) n) = onlyIf (leb low high && ltb high width) (some (value (bits (sliceWidth high low)) (sliceOf high low n)))
+sliceOn high low (value (bits width) n) =
+    onlyIf (sliceFits high low width) (some (value (bits (sliceWidth high low)) (sliceOf high low n)))
 
 unfoldable pub concatenationOn : Value → Value → Option Value
 concatenationOn (value bool n) v = none
 concatenationOn (value (bits width) n) (value bool m) = none
-concatenationOn (value (bits width) n) (value (bits other) m) = onlyIf (leb (width + other) 64) (some (value (bits (width + other)) (joined other n m)))
+concatenationOn (value (bits width) n) (value (bits other) m) =
+    onlyIf (joinFits width other) (some (value (bits (width + other)) (joined other n m)))
 
 -- by a bool's value: the first where it is true, the second where it is false
 unfoldable pub choose : {S A : Type 0} → Value → M S A → M S A → M S A
@@ -292,18 +305,13 @@ afterCall returned = onward
 afterCall (returnedValue v) = onward
 afterCall exited = exited
 
--- a function's body ends with a value, an action's without
+-- a function's body ends with a value
 unfoldable pub bodyEnded : Option Ty → Ending → Option Ending
-bodyEnded none onward = some onward
-bodyEnded none returned = some returned
-bodyEnded none (returnedValue v) = none
-bodyEnded none exited = some exited
-bodyEnded (some t) onward = none
-bodyEnded (some t) returned = none
-bodyEnded (some t) (returnedValue v) = some (returnedValue v)
-bodyEnded (some t) exited = none
+bodyEnded none ending = some ending
+bodyEnded (some t) ending = andLook (valueOf ending) λ v. some (returnedValue v)
 
--- what calls do: with so many slots in use, callable f is given its parameters' numbers. It ends, and leaves its parameters' numbers
+-- what calls do: with so many slots in use, callable f is given its parameters' numbers; it ends, and leaves them
+-- changed
 abbrev pub Calls : Type 0
 Calls = ℕ → ℕ → List ℕ → M (List Cell) (Ending × List ℕ)
 
@@ -316,15 +324,23 @@ unfoldable pub onStore : {A : Type 0} → M (List Cell) A → M State A
 onStore m s = enter s (m (s .store))
 
 -- an argument for out or inout is a writable place of the parameter's type
-unfoldable pub outPlace : Scope → Ty → Option Place → Option Place
-outPlace Γ t none = none
-outPlace Γ t (some p) = andLook (declared Γ p) λ u. onlyIf (writable Γ p && sameTy t u) (some p)
+unfoldable pub declaredAs : Ty → Option Ty → Bool
+declaredAs t none = false
+declaredAs t (some u) = sameTy t u
 
--- what goes in: the value; the place's at that moment; 0 or false
-unfoldable pub goIn : Scope → Entering → Ty → Option Place → M State Value → M State ℕ
-goIn Γ enterValue t place run = run >>= λ v. orStuck (numberOf t v)
-goIn Γ enterPlace t place run = orStuck (outPlace Γ t place) >>= λ _. run >>= λ v. orStuck (numberOf t v)
-goIn Γ enterZero t place run = tick (orStuck (outPlace Γ t place) >>= λ _. pure 0)
+unfoldable pub outPlace : Scope → Ty → Option Place → Bool
+outPlace Γ t none = false
+outPlace Γ t (some p) = writable Γ p && declaredAs t (declared Γ p)
+
+-- what goes in: the argument's value, which of an inout place is the one at that moment; or 0 or false
+unfoldable pub takeIn : Bool → Ty → M State Value → M State ℕ
+takeIn true t run = run >>= λ v. orStuck (numberOf t v)
+takeIn false t run = tick (pure 0)
+
+unfoldable pub goIn : Scope → Parameter → Option Place → M State Value → M State ℕ
+goIn Γ p place run = do
+  asked ← must (not (wantsPlace (p .direction)) || outPlace Γ (p .ty) place)
+  takeIn (goesIn (p .direction)) (p .ty) run
 
 unfoldable pub writeBack : Scope → Option Place → Value → M State (Unit {0})
 writeBack Γ none v = nowhere
@@ -353,7 +369,9 @@ afterBody exited back = pure exited
 module _ (Γ : Scope) (used : ℕ) (calls : Calls) where
   -- a call whose arguments are worked out
   unfoldable pub runCall : ℕ → Args → List Parameter → List ℕ → M State Ending
-  runCall f xs ps ns = onStore (calls used f ns) >>= λ r. afterBody (r .0) (comeBack Γ xs ps (r .1))
+  runCall f xs ps ns = do
+    r ← onStore (calls used f ns)
+    afterBody (r .0) (comeBack Γ xs ps (r .1))
 
   unfoldable mutual
     pub runExpr : Expr → M State Value
@@ -367,14 +385,21 @@ module _ (Γ : Scope) (used : ℕ) (calls : Calls) where
     runExpr (cast at width a) = tick (runExpr a >>= λ v. orStuck (castOn width v))
     runExpr (slice at high low a) = tick (runExpr a >>= λ v. orStuck (sliceOn high low v))
     runExpr (concatenation at a b) = tick (runExpr a >>= λ v. runExpr b >>= λ u. orStuck (concatenationOn v u))
-    runExpr (callExpr at f xs) = tick (orStuck (callableBelow (Γ .program) (Γ .reach) f) >>= λ c. orStuck (c .returns) >>= λ _.
-        runArgs xs (c .parameters) >>= λ ns. runCall f xs (c .parameters) ns >>= λ ending. orStuck (valueOf ending))
+    runExpr (callExpr at f xs) = tick (do
+      c ← orStuck (callableBelow (Γ .program) (Γ .reach) f)
+      t ← orStuck (c .returns)
+      ns ← runArgs xs (c .parameters)
+      ending ← runCall f xs (c .parameters) ns
+      orStuck (valueOf ending))
 
     pub runArgs : Args → List Parameter → M State (List ℕ)
     runArgs noArgs [] = pure []
     runArgs noArgs (p ∷ ps) = nowhere
     runArgs (arg e xs) [] = nowhere
-    runArgs (arg e xs) (p ∷ ps) = goIn Γ (entering (p .direction)) (p .ty) (placeIn e) (runExpr e) >>= λ n. runArgs xs ps >>= λ ns. pure (n ∷ ns)
+    runArgs (arg e xs) (p ∷ ps) = do
+      n ← goIn Γ p (placeIn e) (runExpr e)
+      ns ← runArgs xs ps
+      pure (n ∷ ns)
 
 -- return: a value of its type in a function; without one, as exit, elsewhere
 unfoldable pub returnedFrom : Body → Value → Option Ending
@@ -393,8 +418,12 @@ module _ (Γ : Scope) (used : ℕ) (calls : Calls) (applied : ℕ → M State En
     runStmt (assign at target p e) = tick (runExpr Γ used calls e >>= λ v. writeAt Γ p v >>= λ _. pure onward)
     runStmt (ifElse at c a b) = tick (runExpr Γ used calls c >>= λ v. choose v (runStmt a) (runStmt b))
     runStmt (block at ss) = tick (runStmts ss)
-    runStmt (callStmt at f xs) = tick (orStuck (callableBelow (Γ .program) (Γ .reach) f) >>= λ c. must (mayCall (Γ .body) (c .returns)) >>= λ _.
-        runArgs Γ used calls xs (c .parameters) >>= λ ns. runCall Γ used calls f xs (c .parameters) ns >>= λ ending. pure (afterCall ending))
+    runStmt (callStmt at f xs) = tick (do
+      c ← orStuck (callableBelow (Γ .program) (Γ .reach) f)
+      allowed ← must (mayCall (Γ .body) (c .returns))
+      ns ← runArgs Γ used calls xs (c .parameters)
+      ending ← runCall Γ used calls f xs (c .parameters) ns
+      pure (afterCall ending))
     runStmt (apply at t) = tick (applied t)
     runStmt (returnValue at e) = tick (runExpr Γ used calls e >>= λ v. orStuck (returnedFrom (Γ .body) v))
     runStmt (return at) = tick (notInFunction (Γ .body) returned)
@@ -406,7 +435,7 @@ module _ (Γ : Scope) (used : ℕ) (calls : Calls) (applied : ℕ → M State En
     runStmts noStmts = pure onward
     runStmts (stmt s ss) = runStmt s >>= λ ending. andThenRun ending (runStmts ss)
 
--- a callable's body: locals start at 0 or false; what it leaves is the store and its parameters' numbers
+-- a callable's body: what it leaves is the store and its parameters' numbers
 unfoldable pub left : List ℕ → List Cell → ℕ → Option Ending → Out (List Cell) (Ending × List ℕ)
 left ns cells n none = stuck
 left ns cells n (some ending) = done (ending, ns) cells n
@@ -416,13 +445,19 @@ leave returns (done ending s n) = left (s .parameters) (s .store) n (bodyEnded r
 leave returns stuck = stuck
 leave returns full = full
 
+-- a fresh state: locals at 0 or false
+unfoldable pub fresh : Callable → List ℕ → List Cell → State
+fresh c ns cells = record { store = cells; parameters = ns; locals = map (λ _. 0) (c .locals) }
+
 module _ (capacity : ℕ) (P : Program) where
   -- its slots: one for each parameter and local, above those in use
   unfoldable pub runBody : ℕ → Calls → Callable → ℕ → List ℕ → M (List Cell) (Ending × List ℕ)
-  runBody n lower c used ns cells = let taken = used + (length (c .parameters) + length (c .locals)) in elim (leb taken capacity) [
-    | true ↦ leave (c .returns) (runStmt (scopeOf P n c) taken lower (λ t. nowhere) (c .body) (record { store = cells; parameters = ns; locals = map (λ _. 0) (c .locals) }))
-    | false ↦ full
-  ]
+  runBody n lower c used ns cells =
+      let taken = used + (length (c .parameters) + length (c .locals)) in
+      elim (leb taken capacity) [
+        | true ↦ leave (c .returns) (runStmt (scopeOf P n c) taken lower (λ t. nowhere) (c .body) (fresh c ns cells))
+        | false ↦ full
+      ]
 
   unfoldable pub runNumber : ℕ → Calls → Option Callable → ℕ → List ℕ → M (List Cell) (Ending × List ℕ)
   runNumber n lower none used ns = nowhere
@@ -431,7 +466,10 @@ module _ (capacity : ℕ) (P : Program) where
   -- what the callables below n do
   unfoldable pub callsBelow : ℕ → Calls
   callsBelow zero used f ns = nowhere
-  callsBelow (suc n) used f ns = elim (eqb f n) [ true ↦ runNumber n (callsBelow n) (getElem? (P .callables) n) used ns | false ↦ callsBelow n used f ns ]
+  callsBelow (suc n) used f ns = elim (eqb f n) [
+    | true ↦ runNumber n (callsBelow n) (getElem? (P .callables) n) used ns
+    | false ↦ callsBelow n used f ns
+  ]
 
 -- entries that fit the keys' widths and their action's parameters
 unfoldable pub patternFits : ℕ → Pattern → Bool
@@ -451,9 +489,9 @@ argumentsFit [] (n ∷ ns) = false
 argumentsFit (p ∷ ps) [] = false
 argumentsFit (p ∷ ps) (n ∷ ns) = fits (p .ty) n && argumentsFit ps ns
 
-unfoldable pub given : Option Callable → List ℕ → Bool
-given none ns = false
-given (some c) ns = argumentsFit (c .parameters) ns
+unfoldable pub argumentsGiven : Option Callable → List ℕ → Bool
+argumentsGiven none ns = false
+argumentsGiven (some c) ns = argumentsFit (c .parameters) ns
 
 -- a key's number against an entry's pattern
 unfoldable pub matches : ℕ → Pattern → ℕ → Bool
@@ -497,11 +535,17 @@ pub data Found : Type 0 where
 -- the better of two, of which the first is the earlier
 unfoldable pub better : Bool → Found → Entry → Found
 better longest nothing e = found e
-better longest (found b) e = elim (longest && ltb (prefixOf (b .patterns)) (prefixOf (e .patterns))) [ true ↦ found e | false ↦ found b ]
+better longest (found b) e = elim (longest && ltb (prefixOf (b .patterns)) (prefixOf (e .patterns))) [
+  | true ↦ found e
+  | false ↦ found b
+]
 
 unfoldable pub lookUp : Bool → List Worked → Found → List Entry → Found
 lookUp longest ks best [] = best
-lookUp longest ks best (e ∷ es) = elim (matchesAll ks (e .patterns)) [ true ↦ lookUp longest ks (better longest best e) es | false ↦ lookUp longest ks best es ]
+lookUp longest ks best (e ∷ es) = elim (matchesAll ks (e .patterns)) [
+  | true ↦ lookUp longest ks (better longest best e) es
+  | false ↦ lookUp longest ks best es
+]
 
 unfoldable pub entriesOf : ℕ → List Entry → List Entry
 entriesOf t [] = []
@@ -517,44 +561,56 @@ isFine (fault number at) = false
 
 unfoldable pub entriesFit : Program → Table → List ℕ → List Entry → Bool
 entriesFit P T widths [] = true
-entriesFit P T widths (e ∷ es) = patternsFit widths (e .patterns) && (given (actionAt P T (e .position)) (e .arguments) && entriesFit P T widths es)
+entriesFit P T widths (e ∷ es) =
+    patternsFit widths (e .patterns)
+    && (argumentsGiven (actionAt P T (e .position)) (e .arguments) && entriesFit P T widths es)
 
 -- apply: the keys, then the entry or the default
 module _ (P : Program) (used : ℕ) (calls : Calls) where
   unfoldable pub runKeys : List Key → M State (List Worked)
   runKeys [] = pure []
-  runKeys (k ∷ ks) = runExpr (applyScope P) used calls (k .expr) >>= λ v. orStuck (worked v) >>= λ w. runKeys ks >>= λ ws. pure (w ∷ ws)
+  runKeys (k ∷ ks) = do
+    v ← runExpr (applyScope P) used calls (k .expr)
+    w ← orStuck (worked v)
+    ws ← runKeys ks
+    pure (w ∷ ws)
 
   unfoldable pub runAction : Table → ℕ → List ℕ → M State Ending
-  runAction T position ns = orStuck (getElem? (T .actions) position) >>= λ a. orStuck (getElem? (P .callables) (a .number)) >>= λ c.
-      must (listable c && argumentsFit (c .parameters) ns) >>= λ _.
-      onStore (calls used (a .number) ns) >>= λ r. pure (afterCall (r .0))
+  runAction T position ns = do
+    a ← orStuck (getElem? (T .actions) position)
+    c ← orStuck (getElem? (P .callables) (a .number))
+    asked ← must (listable c && argumentsFit (c .parameters) ns)
+    r ← onStore (calls used (a .number) ns)
+    pure (afterCall (r .0))
 
   unfoldable pub runFound : Table → Found → M State Ending
   runFound T (found e) = runAction T (e .position) (e .arguments)
   runFound T nothing = runAction T (T .default .number) (map (λ n. n .number) (T .arguments))
 
   unfoldable pub runTable : List Entry → ℕ → M State Ending
-  runTable entries t = orStuck (getElem? (P .tables) t) >>= λ T. runKeys (T .keys) >>= λ ks.
-      must (isFine (oneLpm false (T .keys)) && entriesFit P T (map (λ k. k .width) ks) (entriesOf t entries)) >>= λ _.
-      runFound T (lookUp (longestWins (T .keys)) ks nothing (entriesOf t entries))
+  runTable entries t = do
+    T ← orStuck (getElem? (P .tables) t)
+    ks ← runKeys (T .keys)
+    asked ← must (isFine (oneLpm false (T .keys)) && entriesFit P T (map (λ k. k .width) ks) (entriesOf t entries))
+    runFound T (lookUp (longestWins (T .keys)) ks nothing (entriesOf t entries))
 
 -- the whole run: the apply body, with the store's slots in use; return ends it as its last statement does
-unfoldable pub signalOf : Ending → Option Signal
-signalOf onward = some Done
-signalOf returned = some Done
-signalOf (returnedValue v) = none
-signalOf exited = some Exit
-
-unfoldable pub finished : List Cell → ℕ → Option Signal → Out (List Cell) Signal
-finished cells n none = stuck
-finished cells n (some signal) = done signal cells n
+unfoldable pub signalOf : Ending → Signal
+signalOf onward = Done
+signalOf returned = Done
+signalOf (returnedValue v) = Done
+signalOf exited = Exit
 
 unfoldable pub finish : Out State Ending → Out (List Cell) Signal
-finish (done ending s n) = finished (s .store) n (signalOf ending)
+finish (done ending s n) = done (signalOf ending) (s .store) n
 finish stuck = stuck
 finish full = full
 
+unfoldable pub started : List Cell → State
+started cells = record { store = cells; parameters = []; locals = [] }
+
 unfoldable pub runProgram : ℕ → Program → List Entry → List Cell → Out (List Cell) Signal
-runProgram capacity P entries store = let used = length (slotsOf store) in let calls = callsBelow capacity P (length (P .callables)) in
-    finish (runStmt (applyScope P) used calls (runTable P used calls entries) (P .body) (record { store = store; parameters = []; locals = [] }))
+runProgram capacity P entries store =
+    let used = length (slotsOf store) in
+    let calls = callsBelow capacity P (length (P .callables)) in
+    finish (runStmt (applyScope P) used calls (runTable P used calls entries) (P .body) (started store))

@@ -1,8 +1,9 @@
--- The tree of a program (document 01, "The bench file"). `at` is the index of a node's tag in the list of numbers (of a callable its kind,
--- of anything else its first number): refusals speak of places. The running rules look at none of them.
+-- The tree of a program (document 01, "The bench file"). `at` is the index of a node's tag in the list of numbers
+-- (of a callable its kind, of anything else its first number): refusals speak of places. The running rules look at
+-- none of them.
 use mathlib.Core.Option.{Option, none, some}
 use Prim.Native.Nat.{ℕ}
-use mathlib.Core.List.{List, [], _∷_}
+use mathlib.Core.List.{List}
 
 -- types, and values: a value carries its type; a bool is 0 or 1
 pub data Ty : Type 0 where
@@ -47,43 +48,43 @@ pub data Operator : Type 0 where
   equality : Equality → Operator
   logic : Logic → Operator
 
--- what can be written: a local, a parameter, a global, a field of a global
+-- what tags 2 to 5 name: a local, a parameter, a global, a field of a global
 pub data Place : Type 0 where
-  local parameter global : ℕ → Place
-  field : ℕ → ℕ → Place
+  local parameter global : (number : ℕ) → Place
+  field : (number field : ℕ) → Place
 
 mutual
   pub data Expr : Type 0 where
-    boolLiteral : ℕ → ℕ → Expr
-    bitsLiteral : ℕ → ℕ → ℕ → Expr
-    readOf : ℕ → Place → Expr
-    validOf : ℕ → ℕ → Expr
-    negation : ℕ → Expr → Expr
-    complement : ℕ → Expr → Expr
-    binary : ℕ → Operator → Expr → Expr → Expr
-    cast : ℕ → ℕ → Expr → Expr
-    slice : ℕ → ℕ → ℕ → Expr → Expr
-    concatenation : ℕ → Expr → Expr → Expr
-    callExpr : ℕ → ℕ → Args → Expr
+    boolLiteral : (at number : ℕ) → Expr
+    bitsLiteral : (at width number : ℕ) → Expr
+    readOf : (at : ℕ) → Place → Expr
+    validOf : (at global : ℕ) → Expr
+    negation : (at : ℕ) → Expr → Expr
+    complement : (at : ℕ) → Expr → Expr
+    binary : (at : ℕ) → Operator → Expr → Expr → Expr
+    cast : (at width : ℕ) → Expr → Expr
+    slice : (at high low : ℕ) → Expr → Expr
+    concatenation : (at : ℕ) → Expr → Expr → Expr
+    callExpr : (at callable : ℕ) → Args → Expr
 
   pub data Args : Type 0 where
     noArgs : Args
     arg : Expr → Args → Args
 
+-- `target` is the index of the target's own tag
 mutual
   pub data Stmt : Type 0 where
-    empty : ℕ → Stmt
-    -- the second number is the target's own tag
-    assign : ℕ → ℕ → Place → Expr → Stmt
-    ifElse : ℕ → Expr → Stmt → Stmt → Stmt
-    block : ℕ → Stmts → Stmt
-    callStmt : ℕ → ℕ → Args → Stmt
-    apply : ℕ → ℕ → Stmt
-    returnValue : ℕ → Expr → Stmt
-    return : ℕ → Stmt
-    exit : ℕ → Stmt
-    setValid : ℕ → ℕ → Stmt
-    setInvalid : ℕ → ℕ → Stmt
+    empty : (at : ℕ) → Stmt
+    assign : (at target : ℕ) → Place → Expr → Stmt
+    ifElse : (at : ℕ) → Expr → Stmt → Stmt → Stmt
+    block : (at : ℕ) → Stmts → Stmt
+    callStmt : (at callable : ℕ) → Args → Stmt
+    apply : (at table : ℕ) → Stmt
+    returnValue : (at : ℕ) → Expr → Stmt
+    return : (at : ℕ) → Stmt
+    exit : (at : ℕ) → Stmt
+    setValid : (at global : ℕ) → Stmt
+    setInvalid : (at global : ℕ) → Stmt
 
   pub data Stmts : Type 0 where
     noStmts : Stmts
@@ -119,7 +120,7 @@ pub record Key : Type 0 where
   pub kind : KeyKind
   pub expr : Expr
 
--- the actions are callable numbers, the default is a position among them; `countAt` is the index of the default's argument count
+-- the actions are callable numbers, the default is a position among them; `countAt` is where its argument count stands
 pub record Table : Type 0 where
   pub at : ℕ
   pub keys : List Key

@@ -1,9 +1,13 @@
--- Patterns of 1 to 64 bits (document 01, "How it runs", first paragraph; entries of "What is well formed"). Each is a natural number
--- below 2^width; every result is stated once, for all widths.
+-- Patterns of 1 to 64 bits (document 01, "How it runs", first paragraph; the keys of entries in "What is well formed").
+-- Each is a natural number below 2^width; every result is stated once, for all widths.
 use mathlib.Core.Bool.{Bool, true, false, _&&_}
 use Prim.Native.Nat.{ℕ, suc, _+_, _-_, _*_, _/_, _%_, _^_}
 use lib.Dec.{ltb, leb, eqb}
-use lib.Bits.{bitAnd, bitOr, bitXor}
+use lib.Bits.{bitAnd}
+
+-- the most bits of a pattern
+abbrev pub widest : ℕ
+widest = 64
 
 -- the largest number of a width
 unfoldable pub largest : ℕ → ℕ
@@ -36,14 +40,20 @@ shiftedRight width a by = elim (ltb by width) [ true ↦ a / 2 ^ by | false ↦ 
 unfoldable pub castTo : ℕ → ℕ → ℕ
 castTo width a = a % 2 ^ width
 
--- the bits from `high` down to `low`, both counted from 0
+-- the bits from `high` down to `low`, both counted from 0: low ≤ high < width
+unfoldable pub sliceFits : ℕ → ℕ → ℕ → Bool
+sliceFits high low width = leb low high && ltb high width
+
 unfoldable pub sliceWidth : ℕ → ℕ → ℕ
 sliceWidth high low = suc high - low
 
 unfoldable pub sliceOf : ℕ → ℕ → ℕ → ℕ
 sliceOf high low a = a / 2 ^ low % 2 ^ sliceWidth high low
 
--- a in front of b, which has so many bits
+-- a in front of b, which has so many bits: together at most 64
+unfoldable pub joinFits : ℕ → ℕ → Bool
+joinFits front width = leb (front + width) widest
+
 unfoldable pub joined : ℕ → ℕ → ℕ → ℕ
 joined width a b = a * 2 ^ width + b
 
@@ -54,7 +64,7 @@ prefixMatches width prefix value key = eqb (key / 2 ^ (width - prefix)) (value /
 unfoldable pub prefixFits : ℕ → ℕ → ℕ → Bool
 prefixFits width value prefix = leb prefix width && eqb (value % 2 ^ (width - prefix)) 0
 
--- ternary keys: the bits of the mask agree; bits outside the mask are 0
+-- ternary keys: the bits of the mask agree; an entry's bits outside the mask are 0
 unfoldable pub maskMatches : ℕ → ℕ → ℕ → Bool
 maskMatches mask value key = eqb (bitAnd key mask) value
 
