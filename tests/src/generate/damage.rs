@@ -18,11 +18,15 @@ pub fn damage_numbers(random: &mut Random, draft: &mut Draft) {
     }
 }
 
+/// Entries and store are in the last numbers of a file.
+const LAST: usize = 16;
+
 /// One number becomes an edge of its own list, or steps over it.
 fn to_an_edge(random: &mut Random, draft: &mut Draft) {
     let only_free = random.chance(75);
+    let first = if random.chance(30) { draft.len().saturating_sub(LAST) } else { 0 };
     let wanted = |index: &usize| !only_free || draft.entries[*index].free;
-    let indices: Vec<usize> = (0..draft.len()).filter(wanted).collect();
+    let indices: Vec<usize> = (first..draft.len()).filter(wanted).collect();
     if indices.is_empty() {
         return;
     }
