@@ -194,7 +194,7 @@ impl Builder<'_> {
         true
     }
 
-    /// The wanted callables that can be called here: affordable, and with a place for each parameter that is written back.
+    /// The wanted callables that can be called here: affordable, and with a place for each parameter written back.
     fn callees(&self, scope: &Scope, wanted: impl Fn(&Signature) -> bool) -> Vec<usize> {
         let left = self.allowance.saturating_sub(self.ceiling);
         let has_place = |parameter: &Parameter| {
