@@ -1,6 +1,7 @@
-//! Well formed statements and expressions.
+//! Statements and expressions; well formed but for slips.
 
 use super::draft::Sort;
+use super::plan::Statements;
 use super::program::Builder;
 use super::scope::*;
 use crate::tree::*;
@@ -8,6 +9,7 @@ use crate::tree::*;
 impl Builder<'_> {
     /// An expression of a type.
     pub fn expression(&mut self, scope: &Scope, kind: Type, depth: usize) {
+        let kind = if self.slips() { self.kind() } else { kind };
         let start = self.draft.len();
         self.ceiling += 1;
         if !self.has_room(depth) || self.random.chance(25) {
@@ -20,7 +22,7 @@ impl Builder<'_> {
 
     /// A place or a literal.
     fn leaf(&mut self, scope: &Scope, kind: Type) {
-        let places = scope.places(&self.declared, kind);
+        let places = self.places(scope, kind);
         if !places.is_empty() && self.random.chance(70) {
             let place = self.random.choose(&places);
             return self.place(scope, place, 0, 13);
@@ -33,6 +35,15 @@ impl Builder<'_> {
             }
         }
         self.push_value(kind);
+    }
+
+    /// The places of a type that can be read here; after a slip the globals in a function too.
+    fn places(&mut self, scope: &Scope, kind: Type) -> Vec<Place> {
+        if self.slips() {
+            Scope::outside(scope.reach).places(&self.declared, kind)
+        } else {
+            scope.places(&self.declared, kind)
+        }
     }
 
     fn tag(&mut self, tag: u64) {
@@ -99,13 +110,16 @@ impl Builder<'_> {
     }
 
     fn valid(&mut self, scope: &Scope, depth: usize) {
-        let headers = scope.headers(&self.declared);
-        if headers.is_empty() {
-            return self.not(scope, depth);
-        }
-        let header = self.random.choose(&headers);
+        let Some(header) = self.header(scope) else { return self.not(scope, depth) };
         self.tag(6);
         self.draft.push_name(header, self.declared.globals.len());
+    }
+
+    /// A header that can be named here; after a slip any global.
+    fn header(&mut self, scope: &Scope) -> Option<usize> {
+        let globals = self.declared.globals.len();
+        let headers = if self.slips() { (0..globals).collect() } else { scope.headers(&self.declared) };
+        (!headers.is_empty()).then(|| self.random.choose(&headers))
     }
 
     fn not(&mut self, scope: &Scope, depth: usize) {
@@ -152,9 +166,9 @@ impl Builder<'_> {
     fn slice(&mut self, scope: &Scope, width: u32, depth: usize) {
         let whole = self.width().max(width);
         let low = self.random.between(0, u64::from(whole - width));
-        let high = low + u64::from(width) - 1;
+        let high = low + u64::from(width) - u64::from(!self.slips());
         self.tag(11);
-        self.draft.push_free(high, 0, 63);
+        self.draft.push_free(high.min(63), 0, 63);
         self.draft.push_free(low, 0, 63);
         self.expression(scope, Type::Bits(whole), depth + 1);
     }
@@ -169,7 +183,8 @@ impl Builder<'_> {
 
     /// A call of a function that returns the type, if there is one for this scope.
     fn call_for_value(&mut self, scope: &Scope, kind: Type, depth: usize) -> bool {
-        let candidates = self.callees(scope, |signature| signature.returns() == Some(kind));
+        let any = self.slips();
+        let candidates = self.callees(scope, |signature| any || signature.returns() == Some(kind));
         if candidates.is_empty() {
             return false;
         }
@@ -179,7 +194,7 @@ impl Builder<'_> {
         true
     }
 
-    /// The wanted callables that can be called here: affordable, and with a place for each parameter that is written back.
+    /// The wanted callables that can be called here: affordable, and with a place for each parameter written back.
     fn callees(&self, scope: &Scope, wanted: impl Fn(&Signature) -> bool) -> Vec<usize> {
         let left = self.allowance.saturating_sub(self.ceiling);
         let has_place = |parameter: &Parameter| {
@@ -197,20 +212,30 @@ impl Builder<'_> {
         let parameters = self.declared.callables[callee].parameters.clone();
         self.ceiling += self.declared.callables[callee].ceiling;
         self.draft.push_name(callee, scope.reach);
-        self.draft.push(parameters.len() as u64, 0, 8);
+        let count = if self.slips() { parameters.len() ^ 1 } else { parameters.len() };
+        self.draft.push(count as u64, 0, 8);
         let mut used: Vec<Place> = Vec::new();
-        for parameter in parameters {
-            if parameter.direction.writes() {
-                let place = self.writable_argument(scope, parameter.kind, &used);
-                used.push(place);
-                let start = self.draft.len();
-                self.ceiling += 1;
-                self.place(scope, place, 0, 13);
-                self.draft.close(Sort::Expression, start);
-            } else {
-                self.expression(scope, parameter.kind, depth + 1);
+        for index in 0..count {
+            match parameters.get(index) {
+                Some(parameter) if parameter.direction.writes() && !self.slips() => {
+                    used.push(self.place_argument(scope, parameter.kind, &used));
+                }
+                parameter => {
+                    let kind = parameter.map_or(Type::Bool, |parameter| parameter.kind);
+                    self.expression(scope, kind, depth + 1);
+                }
             }
         }
+    }
+
+    /// An argument that is a writable place, if there is one.
+    fn place_argument(&mut self, scope: &Scope, kind: Type, used: &[Place]) -> Place {
+        let place = self.writable_argument(scope, kind, used);
+        let start = self.draft.len();
+        self.ceiling += 1;
+        self.place(scope, place, 0, 13);
+        self.draft.close(Sort::Expression, start);
+        place
     }
 
     fn writable_argument(&mut self, scope: &Scope, kind: Type, used: &[Place]) -> Place {
@@ -232,18 +257,23 @@ impl Builder<'_> {
         } else if self.random.chance(self.plan.repeats) {
             self.repeat(scope, depth);
         } else {
-            match self.random.between(0, 19) {
-                0 => self.statement_tag(0),
-                1..=6 => self.assign(scope, depth),
-                7..=9 => self.choice(scope, depth),
-                10..=13 => self.block(scope, depth),
-                14 | 15 => self.call_statement(scope, depth),
-                16 | 17 => self.apply(scope, depth),
-                18 => self.set_header(scope, depth),
-                _ => self.ending(scope, depth),
-            }
+            self.any_statement(scope, depth);
         }
         self.draft.close(Sort::Statement, start);
+    }
+
+    fn any_statement(&mut self, scope: &Scope, depth: usize) {
+        let Statements { empty, assign, choice, block, call, apply, header, ending } = self.plan.statements;
+        match self.random.by_share(&[empty, assign, choice, block, call, apply, header, ending]) {
+            0 => self.statement_tag(0),
+            1 => self.assign(scope, depth),
+            2 => self.choice(scope, depth),
+            3 => self.block(scope, depth),
+            4 => self.call_statement(scope, depth),
+            5 => self.apply(scope, depth),
+            6 => self.set_header(scope, depth),
+            _ => self.ending(scope, depth),
+        }
     }
 
     fn statement_tag(&mut self, tag: u64) {
@@ -251,7 +281,8 @@ impl Builder<'_> {
     }
 
     fn assign(&mut self, scope: &Scope, depth: usize) {
-        let targets = scope.targets(&self.declared);
+        let slip = self.slips();
+        let targets = scope.targets(&self.declared, slip);
         if targets.is_empty() {
             return self.statement_tag(0);
         }
@@ -282,7 +313,8 @@ impl Builder<'_> {
     }
 
     fn call_statement(&mut self, scope: &Scope, depth: usize) {
-        let candidates = self.callees(scope, |signature| Self::may_call(scope, signature));
+        let any = self.slips();
+        let candidates = self.callees(scope, |signature| any || Self::may_call(scope, signature));
         if candidates.is_empty() {
             return self.block(scope, depth);
         }
@@ -312,7 +344,7 @@ impl Builder<'_> {
     }
 
     fn apply(&mut self, scope: &Scope, depth: usize) {
-        if scope.holder.is_some() || self.declared.tables.is_empty() {
+        if self.declared.tables.is_empty() || (scope.holder.is_some() && !self.slips()) {
             return self.assign(scope, depth);
         }
         let table = self.random.index(self.declared.tables.len());
@@ -324,11 +356,7 @@ impl Builder<'_> {
     }
 
     fn set_header(&mut self, scope: &Scope, depth: usize) {
-        let headers = scope.headers(&self.declared);
-        if headers.is_empty() {
-            return self.assign(scope, depth);
-        }
-        let header = self.random.choose(&headers);
+        let Some(header) = self.header(scope) else { return self.assign(scope, depth) };
         let tag = self.random.between(9, 10);
         self.statement_tag(tag);
         self.draft.push_name(header, self.declared.globals.len());
@@ -336,10 +364,19 @@ impl Builder<'_> {
 
     /// A statement that ends its body or the run.
     fn ending(&mut self, scope: &Scope, depth: usize) {
-        match scope.holder {
-            Some(CallableKind::Function(returned)) => {
+        let turned_round = self.slips();
+        let returned = match scope.holder {
+            Some(CallableKind::Function(returned)) => Some(returned),
+            _ => None,
+        };
+        match returned {
+            Some(returned) if !turned_round => {
                 self.statement_tag(6);
                 self.expression(scope, returned, depth + 1);
+            }
+            None if turned_round => {
+                self.statement_tag(6);
+                self.expression(scope, Type::Bool, depth + 1);
             }
             _ => {
                 let tag = self.random.between(7, 8);

@@ -1,6 +1,6 @@
 //! Faults for a bench file: in its numbers, and in its bytes.
 
-use super::draft::{Draft, Entry, Sort, Subtree};
+use super::draft::{Draft, Item, Sort, Subtree};
 use super::random::Random;
 use crate::numbers::{self, MOST_BYTES};
 
@@ -18,16 +18,20 @@ pub fn damage_numbers(random: &mut Random, draft: &mut Draft) {
     }
 }
 
+/// Entries and store are in the last numbers of a file.
+const LAST: usize = 16;
+
 /// One number becomes an edge of its own list, or steps over it.
 fn to_an_edge(random: &mut Random, draft: &mut Draft) {
     let only_free = random.chance(75);
-    let wanted = |index: &usize| !only_free || draft.entries[*index].free;
-    let indices: Vec<usize> = (0..draft.len()).filter(wanted).collect();
+    let first = if random.chance(30) { draft.len().saturating_sub(LAST) } else { 0 };
+    let wanted = |index: &usize| !only_free || draft.items[*index].free;
+    let indices: Vec<usize> = (first..draft.len()).filter(wanted).collect();
     if indices.is_empty() {
         return;
     }
     let index = random.choose(&indices);
-    let Entry { value, least, most, .. } = draft.entries[index];
+    let Item { value, least, most, .. } = draft.items[index];
     let edges = [
         least,
         most,
@@ -39,7 +43,7 @@ fn to_an_edge(random: &mut Random, draft: &mut Draft) {
         127 + random.between(0, 10),
         u64::MAX,
     ];
-    draft.entries[index].value = random.choose(&edges);
+    draft.items[index].value = random.choose(&edges);
 }
 
 fn subtree(random: &mut Random, draft: &Draft, sort: Sort) -> Option<Subtree> {
@@ -48,8 +52,8 @@ fn subtree(random: &mut Random, draft: &Draft, sort: Sort) -> Option<Subtree> {
 }
 
 /// Put other numbers in a subtree's stead; the other subtrees are known no more.
-fn put(draft: &mut Draft, subtree: Subtree, numbers: Vec<Entry>) {
-    draft.entries.splice(subtree.start..subtree.end, numbers);
+fn put(draft: &mut Draft, subtree: Subtree, numbers: Vec<Item>) {
+    draft.items.splice(subtree.start..subtree.end, numbers);
     draft.subtrees.clear();
 }
 
@@ -61,7 +65,7 @@ fn any_sort(random: &mut Random) -> Sort {
 fn replace_subtree(random: &mut Random, draft: &mut Draft) {
     let sort = any_sort(random);
     if let (Some(old), Some(new)) = (subtree(random, draft, sort), subtree(random, draft, sort)) {
-        let copy = draft.entries[new.start..new.end].to_vec();
+        let copy = draft.items[new.start..new.end].to_vec();
         put(draft, old, copy);
     }
 }
@@ -72,15 +76,15 @@ fn exchange(random: &mut Random, draft: &mut Draft) {
     let (Some(one), Some(other)) = (subtree(random, draft, sort), subtree(random, draft, sort)) else { return };
     let (first, second) = if one.start <= other.start { (one, other) } else { (other, one) };
     if first.end <= second.start {
-        let copy = draft.entries[first.start..first.end].to_vec();
-        let moved = draft.entries[second.start..second.end].to_vec();
+        let copy = draft.items[first.start..first.end].to_vec();
+        let moved = draft.items[second.start..second.end].to_vec();
         put(draft, second, copy);
         put(draft, first, moved);
     }
 }
 
-fn entries(numbers: &[u64]) -> Vec<Entry> {
-    numbers.iter().map(|&value| Entry { value, least: 0, most: value, free: false }).collect()
+fn items(numbers: &[u64]) -> Vec<Item> {
+    numbers.iter().map(|&value| Item { value, least: 0, most: value, free: false }).collect()
 }
 
 /// A short statement takes the place of another one: returns, exits, calls and applies where they may not stand.
@@ -88,7 +92,7 @@ fn replace_statement(random: &mut Random, draft: &mut Draft) {
     let short: [&[u64]; 10] =
         [&[0], &[7], &[8], &[6, 0, 1], &[6, 1, 8, 7], &[5, 0], &[9, 0], &[10, 0], &[4, 0, 0], &[1, 3, 0, 3, 0]];
     if let Some(old) = subtree(random, draft, Sort::Statement) {
-        put(draft, old, entries(random.choose(&short)));
+        put(draft, old, items(random.choose(&short)));
     }
 }
 
@@ -101,8 +105,8 @@ fn deepen(random: &mut Random, draft: &mut Draft) {
     };
     if let Some(old) = subtree(random, draft, sort) {
         let levels = random.between(1, 34) as usize;
-        let mut numbers = entries(&level.repeat(levels));
-        numbers.extend_from_slice(&draft.entries[old.start..old.end]);
+        let mut numbers = items(&level.repeat(levels));
+        numbers.extend_from_slice(&draft.items[old.start..old.end]);
         put(draft, old, numbers);
     }
 }
@@ -110,7 +114,7 @@ fn deepen(random: &mut Random, draft: &mut Draft) {
 fn cut_short(random: &mut Random, draft: &mut Draft) {
     let last = draft.len() - 1;
     let kept = if random.chance(50) { last.saturating_sub(random.index(6)) } else { random.index(draft.len()) };
-    draft.entries.truncate(kept);
+    draft.items.truncate(kept);
     draft.subtrees.clear();
 }
 
@@ -124,9 +128,9 @@ fn leave_over(random: &mut Random, draft: &mut Draft) {
 fn remove_or_repeat(random: &mut Random, draft: &mut Draft) {
     let index = random.index(draft.len());
     if random.chance(50) {
-        draft.entries.remove(index);
+        draft.items.remove(index);
     } else {
-        draft.entries.insert(index, draft.entries[index]);
+        draft.items.insert(index, draft.items[index]);
     }
     draft.subtrees.clear();
 }

@@ -2,7 +2,7 @@
 
 /// A number and the list it is from.
 #[derive(Clone, Copy)]
-pub struct Entry {
+pub struct Item {
     pub value: u64,
     pub least: u64,
     pub most: u64,
@@ -26,27 +26,27 @@ pub struct Subtree {
 
 #[derive(Default)]
 pub struct Draft {
-    pub entries: Vec<Entry>,
+    pub items: Vec<Item>,
     pub subtrees: Vec<Subtree>,
 }
 
 impl Draft {
     pub fn len(&self) -> usize {
-        self.entries.len()
+        self.items.len()
     }
 
     pub fn is_empty(&self) -> bool {
-        self.entries.is_empty()
+        self.items.is_empty()
     }
 
     /// Add a version, count, kind or tag, from a list that runs from `least` to `most`.
     pub fn push(&mut self, value: u64, least: u64, most: u64) {
-        self.entries.push(Entry { value, least, most, free: false });
+        self.items.push(Item { value, least, most, free: false });
     }
 
     /// Add any other number from such a list.
     pub fn push_free(&mut self, value: u64, least: u64, most: u64) {
-        self.entries.push(Entry { value, least, most, free: true });
+        self.items.push(Item { value, least, most, free: true });
     }
 
     /// Add a name among so many.
@@ -60,6 +60,6 @@ impl Draft {
     }
 
     pub fn numbers(&self) -> Vec<u64> {
-        self.entries.iter().map(|entry| entry.value).collect()
+        self.items.iter().map(|item| item.value).collect()
     }
 }

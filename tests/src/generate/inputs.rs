@@ -10,9 +10,9 @@ pub type Store = Vec<Vec<u64>>;
 
 impl Builder<'_> {
     /// Entries and store after the program.
-    pub fn inputs(&mut self, most_entries: u64) {
+    pub fn inputs(&mut self) {
         let store = self.store();
-        self.entries(&store, most_entries);
+        self.entries(&store);
         for (index, numbers) in store.iter().enumerate() {
             self.push_variable(self.declared.globals[index], numbers);
         }
@@ -49,9 +49,8 @@ impl Builder<'_> {
         }
     }
 
-    fn entries(&mut self, store: &Store, most: u64) {
-        let most = if self.declared.tables.is_empty() { 0 } else { most };
-        let count = self.random.between(0, most);
+    fn entries(&mut self, store: &Store) {
+        let count = if self.declared.tables.is_empty() { 0 } else { self.random.within(self.plan.entries) };
         self.draft.push(count, 0, 64);
         for _ in 0..count {
             self.entry(store);
@@ -81,13 +80,14 @@ impl Builder<'_> {
             KeyKind::Exact => self.draft.push_free(value, 0, all),
             KeyKind::Lpm => {
                 let length = self.prefix_length(key.width);
-                let prefix = all ^ largest(key.width - length as u32);
+                let prefix = if self.slips() { all } else { all ^ largest(key.width - length as u32) };
                 self.draft.push_free(value & prefix, 0, all);
                 self.draft.push_free(length, 0, u64::from(key.width));
             }
             KeyKind::Ternary => {
                 let mask = self.random.value(Type::Bits(key.width));
-                self.draft.push_free(value & mask, 0, all);
+                let kept = if self.slips() { all } else { mask };
+                self.draft.push_free(value & kept, 0, all);
                 self.draft.push_free(mask, 0, all);
             }
         }

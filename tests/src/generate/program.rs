@@ -1,31 +1,18 @@
-//! A well formed program: declarations, callables, tables and the apply body.
+//! A program: declarations, callables, tables and the apply body; well formed but for slips that its plan asks for.
 
 use super::draft::{Draft, Sort};
+use super::plan::Plan;
 use super::random::Random;
 use super::scope::*;
 use crate::tree::*;
 use crate::value::largest;
-
-/// How large a program gets.
-pub struct Plan {
-    pub globals: u64,
-    pub fewest_callables: u64,
-    pub most_callables: u64,
-    pub tables: u64,
-    /// How many numbers a body has, roughly.
-    pub body: usize,
-    /// What the ceiling of the apply body stays under.
-    pub ceiling: u64,
-    /// How often, of a hundred, a statement repeats a call as often as it can.
-    pub repeats: u64,
-}
 
 pub struct Builder<'r> {
     pub random: &'r mut Random,
     pub draft: Draft,
     pub declared: Declared,
     pub plan: Plan,
-    /// The types that the program uses, few so that places fit.
+    /// The types that the program uses.
     kinds: Vec<Type>,
     /// At least the ceiling of the body at hand so far.
     pub ceiling: u64,
@@ -35,13 +22,15 @@ pub struct Builder<'r> {
     full: usize,
 }
 
-const WIDTHS: [u32; 14] = [1, 2, 3, 4, 7, 8, 9, 16, 31, 32, 33, 48, 63, 64];
+const WIDTHS: [u32; 18] = [1, 2, 3, 4, 4, 5, 6, 7, 7, 8, 8, 9, 16, 32, 33, 48, 63, 64];
+/// How often, of a hundred, a rule of form that can be broken is.
+const SLIP: u64 = 8;
 const DEEP: usize = 29;
 
 impl<'r> Builder<'r> {
     pub fn new(random: &'r mut Random, plan: Plan) -> Builder<'r> {
         let mut kinds = vec![Type::Bool];
-        for _ in 0..random.between(1, 3) {
+        for _ in 0..random.within(plan.widths) {
             kinds.push(Type::Bits(random.choose(&WIDTHS)));
         }
         let declared = Declared::default();
@@ -53,7 +42,7 @@ impl<'r> Builder<'r> {
         self.draft.push(1, 1, 1);
         self.headers();
         self.globals();
-        let callables = self.random.between(self.plan.fewest_callables, self.plan.most_callables);
+        let callables = self.random.within(self.plan.callables);
         self.draft.push(callables, 0, 16);
         for number in 0..callables {
             self.callable(number as usize);
@@ -66,10 +55,10 @@ impl<'r> Builder<'r> {
     /// Mostly a block, so that one thing follows another.
     fn apply_body(&mut self) {
         let scope = Scope::outside(self.declared.callables.len());
-        if self.random.chance(15) {
+        let members = self.random.within(self.plan.members);
+        if members == 1 {
             return self.statement(&scope, 1);
         }
-        let members = self.random.between(2, 6);
         let start = self.draft.len();
         self.ceiling += 1;
         self.draft.push(3, 0, 10);
@@ -91,6 +80,13 @@ impl<'r> Builder<'r> {
         }
     }
 
+    /// Whether a rule of form is not kept here.
+    pub fn slips(&mut self) -> bool {
+        let slips = self.plan.slips > 0 && self.random.chance(SLIP);
+        self.plan.slips -= u64::from(slips);
+        slips
+    }
+
     /// Whether the body at hand has room for a construct with parts.
     pub fn has_room(&self, depth: usize) -> bool {
         depth < DEEP && self.draft.len() < self.full && self.ceiling < self.allowance
@@ -103,7 +99,7 @@ impl<'r> Builder<'r> {
     }
 
     fn headers(&mut self) {
-        let count = self.random.between(0, 3);
+        let count = self.random.within(self.plan.headers);
         self.draft.push(count, 0, 8);
         for _ in 0..count {
             let fields = self.random.between(1, 4);
@@ -117,7 +113,7 @@ impl<'r> Builder<'r> {
     }
 
     fn globals(&mut self) {
-        let count = self.random.between(0, self.plan.globals);
+        let count = self.random.within(self.plan.globals);
         self.draft.push(count, 0, 32);
         for _ in 0..count {
             let headers = self.declared.headers.len();
@@ -139,17 +135,17 @@ impl<'r> Builder<'r> {
     }
 
     fn callable(&mut self, number: usize) {
-        let for_tables = number == 0 || self.random.chance(30);
+        let for_tables = self.random.chance(self.plan.table_actions);
         let kind = self.callable_kind(for_tables);
         let parameters = self.parameters(for_tables);
-        let locals = self.random.between(0, 3);
+        let locals = self.random.within(self.plan.locals);
         self.draft.push(locals, 0, 8);
         let locals = (0..locals).map(|_| self.push_kind()).collect();
         let scope = Scope { reach: number, holder: Some(kind), parameters, locals };
         self.body_begins(self.plan.ceiling / 3);
         match kind {
-            CallableKind::Action => self.statement(&scope, 1),
-            CallableKind::Function(returned) => self.returning_statement(&scope, returned, 1),
+            CallableKind::Function(returned) if !self.slips() => self.returning_statement(&scope, returned, 1),
+            _ => self.statement(&scope, 1),
         }
         let Scope { parameters, .. } = scope;
         self.declared.callables.push(Signature { kind, parameters, ceiling: self.ceiling });
@@ -167,7 +163,7 @@ impl<'r> Builder<'r> {
 
     fn parameters(&mut self, for_tables: bool) -> Vec<Parameter> {
         use Direction::*;
-        let count = self.random.between(0, 3);
+        let count = self.random.within(self.plan.parameters);
         self.draft.push(count, 0, 8);
         let mut parameters = Vec::new();
         for _ in 0..count {
@@ -179,14 +175,19 @@ impl<'r> Builder<'r> {
     }
 
     fn tables(&mut self) {
-        let callables = &self.declared.callables;
-        let actions: Vec<usize> = (0..callables.len()).filter(|&number| callables[number].is_for_tables()).collect();
-        let most = if actions.is_empty() { 0 } else { self.plan.tables };
-        let count = self.random.between(0, most);
+        let actions = self.table_actions();
+        let count = if actions.is_empty() { 0 } else { self.random.within(self.plan.tables) };
         self.draft.push(count, 0, 8);
         for _ in 0..count {
             self.table(&actions);
         }
+    }
+
+    /// The callables that a table may list; after a slip all.
+    fn table_actions(&mut self) -> Vec<usize> {
+        let any = self.slips();
+        let callables = &self.declared.callables;
+        (0..callables.len()).filter(|&number| any || callables[number].is_for_tables()).collect()
     }
 
     fn table(&mut self, actions: &[usize]) {
@@ -200,9 +201,10 @@ impl<'r> Builder<'r> {
         let default = self.random.index(listed.len());
         self.draft.push_name(default, listed.len());
         let parameters = self.declared.callables[listed[default]].parameters.clone();
-        self.draft.push(parameters.len() as u64, 0, 8);
-        for parameter in parameters {
-            self.push_value(parameter.kind);
+        let count = if self.slips() { parameters.len() ^ 1 } else { parameters.len() };
+        self.draft.push(count as u64, 0, 8);
+        for index in 0..count {
+            self.push_value(parameters.get(index).map_or(Type::Bool, |parameter| parameter.kind));
         }
         self.declared.tables.push(DeclaredTable { keys, actions: listed });
     }
@@ -212,9 +214,9 @@ impl<'r> Builder<'r> {
         self.draft.push(count, 1, 4);
         let mut keys: Vec<DeclaredKey> = Vec::new();
         for _ in 0..count {
-            let kind = self.random.choose(&[KeyKind::Exact, KeyKind::Lpm, KeyKind::Ternary]);
+            let kind = self.random.choose(&[KeyKind::Exact, KeyKind::Lpm, KeyKind::Lpm, KeyKind::Ternary]);
             let second_lpm = kind == KeyKind::Lpm && keys.iter().any(|key| key.kind == KeyKind::Lpm);
-            let kind = if second_lpm { KeyKind::Exact } else { kind };
+            let kind = if second_lpm && !self.slips() { KeyKind::Exact } else { kind };
             self.draft.push(key_kind_number(kind), 0, 2);
             keys.push(self.key(kind));
         }
@@ -226,7 +228,7 @@ impl<'r> Builder<'r> {
         let scope = Scope::outside(self.declared.callables.len());
         let places = scope.bits_places(&self.declared);
         let start = self.draft.len();
-        if places.is_empty() || self.random.chance(25) {
+        if places.is_empty() || self.random.chance(self.plan.computed_keys) {
             let width = self.width();
             self.body_begins(200);
             self.full = start + 12;
@@ -239,11 +241,11 @@ impl<'r> Builder<'r> {
         DeclaredKey { kind, width, reads: Some(place) }
     }
 
-    /// A number that fits the type.
-    pub fn push_value(&mut self, kind: Type) -> u64 {
-        let value = self.random.value(kind);
-        self.draft.push_free(value, 0, largest_number(kind));
-        value
+    /// A number that fits the type; after a slip the first one that does not.
+    pub fn push_value(&mut self, kind: Type) {
+        let most = largest_number(kind);
+        let value = if self.slips() { most.saturating_add(1) } else { self.random.value(kind) };
+        self.draft.push_free(value, 0, most);
     }
 }
 

@@ -1,5 +1,6 @@
 //! Random numbers that depend on their seed alone.
 
+use super::plan::Range;
 use super::program::largest_number;
 use crate::tree::Type;
 
@@ -39,6 +40,22 @@ impl Random {
 
     pub fn choose<T: Copy>(&mut self, members: &[T]) -> T {
         members[self.index(members.len())]
+    }
+
+    pub fn within(&mut self, range: Range) -> u64 {
+        self.between(range.0, range.1)
+    }
+
+    /// An index, drawn by its share.
+    pub fn by_share(&mut self, shares: &[u64]) -> usize {
+        let mut rest = self.between(0, shares.iter().sum::<u64>() - 1);
+        for (index, &share) in shares.iter().enumerate() {
+            if rest < share {
+                return index;
+            }
+            rest -= share;
+        }
+        unreachable!("the number drawn is below the sum of the shares")
     }
 
     /// A value of the type, often at an edge.

@@ -101,9 +101,9 @@ impl Scope {
         of_type(self.all_places(declared, true), kind)
     }
 
-    /// All writable places with their types.
-    pub fn targets(&self, declared: &Declared) -> Vec<(Place, Type)> {
-        self.all_places(declared, true)
+    /// All writable places with their types; after a slip all places.
+    pub fn targets(&self, declared: &Declared, slip: bool) -> Vec<(Place, Type)> {
+        self.all_places(declared, !slip)
     }
 
     /// All places of bits with their widths.
