@@ -1,0 +1,308 @@
+// The shape of a program: refusals 5 and 4 over the list of numbers. A reader descends into operands itself and builds no tree.
+ghost use mathlib.Core.Path.{_≡_};
+ghost use Prim.Native.Nat.{ℕ, _+_, _<_};
+ghost use lib.ListN.{length, getElem?};
+ghost use Rattle.rules.specs.Reading.{number, between, standsFor, repeat, tooDeep, operators, readExpr};
+ghost use Rattle.shape.specs.Scans.{scanOf, readLiteral, valueOf, leadBy, argumentsLead, callLead, exprForm, exprLead, LeadsExpr};
+
+// The widest bit string.
+const WIDEST: u64 = 64;
+// The highest bound of a slice.
+const HIGHEST_BOUND: u64 = 63;
+// The last operator's number.
+const LAST_OPERATOR: u64 = 13;
+// The longest list of arguments.
+const MOST_ARGUMENTS: u64 = 8;
+
+// What reading at an index finds: the index after what was read; or the fault, 5 or 4, and the index of the number at fault.
+pub enum Scan {
+    Past(usize),
+    Fault { number: u64, index: usize },
+}
+
+// A number with its value, and the index after it; or the fault.
+enum Value {
+    Of { value: u64, next: usize },
+    Unread { number: u64, index: usize },
+}
+
+// An expression or a statement up to its operands: where they begin, how many there are, and how many statements follow them.
+enum Lead {
+    On {
+        next: usize,
+        operands: usize,
+        statements: usize,
+    },
+    Off {
+        number: u64,
+        index: usize,
+    },
+}
+
+// What stands behind an expression's tag.
+enum ExprForm {
+    Number,
+    Field,
+    Literal,
+    Operand,
+    Binary,
+    Cast,
+    Slice,
+    Operands,
+    Call,
+    Unlisted,
+}
+
+// A number of any value.
+fn any_number(nums: &[u64], at: usize) -> Scan
+    ensures { λ r. ⌜ r ≡ scanOf number (now (nums .entry)) at ⌝ }
+{
+    if at < nums.len() {
+        Scan::Past(at + 1)
+    } else {
+        Scan::Fault {
+            number: 4,
+            index: at,
+        }
+    }
+}
+
+// A number from `least` to `most`, with its value.
+fn value_in(nums: &[u64], least: u64, most: u64, at: usize) -> Value
+    ensures { λ r. ⌜ r ≡ valueOf least most (now (nums .entry)) at ⌝ }
+{
+    if at < nums.len() {
+        let n = nums[at];
+        if n < least {
+            Value::Unread {
+                number: 4,
+                index: at,
+            }
+        } else if most < n {
+            Value::Unread {
+                number: 4,
+                index: at,
+            }
+        } else {
+            Value::Of {
+                value: n,
+                next: at + 1,
+            }
+        }
+    } else {
+        Value::Unread {
+            number: 4,
+            index: at,
+        }
+    }
+}
+
+// A number from `least` to `most`.
+fn number_in(nums: &[u64], least: u64, most: u64, at: usize) -> Scan
+    ensures { λ r. ⌜ r ≡ scanOf (between least most) (now (nums .entry)) at ⌝ }
+{
+    let value = value_in(nums, least, most, at);
+    match value {
+        Value::Of { value: _, next } => Scan::Past(next),
+        Value::Unread { number, index } => Scan::Fault { number, index },
+    }
+}
+
+// Two numbers of any value.
+fn two_numbers(nums: &[u64], at: usize) -> Scan
+    ensures { λ r. ⌜ r ≡ scanOf (repeat 2 number) (now (nums .entry)) at ⌝ }
+{
+    let first = any_number(nums, at);
+    match first {
+        Scan::Past(next) => any_number(nums, next),
+        Scan::Fault { number, index } => Scan::Fault { number, index },
+    }
+}
+
+// A width.
+fn width_at(nums: &[u64], at: usize) -> Scan
+    ensures { λ r. ⌜ r ≡ scanOf (between 1 64) (now (nums .entry)) at ⌝ }
+{
+    number_in(nums, 1, WIDEST, at)
+}
+
+// A literal's width and value.
+fn literal_at(nums: &[u64], at: usize) -> Scan
+    ensures { λ r. ⌜ r ≡ scanOf readLiteral (now (nums .entry)) at ⌝ }
+{
+    let width = width_at(nums, at);
+    match width {
+        Scan::Past(next) => any_number(nums, next),
+        Scan::Fault { number, index } => Scan::Fault { number, index },
+    }
+}
+
+// The two bounds of a slice.
+fn bounds_at(nums: &[u64], at: usize) -> Scan
+    ensures { λ r. ⌜ r ≡ scanOf (repeat 2 (between 0 63)) (now (nums .entry)) at ⌝ }
+{
+    let high = number_in(nums, 0, HIGHEST_BOUND, at);
+    match high {
+        Scan::Past(next) => number_in(nums, 0, HIGHEST_BOUND, next),
+        Scan::Fault { number, index } => Scan::Fault { number, index },
+    }
+}
+
+// An operator of the version's list.
+fn operator_at(nums: &[u64], version: u64, at: usize) -> Scan
+    ensures { λ r. ⌜ r ≡ scanOf (standsFor (getElem? (operators version))) (now (nums .entry)) at ⌝ }
+{
+    number_in(nums, 0, LAST_OPERATOR, at)
+}
+
+// The lead that ends where a scan of its numbers does.
+fn lead_by(numbers: Scan, operands: usize, statements: usize) -> Lead
+    ensures { λ r. ⌜ r ≡ leadBy numbers operands statements ⌝ }
+{
+    match numbers {
+        Scan::Past(next) => Lead::On {
+            next: next,
+            operands: operands,
+            statements: statements,
+        },
+        Scan::Fault { number, index } => Lead::Off { number, index },
+    }
+}
+
+// A call up to its arguments: the callable's number and the count.
+fn call_lead(nums: &[u64], at: usize) -> Lead
+    ensures { λ r. ⌜ r ≡ callLead (now (nums .entry)) (scanOf number (now (nums .entry)) at) ⌝ }
+{
+    let callable = any_number(nums, at);
+    match callable {
+        Scan::Past(next) => arguments_lead(nums, next),
+        Scan::Fault { number, index } => Lead::Off { number, index },
+    }
+}
+
+// A list of arguments up to the first of them.
+fn arguments_lead(nums: &[u64], at: usize) -> Lead
+    ensures { λ r. ⌜ r ≡ argumentsLead (valueOf 0 8 (now (nums .entry)) at) ⌝ }
+{
+    let count = value_in(nums, 0, MOST_ARGUMENTS, at);
+    match count {
+        Value::Of { value, next } => Lead::On {
+            next: next,
+            operands: value as usize,
+            statements: 0,
+        },
+        Value::Unread { number, index } => Lead::Off { number, index },
+    }
+}
+
+// What stands behind an expression's tag, in the version's list of tags.
+fn expr_form(version: u64, tag: u64) -> ExprForm
+    ensures { λ r. ⌜ r ≡ exprForm version tag ⌝ }
+{
+    match tag {
+        0 => ExprForm::Number,
+        1 => ExprForm::Literal,
+        2 => ExprForm::Number,
+        3 => ExprForm::Number,
+        4 => ExprForm::Number,
+        5 => ExprForm::Field,
+        6 => ExprForm::Number,
+        7 => ExprForm::Operand,
+        8 => ExprForm::Operand,
+        9 => ExprForm::Binary,
+        10 => ExprForm::Cast,
+        11 => ExprForm::Slice,
+        12 => ExprForm::Operands,
+        13 => ExprForm::Call,
+        _ => ExprForm::Unlisted,
+    }
+}
+
+// The lead of an expression of that form whose tag is at `at`.
+fn form_lead(nums: &[u64], version: u64, form: ExprForm, at: usize) -> Lead
+    requires { ⌜ at < length (now nums) ⌝ }
+    ensures { λ r. ⌜ r ≡ exprLead version form (now (nums .entry)) at ⌝ }
+{
+    let next = at + 1;
+    match form {
+        ExprForm::Number => lead_by(any_number(nums, next), 0, 0),
+        ExprForm::Field => lead_by(two_numbers(nums, next), 0, 0),
+        ExprForm::Literal => lead_by(literal_at(nums, next), 0, 0),
+        ExprForm::Operand => lead_by(Scan::Past(next), 1, 0),
+        ExprForm::Binary => lead_by(operator_at(nums, version, next), 2, 0),
+        ExprForm::Cast => lead_by(width_at(nums, next), 1, 0),
+        ExprForm::Slice => lead_by(bounds_at(nums, next), 1, 0),
+        ExprForm::Operands => lead_by(Scan::Past(next), 2, 0),
+        ExprForm::Call => call_lead(nums, next),
+        ExprForm::Unlisted => Lead::Off {
+            number: 4,
+            index: at,
+        },
+    }
+}
+
+// The lead of the expression at `at`.
+fn expr_lead(nums: &[u64], version: u64, at: usize) -> Lead
+    ensures { λ r. ⌜ LeadsExpr version (now (nums .entry)) at r ⌝ }
+{
+    if at < nums.len() {
+        let tag = nums[at];
+        form_lead(nums, version, expr_form(version, tag), at)
+    } else {
+        Lead::Off {
+            number: 4,
+            index: at,
+        }
+    }
+}
+
+// A tag where no further level is allowed.
+fn too_deep(nums: &[u64], at: usize) -> Scan
+    ensures { λ r. ⌜ r ≡ scanOf (tooDeep {A = ℕ}) (now (nums .entry)) at ⌝ }
+{
+    if at < nums.len() {
+        Scan::Fault {
+            number: 5,
+            index: at,
+        }
+    } else {
+        Scan::Fault {
+            number: 4,
+            index: at,
+        }
+    }
+}
+
+// The end of the expression at `at`, with so many levels allowed.
+pub fn scan_expr(nums: &[u64], version: u64, depth: usize, at: usize) -> Scan
+    ensures { λ r. ⌜ r ≡ scanOf (readExpr version depth) (now (nums .entry)) at ⌝ }
+{
+    if depth == 0 {
+        too_deep(nums, at)
+    } else {
+        let lead = expr_lead(nums, version, at);
+        match lead {
+            Lead::On {
+                next,
+                operands,
+                statements: _,
+            } => scan_exprs(nums, version, depth - 1, operands, next),
+            Lead::Off { number, index } => Scan::Fault { number, index },
+        }
+    }
+}
+
+// The end of so many expressions, one after the other.
+fn scan_exprs(nums: &[u64], version: u64, depth: usize, count: usize, at: usize) -> Scan
+    ensures { λ r. ⌜ r ≡ scanOf (repeat count (readExpr version depth)) (now (nums .entry)) at ⌝ }
+{
+    if count == 0 {
+        Scan::Past(at)
+    } else {
+        let first = scan_expr(nums, version, depth, at);
+        match first {
+            Scan::Past(next) => scan_exprs(nums, version, depth, count - 1, next),
+            Scan::Fault { number, index } => Scan::Fault { number, index },
+        }
+    }
+}
