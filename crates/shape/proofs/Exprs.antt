@@ -13,7 +13,7 @@ use Rattle.rules.specs.Reading.{Got, got, bad, Reader, _>>=_, pure, here, numbe
 use Rattle.rules.specs.Reading.{PlaceTag, tagLocal, tagParameter, tagGlobal, tagField, ExprTag, tagBool, tagBits, tagPlace, tagValid, tagNot, tagComplement, tagBinary, tagCast, tagSlice, tagConcatenation, tagCall}
 use Rattle.rules.specs.Reading.{operators, exprTags, readPlace, readExprAs, readExpr}
 use Rattle.rules.proofs.Readers.{Keeps, keeps-then, keeps-pure, keeps-number, keeps-stands, keeps-between, keeps-repeat, keeps-list, keeps-place, keeps-expr}
-use Rattle.shape.specs.Scans.{scanOf, readLiteral, valueOf, leadBy, onLead, argumentsLead, callLead, formOf, exprForm, exprLead, Counts, LeadsExpr}
+use Rattle.shape.specs.Scans.{scanOf, onScan, readLiteral, valueOf, leadBy, onLead, argumentsLead, callLead, formOf, exprForm, exprLead, Counts, LeadsExpr}
 use Rattle.shape.specs.declared.Scan.{Scan}
 use Rattle.shape.specs.declared.Scan.the-variants.{Past, Fault}
 use Rattle.shape.specs.declared.Value.{Value}
@@ -23,7 +23,7 @@ use Rattle.shape.specs.declared.Lead.the-variants.{On, Off}
 use Rattle.shape.specs.declared.ExprForm.{ExprForm}
 use Rattle.shape.specs.declared.ExprForm.the-variants.{Number, Field, Literal, Operand, Binary, Cast, Slice, Operands, Call, Unlisted}
 use Rattle.shape.proofs.Rank.{rank, to-list, to-member, to-rest}
-use Rattle.shape.proofs.Laws.{onValue, onScan, on-past, on-fault, Scans, scans-self, scans-then, scans-pure, scans-last, scans-as, scan-here, stands-is, stands-none, stands-out}
+use Rattle.shape.proofs.Laws.{onValue, on-past, on-fault, Scans, scans-self, scans-then, scans-pure, scans-last, scans-as, scan-here, stands-is, stands-none, stands-out}
 use Rattle.shape.proofs.Laws.{none-past, deep-same, repeat-none, repeat-past, repeat-fault, scans-none, scans-one, scans-two, list-scan, spans-scan, spans-list, AtMost, value-most}
 
 -- the numbers behind a tag
@@ -96,7 +96,7 @@ pub ruleset leads = (lead-on, lead-off, arguments-on, arguments-off, call-on, ca
 pub form-of : (version n tag : ℕ) (f : ExprForm) → n ≡ tag → f ≡ exprForm version tag → f ≡ exprForm version n
 form-of version n tag f e q = rw e q
 
-above : (n k : ℕ) → k ≤ n → (n ≡ k → ⊥) → suc k ≤ n
+pub above : (n k : ℕ) → k ≤ n → (n ≡ k → ⊥) → suc k ≤ n
 above n k h x = omega arith
 
 pub form-none : (version n : ℕ) → (n ≡ 0 → ⊥) → (n ≡ 1 → ⊥) → (n ≡ 2 → ⊥) → (n ≡ 3 → ⊥) → (n ≡ 4 → ⊥) → (n ≡ 5 → ⊥) → (n ≡ 6 → ⊥)
@@ -207,12 +207,12 @@ call-scan {A} {B} {one} {k} {nums} K h g e =
     go (Past next) = counted (valueOf 0 8 nums next)
     go (Fault fault index) = refl
 
-scans-field : (version : ℕ) (nums : List ℕ) → Scans (readPlace version tagField) nums (scanOf (repeat 2 number) nums)
+pub scans-field : (version : ℕ) (nums : List ℕ) → Scans (readPlace version tagField) nums (scanOf (repeat 2 number) nums)
 unfolding readPlace
 scans-field version nums =
     scans-as (scans-then keeps-number (scans-self number nums) λ g. scans-last keeps-number (scans-self number nums) λ f. scans-pure _) (scans-two keeps-number)
 
-scans-place : (version : ℕ) (nums : List ℕ) → Scans (readPlace version tagLocal) nums (scanOf number nums)
+pub scans-place : (version : ℕ) (nums : List ℕ) → Scans (readPlace version tagLocal) nums (scanOf number nums)
     × Scans (readPlace version tagParameter) nums (scanOf number nums) × Scans (readPlace version tagGlobal) nums (scanOf number nums)
 unfolding readPlace
 scans-place version nums = (
@@ -285,7 +285,7 @@ module _ (version depth : ℕ) (nums : List ℕ) (at : ℕ) where
   expr-missing h = scan-here nums at behind
       ∙ stands-out (getElem? (exprTags version)) (λ tag. readExprAs version tag at (readExpr version depth)) nums at h
 
-counts-by : (s : Scan) (n m : ℕ) → n < 2 ^ 64 → m < 2 ^ 64 → Counts (leadBy s n m)
+pub counts-by : (s : Scan) (n m : ℕ) → n < 2 ^ 64 → m < 2 ^ 64 → Counts (leadBy s n m)
 unfolding leadBy Counts
 counts-by (Past next) n m h l = (h, l)
 counts-by (Fault fault index) n m h l = tt

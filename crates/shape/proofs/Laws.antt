@@ -11,7 +11,7 @@ use lib.Dec.{ltb, leb, leb·zero, leb·suc-suc}
 use borrow.Author.Tests.{lt-ltb, le-ltb, le-leb, lt-leb, ltb-true, ltb-false}
 use Rattle.rules.specs.Reading.{Got, got, bad, Reader, andThen, _>>=_, pure, here, number, meaning, lookedUp, standsFor, between, within, repeat, listOf, tooDeep}
 use Rattle.rules.proofs.Readers.{Kept, Keeps, keeps-pure, keeps-repeat, keeps-between, looked-in, looked-out, number-in, number-out, deep-in, deep-out}
-use Rattle.shape.specs.Scans.{forget, scanOf, valued, valueOf}
+use Rattle.shape.specs.Scans.{forget, scanOf, onScan, valued, valueOf}
 use Rattle.shape.specs.declared.Scan.{Scan}
 use Rattle.shape.specs.declared.Scan.the-variants.{Past, Fault}
 use Rattle.shape.specs.declared.Value.{Value}
@@ -101,10 +101,6 @@ deep-same A nums at = go (drop at nums)
 pub ruleset leaves = (number-is, number-missing, value-is, value-low, value-high, value-missing, between-past, between-fault, deep-is, deep-missing)
 
 -- one reader behind another
-unfoldable pub onScan : Scan → (ℕ → Scan) → Scan
-onScan (Past next) k = k next
-onScan (Fault number index) k = Fault number index
-
 pub on-past : (a r : Scan) (n : ℕ) (k : ℕ → Scan) → a ≡ Past n → r ≡ k n → r ≡ onScan a k
 unfolding onScan
 on-past a r n k p q = rw p q
@@ -113,12 +109,12 @@ pub on-fault : (a : Scan) (number index : ℕ) (k : ℕ → Scan) → a ≡ Faul
 unfolding onScan
 on-fault a number index k p = rw p
 
-on-same : (a : Scan) (k l : ℕ → Scan) → ((n : ℕ) → k n ≡ l n) → onScan a k ≡ onScan a l
+pub on-same : (a : Scan) (k l : ℕ → Scan) → ((n : ℕ) → k n ≡ l n) → onScan a k ≡ onScan a l
 unfolding onScan
 on-same (Past n) k l e = e n
 on-same (Fault number index) k l e = refl
 
-on-last : (a : Scan) → onScan a Past ≡ a
+pub on-last : (a : Scan) → onScan a Past ≡ a
 unfolding onScan
 on-last (Past n) = refl
 on-last (Fault number index) = refl

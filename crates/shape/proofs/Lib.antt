@@ -1,3 +1,4 @@
 mod Laws
 mod Rank
 mod Exprs
+mod Stmts

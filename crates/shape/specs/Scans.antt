@@ -6,13 +6,18 @@ use mathlib.Core.Path.{_≡_}
 use lib.ListN.{drop, getElem?}
 use Rattle.rules.specs.Reading.{Got, got, bad, Reader, _>>=_, number, between, standsFor, repeat, tooDeep}
 use Rattle.rules.specs.Reading.{PlaceTag, tagLocal, tagParameter, tagGlobal, tagField, ExprTag, tagBool, tagBits, tagPlace, tagValid, tagNot, tagComplement, tagBinary, tagCast, tagSlice, tagConcatenation, tagCall}
-use Rattle.rules.specs.Reading.{operators, exprTags, readExpr}
+use Rattle.rules.specs.Reading.{StmtTag, tagEmpty, tagAssign, tagIf, tagBlock, tagCallStmt, tagApply, tagReturnValue, tagReturn, tagExit, tagSetValid, tagSetInvalid}
+use Rattle.rules.specs.Reading.{operators, exprTags, placeTagOf, stmtTags, readExpr, readTarget, readStmt}
 use Rattle.shape.specs.declared.Scan.{Scan}
 use Rattle.shape.specs.declared.Scan.the-variants.{Past, Fault}
 use Rattle.shape.specs.declared.Value.{Value}
 use Rattle.shape.specs.declared.Value.the-variants.{Of, Unread}
 use Rattle.shape.specs.declared.Lead.{Lead}
 use Rattle.shape.specs.declared.Lead.the-variants.{On, Off}
+use Rattle.shape.specs.declared.PlaceForm.{PlaceForm}
+use Rattle.shape.specs.declared.PlaceForm.the-variants.{OneNumber, TwoNumbers, NoPlace}
+use Rattle.shape.specs.declared.StmtForm.{StmtForm}
+use Rattle.shape.specs.declared.StmtForm.the-variants.{Bare, Assign, If, Block, CallStmt, Named, Returned, NoStmt}
 use Rattle.shape.specs.declared.ExprForm.{ExprForm}
 use Rattle.shape.specs.declared.ExprForm.the-variants.{Number, Field, Literal, Operand, Binary, Cast, Slice, Operands, Call, Unlisted}
 
@@ -24,6 +29,11 @@ forget (bad number index) = Fault number index
 -- what a reader makes of the numbers from an index on
 unfoldable pub scanOf : {A : Type 0} → Reader A → List ℕ → ℕ → Scan
 scanOf read nums at = forget (read (drop at nums) at)
+
+-- one thing behind another
+unfoldable pub onScan : Scan → (ℕ → Scan) → Scan
+onScan (Past next) k = k next
+onScan (Fault number index) k = Fault number index
 
 -- a literal's width and value
 unfoldable pub readLiteral : Reader ℕ
@@ -97,4 +107,59 @@ Counts (Off number index) = Unit
 pub record LeadsExpr (version : ℕ) (nums : List ℕ) (at : ℕ) (lead : Lead) : Type 0 where
   pub expr : (depth : ℕ) → scanOf (readExpr version (suc depth)) nums at
       ≡ onLead lead (λ next operands statements. scanOf (repeat operands (readExpr version depth)) nums next)
+  pub counts : Counts lead
+
+-- what stands behind the tag of an assignment's target
+unfoldable pub placeFormOf : Option PlaceTag → PlaceForm
+placeFormOf none = NoPlace
+placeFormOf (some tagLocal) = OneNumber
+placeFormOf (some tagParameter) = OneNumber
+placeFormOf (some tagGlobal) = OneNumber
+placeFormOf (some tagField) = TwoNumbers
+
+unfoldable pub placeForm : ℕ → ℕ → PlaceForm
+placeForm version n = placeFormOf (placeTagOf version (getElem? (exprTags version) n))
+
+unfoldable pub placeScan : PlaceForm → List ℕ → ℕ → Scan
+placeScan OneNumber nums at = scanOf number nums (at + 1)
+placeScan TwoNumbers nums at = scanOf (repeat 2 number) nums (at + 1)
+placeScan NoPlace nums at = Fault 4 at
+
+-- what stands behind a statement's tag
+unfoldable pub stmtFormOf : Option StmtTag → StmtForm
+stmtFormOf none = NoStmt
+stmtFormOf (some tagEmpty) = Bare
+stmtFormOf (some tagAssign) = Assign
+stmtFormOf (some tagIf) = If
+stmtFormOf (some tagBlock) = Block
+stmtFormOf (some tagCallStmt) = CallStmt
+stmtFormOf (some tagApply) = Named
+stmtFormOf (some tagReturnValue) = Returned
+stmtFormOf (some tagReturn) = Bare
+stmtFormOf (some tagExit) = Bare
+stmtFormOf (some tagSetValid) = Named
+stmtFormOf (some tagSetInvalid) = Named
+
+unfoldable pub stmtForm : ℕ → ℕ → StmtForm
+stmtForm version n = stmtFormOf (getElem? (stmtTags version) n)
+
+-- a block up to its members
+unfoldable pub blockLead : Value → Lead
+blockLead (Of count next) = On next 0 count
+blockLead (Unread number index) = Off number index
+
+unfoldable pub stmtLead : ℕ → ℕ → StmtForm → List ℕ → ℕ → Lead
+stmtLead version depth Bare nums at = leadBy (Past (at + 1)) 0 0
+stmtLead version depth Assign nums at = leadBy (scanOf (readTarget version depth) nums (at + 1)) 1 0
+stmtLead version depth If nums at = leadBy (Past (at + 1)) 1 2
+stmtLead version depth Block nums at = blockLead (valueOf 0 64 nums (at + 1))
+stmtLead version depth CallStmt nums at = callLead nums (scanOf number nums (at + 1))
+stmtLead version depth Named nums at = leadBy (scanOf number nums (at + 1)) 0 0
+stmtLead version depth Returned nums at = leadBy (Past (at + 1)) 1 0
+stmtLead version depth NoStmt nums at = Off 4 at
+
+-- the lead of a statement at an index, with so many levels allowed below it: with its operands and statements it is the statement
+pub record LeadsStmt (version depth : ℕ) (nums : List ℕ) (at : ℕ) (lead : Lead) : Type 0 where
+  pub stmt : scanOf (readStmt version (suc depth)) nums at ≡ onLead lead (λ next operands statements.
+      onScan (scanOf (repeat operands (readExpr version depth)) nums next) (scanOf (repeat statements (readStmt version depth)) nums))
   pub counts : Counts lead

@@ -2,8 +2,9 @@
 ghost use mathlib.Core.Path.{_≡_};
 ghost use Prim.Native.Nat.{ℕ, _+_, _<_};
 ghost use lib.ListN.{length, getElem?};
-ghost use Rattle.rules.specs.Reading.{number, between, standsFor, repeat, tooDeep, operators, readExpr};
-ghost use Rattle.shape.specs.Scans.{scanOf, readLiteral, valueOf, leadBy, argumentsLead, callLead, exprForm, exprLead, LeadsExpr};
+ghost use Rattle.rules.specs.Reading.{number, between, standsFor, repeat, tooDeep, operators, readExpr, readTarget, readStmt};
+ghost use Rattle.shape.specs.Scans.{scanOf, readLiteral, valueOf, leadBy, argumentsLead, callLead, blockLead, exprForm, exprLead, LeadsExpr};
+ghost use Rattle.shape.specs.Scans.{placeForm, placeScan, stmtForm, stmtLead, LeadsStmt};
 
 // The widest bit string.
 const WIDEST: u64 = 64;
@@ -13,6 +14,9 @@ const HIGHEST_BOUND: u64 = 63;
 const LAST_OPERATOR: u64 = 13;
 // The longest list of arguments.
 const MOST_ARGUMENTS: u64 = 8;
+
+// The longest block.
+const MOST_MEMBERS: u64 = 64;
 
 // What reading at an index finds: the index after what was read; or the fault, 5 or 4, and the index of the number at fault.
 pub enum Scan {
@@ -51,6 +55,25 @@ enum ExprForm {
     Operands,
     Call,
     Unlisted,
+}
+
+// What stands behind the tag of an assignment's target.
+enum PlaceForm {
+    OneNumber,
+    TwoNumbers,
+    NoPlace,
+}
+
+// What stands behind a statement's tag.
+enum StmtForm {
+    Bare,
+    Assign,
+    If,
+    Block,
+    CallStmt,
+    Named,
+    Returned,
+    NoStmt,
 }
 
 // A number of any value.
@@ -302,6 +325,162 @@ fn scan_exprs(nums: &[u64], version: u64, depth: usize, count: usize, at: usize)
         let first = scan_expr(nums, version, depth, at);
         match first {
             Scan::Past(next) => scan_exprs(nums, version, depth, count - 1, next),
+            Scan::Fault { number, index } => Scan::Fault { number, index },
+        }
+    }
+}
+
+// What stands behind the tag of an assignment's target, in the version's list of tags.
+fn place_form(version: u64, tag: u64) -> PlaceForm
+    ensures { λ r. ⌜ r ≡ placeForm version tag ⌝ }
+{
+    match tag {
+        2 => PlaceForm::OneNumber,
+        3 => PlaceForm::OneNumber,
+        4 => PlaceForm::OneNumber,
+        5 => PlaceForm::TwoNumbers,
+        _ => PlaceForm::NoPlace,
+    }
+}
+
+// The end of a target of that form whose tag is at `at`.
+fn place_at(nums: &[u64], form: PlaceForm, at: usize) -> Scan
+    requires { ⌜ at < length (now nums) ⌝ }
+    ensures { λ r. ⌜ r ≡ placeScan form (now (nums .entry)) at ⌝ }
+{
+    match form {
+        PlaceForm::OneNumber => any_number(nums, at + 1),
+        PlaceForm::TwoNumbers => two_numbers(nums, at + 1),
+        PlaceForm::NoPlace => Scan::Fault {
+            number: 4,
+            index: at,
+        },
+    }
+}
+
+// The end of an assignment's target, with so many levels allowed.
+fn target_at(nums: &[u64], version: u64, depth: usize, at: usize) -> Scan
+    ensures { λ r. ⌜ r ≡ scanOf (readTarget version depth) (now (nums .entry)) at ⌝ }
+{
+    if depth == 0 {
+        too_deep(nums, at)
+    } else if at < nums.len() {
+        let tag = nums[at];
+        place_at(nums, place_form(version, tag), at)
+    } else {
+        Scan::Fault {
+            number: 4,
+            index: at,
+        }
+    }
+}
+
+// A block up to the first of its members.
+fn block_lead(nums: &[u64], at: usize) -> Lead
+    ensures { λ r. ⌜ r ≡ blockLead (valueOf 0 64 (now (nums .entry)) at) ⌝ }
+{
+    let count = value_in(nums, 0, MOST_MEMBERS, at);
+    match count {
+        Value::Of { value, next } => Lead::On {
+            next: next,
+            operands: 0,
+            statements: value as usize,
+        },
+        Value::Unread { number, index } => Lead::Off { number, index },
+    }
+}
+
+// What stands behind a statement's tag, in the version's list of tags.
+fn stmt_form(version: u64, tag: u64) -> StmtForm
+    ensures { λ r. ⌜ r ≡ stmtForm version tag ⌝ }
+{
+    match tag {
+        0 => StmtForm::Bare,
+        1 => StmtForm::Assign,
+        2 => StmtForm::If,
+        3 => StmtForm::Block,
+        4 => StmtForm::CallStmt,
+        5 => StmtForm::Named,
+        6 => StmtForm::Returned,
+        7 => StmtForm::Bare,
+        8 => StmtForm::Bare,
+        9 => StmtForm::Named,
+        10 => StmtForm::Named,
+        _ => StmtForm::NoStmt,
+    }
+}
+
+// The lead of a statement of that form whose tag is at `at`, with so many levels allowed below it.
+fn stmt_form_lead(nums: &[u64], version: u64, depth: usize, form: StmtForm, at: usize) -> Lead
+    requires { ⌜ at < length (now nums) ⌝ }
+    ensures { λ r. ⌜ r ≡ stmtLead version depth form (now (nums .entry)) at ⌝ }
+{
+    let next = at + 1;
+    match form {
+        StmtForm::Bare => lead_by(Scan::Past(next), 0, 0),
+        StmtForm::Assign => lead_by(target_at(nums, version, depth, next), 1, 0),
+        StmtForm::If => lead_by(Scan::Past(next), 1, 2),
+        StmtForm::Block => block_lead(nums, next),
+        StmtForm::CallStmt => call_lead(nums, next),
+        StmtForm::Named => lead_by(any_number(nums, next), 0, 0),
+        StmtForm::Returned => lead_by(Scan::Past(next), 1, 0),
+        StmtForm::NoStmt => Lead::Off {
+            number: 4,
+            index: at,
+        },
+    }
+}
+
+// The lead of the statement at `at`, with so many levels allowed below it.
+fn stmt_lead(nums: &[u64], version: u64, depth: usize, at: usize) -> Lead
+    ensures { λ r. ⌜ LeadsStmt version depth (now (nums .entry)) at r ⌝ }
+{
+    if at < nums.len() {
+        let tag = nums[at];
+        stmt_form_lead(nums, version, depth, stmt_form(version, tag), at)
+    } else {
+        Lead::Off {
+            number: 4,
+            index: at,
+        }
+    }
+}
+
+// The end of the statement at `at`, with so many levels allowed.
+pub fn scan_stmt(nums: &[u64], version: u64, depth: usize, at: usize) -> Scan
+    ensures { λ r. ⌜ r ≡ scanOf (readStmt version depth) (now (nums .entry)) at ⌝ }
+{
+    if depth == 0 {
+        too_deep(nums, at)
+    } else {
+        let lead = stmt_lead(nums, version, depth - 1, at);
+        match lead {
+            Lead::On {
+                next,
+                operands,
+                statements,
+            } => {
+                let operands_end = scan_exprs(nums, version, depth - 1, operands, next);
+                match operands_end {
+                    Scan::Past(after) => scan_stmts(nums, version, depth - 1, statements, after),
+                    Scan::Fault { number, index } => Scan::Fault { number, index },
+                }
+            }
+            Lead::Off { number, index } => Scan::Fault { number, index },
+        }
+    }
+}
+
+// The end of so many statements, one after the other.
+fn scan_stmts(nums: &[u64], version: u64, depth: usize, count: usize, at: usize) -> Scan
+    ensures { λ r. ⌜ r ≡ scanOf (repeat count (readStmt version depth)) (now (nums .entry)) at ⌝ }
+{
+    if count == 0 {
+        Scan::Past(at)
+    } else {
+        let first = scan_stmt(nums, version, depth, at);
+        match first {
+            Scan::Past(next) => scan_stmts(nums, version, depth, count - 1, next),
             Scan::Fault { number, index } => Scan::Fault { number, index },
         }
     }
