@@ -13,7 +13,7 @@ use Rattle.rules.specs.Reading.{Got, got, bad, Reader, _>>=_, pure, here, numbe
 use Rattle.rules.specs.Reading.{PlaceTag, tagLocal, tagParameter, tagGlobal, tagField, ExprTag, tagBool, tagBits, tagPlace, tagValid, tagNot, tagComplement, tagBinary, tagCast, tagSlice, tagConcatenation, tagCall}
 use Rattle.rules.specs.Reading.{operators, exprTags, readPlace, readExprAs, readExpr}
 use Rattle.rules.proofs.Readers.{Keeps, keeps-then, keeps-pure, keeps-number, keeps-stands, keeps-between, keeps-repeat, keeps-list, keeps-place, keeps-expr}
-use Rattle.shape.specs.Scans.{scanOf, onScan, readLiteral, valueOf, leadBy, onLead, argumentsLead, callLead, formOf, exprForm, exprLead, Counts, LeadsExpr}
+use Rattle.shape.specs.Scans.{scanOf, onScan, readLiteral, valueOf, onValue, leadBy, onLead, argumentsLead, callLead, formOf, exprForm, exprLead, Counts, LeadsExpr}
 use Rattle.shape.specs.declared.Scan.{Scan}
 use Rattle.shape.specs.declared.Scan.the-variants.{Past, Fault}
 use Rattle.shape.specs.declared.Value.{Value}
@@ -23,7 +23,7 @@ use Rattle.shape.specs.declared.Lead.the-variants.{On, Off}
 use Rattle.shape.specs.declared.ExprForm.{ExprForm}
 use Rattle.shape.specs.declared.ExprForm.the-variants.{Number, Field, Literal, Operand, Binary, Cast, Slice, Operands, Call, Unlisted}
 use Rattle.shape.proofs.Rank.{rank, to-list, to-member, to-rest}
-use Rattle.shape.proofs.Laws.{onValue, on-past, on-fault, Scans, scans-self, scans-then, scans-pure, scans-last, scans-as, scan-here, stands-is, stands-none, stands-out}
+use Rattle.shape.proofs.Laws.{on-past, on-fault, Scans, scans-self, scans-then, scans-pure, scans-last, scans-as, scan-here, stands-is, stands-none, stands-out}
 use Rattle.shape.proofs.Laws.{none-past, deep-same, repeat-none, repeat-past, repeat-fault, scans-none, scans-one, scans-two, list-scan, spans-scan, spans-list, AtMost, value-most}
 
 -- the numbers behind a tag

@@ -11,15 +11,11 @@ use lib.Dec.{ltb, leb, leb·zero, leb·suc-suc}
 use borrow.Author.Tests.{lt-ltb, le-ltb, le-leb, lt-leb, ltb-true, ltb-false}
 use Rattle.rules.specs.Reading.{Got, got, bad, Reader, andThen, _>>=_, pure, here, number, meaning, lookedUp, standsFor, between, within, repeat, listOf, tooDeep}
 use Rattle.rules.proofs.Readers.{Kept, Keeps, keeps-pure, keeps-repeat, keeps-between, looked-in, looked-out, number-in, number-out, deep-in, deep-out}
-use Rattle.shape.specs.Scans.{forget, scanOf, onScan, valued, valueOf}
+use Rattle.shape.specs.Scans.{forget, scanOf, onScan, valued, valueOf, onValue}
 use Rattle.shape.specs.declared.Scan.{Scan}
 use Rattle.shape.specs.declared.Scan.the-variants.{Past, Fault}
 use Rattle.shape.specs.declared.Value.{Value}
 use Rattle.shape.specs.declared.Value.the-variants.{Of, Unread}
-
-unfoldable pub onValue : Value → (ℕ → ℕ → Scan) → Scan
-onValue (Of n next) k = k n next
-onValue (Unread fault index) k = Fault fault index
 
 -- a number of any value
 pub number-is : (nums : List ℕ) (at : ℕ) → at < length nums → Past (at + 1) ≡ scanOf number nums at
@@ -214,7 +210,7 @@ within-not : (least most n : ℕ) → (leb least n && leb n most) ≡ false → 
 unfolding within
 within-not least most n e = rw (within, e)
 
-some-within : (least most n : ℕ) → isSome (within least most n) ≡ (leb least n && leb n most)
+pub some-within : (least most n : ℕ) → isSome (within least most n) ≡ (leb least n && leb n most)
 unfolding isSome
 some-within least most n = go (leb least n && leb n most) refl
   where
@@ -230,20 +226,27 @@ same-meaning none (some b) left at e = let z : _≡_ {A = ℕ} 0 1 = cc in absur
 same-meaning (some a) none left at e = let z : _≡_ {A = ℕ} 0 1 = cc in absurd (omega arith)
 same-meaning (some a) (some b) left at e = refl
 
-pub spans-scan : {A : Type 0} {what : ℕ → Option A} {least most : ℕ} (nums : List ℕ) (at : ℕ) → Spans what least most
-    → scanOf (standsFor what) nums at ≡ scanOf (between least most) nums at
-unfolding scanOf forget standsFor between
-spans-scan {A} {what} {least} {most} nums at s = go (ltb at (length nums)) refl
+-- two lists scan the same at a number that both have or both lack
+pub scan-like : {A B : Type 0} (what : ℕ → Option A) (like : ℕ → Option B) (nums : List ℕ) (at : ℕ)
+    → (at < length nums → isSome (what (getD nums at 0)) ≡ isSome (like (getD nums at 0)))
+    → scanOf (standsFor what) nums at ≡ scanOf (standsFor like) nums at
+unfolding scanOf forget standsFor
+scan-like what like nums at s = go (ltb at (length nums)) refl
   where
-    go : (b : Bool) → ltb at (length nums) ≡ b → forget (lookedUp 4 what (drop at nums) at) ≡ forget (lookedUp 4 (within least most) (drop at nums) at)
+    go : (b : Bool) → ltb at (length nums) ≡ b → forget (lookedUp 4 what (drop at nums) at) ≡ forget (lookedUp 4 like (drop at nums) at)
     go true e =
         let h : at < length nums = ltb-true at (length nums) e in
-        rw (looked-in 4 what nums at h, looked-in 4 (within least most) nums at h)
-        (same-meaning (what (getD nums at 0)) (within least most (getD nums at 0)) (drop (suc at) nums) at
-        (s .span (getD nums at 0) ∙ sym (some-within least most (getD nums at 0))))
+        rw (looked-in 4 what nums at h, looked-in 4 like nums at h)
+        (same-meaning (what (getD nums at 0)) (like (getD nums at 0)) (drop (suc at) nums) at (s h))
     go false e =
         let h : length nums ≤ at = ltb-false at (length nums) e in
-        rw (looked-out 4 what nums at h, looked-out 4 (within least most) nums at h)
+        rw (looked-out 4 what nums at h, looked-out 4 like nums at h)
+
+pub spans-scan : {A : Type 0} {what : ℕ → Option A} {least most : ℕ} (nums : List ℕ) (at : ℕ) → Spans what least most
+    → scanOf (standsFor what) nums at ≡ scanOf (between least most) nums at
+unfolding between
+spans-scan {A} {what} {least} {most} nums at s = scan-like what (within least most) nums at
+    (λ h. s .span (getD nums at 0) ∙ sym (some-within least most (getD nums at 0)))
 
 some-at : {A : Type 0} (l : List A) (n : ℕ) → isSome (getElem? l n) ≡ ltb n (length l)
 unfolding isSome
@@ -304,3 +307,85 @@ value-most least most nums at = go (ltb at (length nums)) refl
     go : (b : Bool) → ltb at (length nums) ≡ b → AtMost most (valueOf least most nums at)
     go true e = in-range (ltb-true at (length nums) e) (ltb (getD nums at 0) least) refl (ltb most (getD nums at 0)) refl
     go false e = rw (← value-missing least most nums at (ltb-false at (length nums) e)) tt
+
+-- what a value read tells of the number at its index
+pub record IsValue (least most : ℕ) (nums : List ℕ) (at n next : ℕ) : Type 0 where
+  pub inside : at < length nums
+  pub same : getD nums at 0 ≡ n
+  pub after : suc at ≡ next
+  pub low : least ≤ n
+  pub high : n ≤ most
+
+pub value-inv : (least most : ℕ) (nums : List ℕ) (at n next : ℕ) → valueOf least most nums at ≡ Of n next → IsValue least most nums at n next
+value-inv least most nums at n next p = go (ltb at (length nums)) refl
+  where
+    never : (f i : ℕ) → Unread f i ≡ valueOf least most nums at → IsValue least most nums at n next
+    never f i q = let z : _≡_ {A = ℕ} 0 1 = cc in absurd (omega arith)
+
+    in-range : at < length nums → (b : Bool) → ltb (getD nums at 0) least ≡ b → (d : Bool) → ltb most (getD nums at 0) ≡ d
+        → IsValue least most nums at n next
+    in-range h true e d f = never 4 at (value-low least most nums at h (ltb-true (getD nums at 0) least e))
+    in-range h false e true f =
+        never 4 at (value-high least most nums at h (ltb-false (getD nums at 0) least e) (ltb-true most (getD nums at 0) f))
+    in-range h false e false f =
+        let l : least ≤ getD nums at 0 = ltb-false (getD nums at 0) least e in
+        let m : getD nums at 0 ≤ most = ltb-false most (getD nums at 0) f in
+        let q : Of (getD nums at 0) (at + 1) ≡ Of n next = value-is least most nums at h l m ∙ p in
+        let v : getD nums at 0 ≡ n = cc in
+        let w : at + 1 ≡ next = cc in
+        record { inside = h; same = v; after = rw (← w) (sym (add-one at)); low = rw (← v) l; high = rw (← v) m }
+
+    go : (b : Bool) → ltb at (length nums) ≡ b → IsValue least most nums at n next
+    go true e = in-range (ltb-true at (length nums) e) (ltb (getD nums at 0) least) refl (ltb most (getD nums at 0)) refl
+    go false e = never 4 at (value-missing least most nums at (ltb-false at (length nums) e))
+
+-- a fault of the first is the fault of the whole
+pub scan-fault : {A B : Type 0} (read : Reader A) (k : A → Reader B) (nums : List ℕ) (at f i : ℕ) → scanOf read nums at ≡ Fault f i
+    → scanOf (read >>= k) nums at ≡ Fault f i
+unfolding scanOf forget _>>=_ andThen
+scan-fault {A} read k nums at f i e = go (read (drop at nums) at) e
+  where
+    go : (x : Got A) → forget x ≡ Fault f i → forget (andThen x k) ≡ Fault f i
+    go (got a left next) q = let z : _≡_ {A = ℕ} 0 1 = cc in absurd (omega arith)
+    go (bad fault index) q = q
+
+pub on-assoc : (a : Scan) (k l : ℕ → Scan) → onScan (onScan a k) l ≡ onScan a (λ n. onScan (k n) l)
+unfolding onScan
+on-assoc (Past n) k l = refl
+on-assoc (Fault fault index) k l = refl
+
+-- the same reader with its brackets moved
+pub scans-assoc : {A B C : Type 0} (read : Reader A) (k : A → Reader B) (l : B → Reader C) {nums : List ℕ} {t : ℕ → Scan}
+    → Scans ((read >>= k) >>= l) nums t → Scans (read >>= λ a. k a >>= l) nums t
+unfolding scanOf _>>=_ andThen
+scans-assoc {A} {B} {C} read k l {nums} {t} f = record { scan = λ at. go (read (drop at nums) at) ∙ f .scan at }
+  where
+    go : (x : Got A) → forget (andThen x (λ a left next. andThen (k a left next) l)) ≡ forget (andThen (andThen x k) l)
+    go (got a left next) = refl
+    go (bad fault index) = refl
+
+-- two steps of code: the first past and the second, or the first's fault
+module _ (x s : Scan) (k : ℕ → Scan) (e : x ≡ onScan s k) (a : Scan) (q : a ≡ s) where
+  pub seq-past : (n : ℕ) (r : Scan) → a ≡ Past n → r ≡ k n → r ≡ x
+  seq-past n r p h = on-past s r n k (sym q ∙ p) h ∙ sym e
+
+  pub seq-fault : (f i : ℕ) → a ≡ Fault f i → Fault f i ≡ x
+  seq-fault f i p = on-fault s f i k (sym q ∙ p) ∙ sym e
+
+-- what a scan by a list tells of the number
+module _ {A : Type 0} (what : ℕ → Option A) (nums : List ℕ) (at : ℕ) (h : at < length nums) where
+  pub stands-some : (n : ℕ) → scanOf (standsFor what) nums at ≡ Past n → isSome (what (getD nums at 0)) ≡ true
+  unfolding scanOf forget standsFor meaning isSome
+  stands-some n e = go (what (getD nums at 0)) (rw (looked-in 4 what nums at h) at e)
+    where
+      go : (x : Option A) → forget (meaning 4 x (drop (suc at) nums) at) ≡ Past n → isSome x ≡ true
+      go none q = let z : _≡_ {A = ℕ} 0 1 = cc in absurd (omega arith)
+      go (some a) q = refl
+
+  pub stands-lacks : (f i : ℕ) → scanOf (standsFor what) nums at ≡ Fault f i → isSome (what (getD nums at 0)) ≡ false
+  unfolding scanOf forget standsFor meaning isSome
+  stands-lacks f i e = go (what (getD nums at 0)) (rw (looked-in 4 what nums at h) at e)
+    where
+      go : (x : Option A) → forget (meaning 4 x (drop (suc at) nums) at) ≡ Fault f i → isSome x ≡ false
+      go none q = refl
+      go (some a) q = let z : _≡_ {A = ℕ} 0 1 = cc in absurd (omega arith)

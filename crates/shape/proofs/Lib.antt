@@ -2,3 +2,4 @@ mod Laws
 mod Rank
 mod Exprs
 mod Stmts
+mod Parts

@@ -14,7 +14,7 @@ use Rattle.rules.specs.Reading.{PlaceTag, tagLocal, tagParameter, tagGlobal, ta
 use Rattle.rules.specs.Reading.{StmtTag, tagEmpty, tagAssign, tagIf, tagBlock, tagCallStmt, tagApply, tagReturnValue, tagReturn, tagExit, tagSetValid, tagSetInvalid}
 use Rattle.rules.specs.Reading.{exprTags, placeTagOf, stmtTags, readPlace, readExpr, readTarget, readStmtAs, readStmt}
 use Rattle.rules.proofs.Readers.{Keeps, keeps-number, keeps-list, keeps-place, keeps-expr, keeps-target, keeps-stmt}
-use Rattle.shape.specs.Scans.{forget, scanOf, onScan, valueOf, leadBy, onLead, callLead, blockLead, Counts, placeFormOf, placeForm, placeScan, stmtFormOf, stmtForm, stmtLead, LeadsStmt}
+use Rattle.shape.specs.Scans.{forget, scanOf, onScan, valueOf, onValue, leadBy, onLead, callLead, blockLead, Counts, placeFormOf, placeForm, placeScan, stmtFormOf, stmtForm, stmtLead, LeadsStmt}
 use Rattle.shape.specs.declared.Scan.{Scan}
 use Rattle.shape.specs.declared.Scan.the-variants.{Past, Fault}
 use Rattle.shape.specs.declared.Value.{Value}
@@ -26,7 +26,7 @@ use Rattle.shape.specs.declared.PlaceForm.the-variants.{OneNumber, TwoNu
 use Rattle.shape.specs.declared.StmtForm.{StmtForm}
 use Rattle.shape.specs.declared.StmtForm.the-variants.{Bare, Assign, If, Block, CallStmt, Named, Returned, NoStmt}
 use Rattle.shape.proofs.Rank.{rank, to-list, to-member, to-rest}
-use Rattle.shape.proofs.Laws.{onValue, on-past, on-fault, on-same, on-last, Scans, scans-self, scans-then, scans-pure, scans-last, scans-as, scan-here, stands-is, stands-none, stands-out}
+use Rattle.shape.proofs.Laws.{on-past, on-fault, on-same, on-last, Scans, scans-self, scans-then, scans-pure, scans-last, scans-as, scan-here, stands-is, stands-none, stands-out}
 use Rattle.shape.proofs.Laws.{none-past, deep-same, repeat-none, repeat-past, repeat-fault, scans-one, scans-two, AtMost, value-most}
 use Rattle.shape.proofs.Exprs.{above, one-less, lead-scan, scans-list, call-scan, scans-field, scans-place, counts-by, counts-call}
 

@@ -47,6 +47,10 @@ valued (bad number index) = Unread number index
 unfoldable pub valueOf : ℕ → ℕ → List ℕ → ℕ → Value
 valueOf least most nums at = valued (between least most (drop at nums) at)
 
+unfoldable pub onValue : Value → (ℕ → ℕ → Scan) → Scan
+onValue (Of n next) k = k n next
+onValue (Unread number index) k = Fault number index
+
 -- an expression or a statement is its tag, numbers, so many operands, so many statements. A lead is read up to the operands
 unfoldable pub leadBy : Scan → ℕ → ℕ → Lead
 leadBy (Past next) operands statements = On next operands statements

@@ -3,6 +3,8 @@ ghost use mathlib.Core.Path.{_≡_};
 ghost use Prim.Native.Nat.{ℕ, _+_, _<_};
 ghost use lib.ListN.{length, getElem?};
 ghost use Rattle.rules.specs.Reading.{number, between, standsFor, repeat, tooDeep, operators, readExpr, readTarget, readStmt};
+ghost use Rattle.rules.specs.Reading.{directions, keyKinds, typeOf, readParameter, readKey, readNumeral, readHeader, readGlobal, readCallable, readTable};
+ghost use Rattle.shape.specs.Parts.{itemScan, repeatScan, listScan, readReturning, readFrame, readChoices, readDefault, partScan};
 ghost use Rattle.shape.specs.Scans.{scanOf, readLiteral, valueOf, leadBy, argumentsLead, callLead, blockLead, exprForm, exprLead, LeadsExpr};
 ghost use Rattle.shape.specs.Scans.{placeForm, placeScan, stmtForm, stmtLead, LeadsStmt};
 
@@ -17,6 +19,29 @@ const MOST_ARGUMENTS: u64 = 8;
 
 // The longest block.
 const MOST_MEMBERS: u64 = 64;
+
+// The deepest level: bodies and keys are level 1.
+const DEEPEST: usize = 32;
+// The last kind of callable, of key, and the last direction.
+const LAST_CALLABLE_KIND: u64 = 1;
+
+const LAST_KEY_KIND: u64 = 2;
+
+const LAST_DIRECTION: u64 = 3;
+// The numbers that stand for header types among the types of globals.
+const FIRST_HEADER_TYPE: u64 = 128;
+
+const LAST_HEADER_TYPE: u64 = 135;
+// The longest lists in a header type, a callable and a table.
+const MOST_FIELDS: u64 = 16;
+
+const MOST_PARAMETERS: u64 = 8;
+
+const MOST_LOCALS: u64 = 8;
+
+const MOST_KEYS: u64 = 4;
+
+const MOST_ACTIONS: u64 = 8;
 
 // What reading at an index finds: the index after what was read; or the fault, 5 or 4, and the index of the number at fault.
 pub enum Scan {
@@ -74,6 +99,23 @@ enum StmtForm {
     Named,
     Returned,
     NoStmt,
+}
+
+// What stands in lists inside a part of a program.
+enum Item {
+    WidthItem,
+    TypeItem,
+    ParameterItem,
+    KeyItem,
+    NumeralItem,
+}
+
+// A part of a program that the directory tells the beginning of.
+enum Part {
+    HeaderPart,
+    GlobalPart,
+    CallablePart,
+    TablePart,
 }
 
 // A number of any value.
@@ -483,5 +525,205 @@ fn scan_stmts(nums: &[u64], version: u64, depth: usize, count: usize, at: usize)
             Scan::Past(next) => scan_stmts(nums, version, depth, count - 1, next),
             Scan::Fault { number, index } => Scan::Fault { number, index },
         }
+    }
+}
+
+// A type of a value.
+fn type_at(nums: &[u64], version: u64, at: usize) -> Scan
+    ensures { λ r. ⌜ r ≡ scanOf (standsFor (typeOf version)) (now (nums .entry)) at ⌝ }
+{
+    number_in(nums, 0, WIDEST, at)
+}
+
+// A parameter's direction.
+fn direction_at(nums: &[u64], version: u64, at: usize) -> Scan
+    ensures { λ r. ⌜ r ≡ scanOf (standsFor (getElem? (directions version))) (now (nums .entry)) at ⌝ }
+{
+    number_in(nums, 0, LAST_DIRECTION, at)
+}
+
+// A parameter: its direction and its type.
+fn parameter_at(nums: &[u64], version: u64, at: usize) -> Scan
+    ensures { λ r. ⌜ r ≡ scanOf (readParameter version) (now (nums .entry)) at ⌝ }
+{
+    let direction = direction_at(nums, version, at);
+    match direction {
+        Scan::Past(next) => type_at(nums, version, next),
+        Scan::Fault { number, index } => Scan::Fault { number, index },
+    }
+}
+
+// A key's kind.
+fn key_kind_at(nums: &[u64], version: u64, at: usize) -> Scan
+    ensures { λ r. ⌜ r ≡ scanOf (standsFor (getElem? (keyKinds version))) (now (nums .entry)) at ⌝ }
+{
+    number_in(nums, 0, LAST_KEY_KIND, at)
+}
+
+// A key: its kind and its expression.
+fn key_at(nums: &[u64], version: u64, at: usize) -> Scan
+    ensures { λ r. ⌜ r ≡ scanOf (readKey version) (now (nums .entry)) at ⌝ }
+{
+    let kind = key_kind_at(nums, version, at);
+    match kind {
+        Scan::Past(next) => scan_expr(nums, version, DEEPEST, next),
+        Scan::Fault { number, index } => Scan::Fault { number, index },
+    }
+}
+
+// A number that stands for itself: an action, a position, a literal.
+fn numeral_at(nums: &[u64], version: u64, at: usize) -> Scan
+    ensures { λ r. ⌜ r ≡ scanOf (readNumeral version) (now (nums .entry)) at ⌝ }
+{
+    any_number(nums, at)
+}
+
+// The end of the item at `at`.
+fn item_at(nums: &[u64], version: u64, item: Item, at: usize) -> Scan
+    ensures { λ r. ⌜ r ≡ itemScan version item (now (nums .entry)) at ⌝ }
+{
+    match item {
+        Item::WidthItem => width_at(nums, at),
+        Item::TypeItem => type_at(nums, version, at),
+        Item::ParameterItem => parameter_at(nums, version, at),
+        Item::KeyItem => key_at(nums, version, at),
+        Item::NumeralItem => numeral_at(nums, version, at),
+    }
+}
+
+// The end of so many items, one after the other.
+fn items_at(nums: &[u64], version: u64, item: Item, count: u64, at: usize) -> Scan
+    ensures { λ r. ⌜ r ≡ repeatScan (itemScan version item (now (nums .entry))) count at ⌝ }
+{
+    if count == 0 {
+        Scan::Past(at)
+    } else {
+        let first = item_at(nums, version, item, at);
+        match first {
+            Scan::Past(next) => items_at(nums, version, item, count - 1, next),
+            Scan::Fault { number, index } => Scan::Fault { number, index },
+        }
+    }
+}
+
+// The end of a list of `least` to `most` items: their count, then the items.
+fn list_at(nums: &[u64], version: u64, item: Item, least: u64, most: u64, at: usize) -> Scan
+    ensures { λ r. ⌜ r ≡ listScan (itemScan version item (now (nums .entry))) least most (now (nums .entry)) at ⌝ }
+{
+    let count = value_in(nums, least, most, at);
+    match count {
+        Value::Of { value, next } => items_at(nums, version, item, value, next),
+        Value::Unread { number, index } => Scan::Fault { number, index },
+    }
+}
+
+// A header type: its fields' widths.
+fn header_at(nums: &[u64], version: u64, at: usize) -> Scan
+    ensures { λ r. ⌜ r ≡ scanOf (readHeader version) (now (nums .entry)) at ⌝ }
+{
+    list_at(nums, version, Item::WidthItem, 1, MOST_FIELDS, at)
+}
+
+// A global: the type of a value, or a header type's number.
+fn global_at(nums: &[u64], version: u64, at: usize) -> Scan
+    ensures { λ r. ⌜ r ≡ scanOf (readGlobal version) (now (nums .entry)) at ⌝ }
+{
+    let value = number_in(nums, 0, WIDEST, at);
+    match value {
+        Scan::Past(next) => Scan::Past(next),
+        Scan::Fault {
+            number: _,
+            index: _,
+        } => number_in(nums, FIRST_HEADER_TYPE, LAST_HEADER_TYPE, at),
+    }
+}
+
+// A callable up to its parameters: its kind and, of a function, its return type.
+fn returning_at(nums: &[u64], version: u64, at: usize) -> Scan
+    ensures { λ r. ⌜ r ≡ scanOf (readReturning version) (now (nums .entry)) at ⌝ }
+{
+    let kind = value_in(nums, 0, LAST_CALLABLE_KIND, at);
+    match kind {
+        Value::Of { value, next } => {
+            if value == 0 {
+                Scan::Past(next)
+            } else {
+                type_at(nums, version, next)
+            }
+        }
+        Value::Unread { number, index } => Scan::Fault { number, index },
+    }
+}
+
+// A callable's parameters and locals.
+fn frame_at(nums: &[u64], version: u64, at: usize) -> Scan
+    ensures { λ r. ⌜ r ≡ scanOf (readFrame version) (now (nums .entry)) at ⌝ }
+{
+    let parameters = list_at(nums, version, Item::ParameterItem, 0, MOST_PARAMETERS, at);
+    match parameters {
+        Scan::Past(next) => list_at(nums, version, Item::TypeItem, 0, MOST_LOCALS, next),
+        Scan::Fault { number, index } => Scan::Fault { number, index },
+    }
+}
+
+// A callable: its head, its parameters and locals, its body.
+fn callable_at(nums: &[u64], version: u64, at: usize) -> Scan
+    ensures { λ r. ⌜ r ≡ scanOf (readCallable version) (now (nums .entry)) at ⌝ }
+{
+    let returning = returning_at(nums, version, at);
+    match returning {
+        Scan::Past(next) => {
+            let frame = frame_at(nums, version, next);
+            match frame {
+                Scan::Past(body) => scan_stmt(nums, version, DEEPEST, body),
+                Scan::Fault { number, index } => Scan::Fault { number, index },
+            }
+        }
+        Scan::Fault { number, index } => Scan::Fault { number, index },
+    }
+}
+
+// A table's keys and actions.
+fn choices_at(nums: &[u64], version: u64, at: usize) -> Scan
+    ensures { λ r. ⌜ r ≡ scanOf (readChoices version) (now (nums .entry)) at ⌝ }
+{
+    let keys = list_at(nums, version, Item::KeyItem, 1, MOST_KEYS, at);
+    match keys {
+        Scan::Past(next) => list_at(nums, version, Item::NumeralItem, 1, MOST_ACTIONS, next),
+        Scan::Fault { number, index } => Scan::Fault { number, index },
+    }
+}
+
+// A table's default: its position, and its arguments.
+fn default_at(nums: &[u64], version: u64, at: usize) -> Scan
+    ensures { λ r. ⌜ r ≡ scanOf (readDefault version) (now (nums .entry)) at ⌝ }
+{
+    let position = numeral_at(nums, version, at);
+    match position {
+        Scan::Past(next) => list_at(nums, version, Item::NumeralItem, 0, MOST_ARGUMENTS, next),
+        Scan::Fault { number, index } => Scan::Fault { number, index },
+    }
+}
+
+// A table: its keys and actions, its default.
+fn table_at(nums: &[u64], version: u64, at: usize) -> Scan
+    ensures { λ r. ⌜ r ≡ scanOf (readTable version) (now (nums .entry)) at ⌝ }
+{
+    let choices = choices_at(nums, version, at);
+    match choices {
+        Scan::Past(next) => default_at(nums, version, next),
+        Scan::Fault { number, index } => Scan::Fault { number, index },
+    }
+}
+
+// The end of the part at `at`.
+fn part_at(nums: &[u64], version: u64, part: Part, at: usize) -> Scan
+    ensures { λ r. ⌜ r ≡ partScan version part (now (nums .entry)) at ⌝ }
+{
+    match part {
+        Part::HeaderPart => header_at(nums, version, at),
+        Part::GlobalPart => global_at(nums, version, at),
+        Part::CallablePart => callable_at(nums, version, at),
+        Part::TablePart => table_at(nums, version, at),
     }
 }
