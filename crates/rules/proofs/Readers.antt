@@ -10,7 +10,7 @@ use lib.ListN.{length, getD, drop, getElem?, drop-of-length-le}
 use lib.Seq.{drop-cons}
 use lib.Dec.{ltb}
 use borrow.Author.Tests.{ltb-true, ltb-false}
-use Rattle.rules.specs.Syntax.{Expr, Stmt, Place}
+use Rattle.rules.specs.Syntax.{Expr, Stmt, Place, HeaderTy, Global, Callable, Table}
 use Rattle.rules.specs.Reading.{Got, got, bad, Reader, andThen, _>>=_, pure, here, number, meaning, lookedUp, standsFor, between, within, repeat, listOf, tooDeep, deepest}
 use Rattle.rules.specs.Reading.{PlaceTag, tagLocal, tagParameter, tagGlobal, tagField, ExprTag, tagBool, tagBits, tagPlace, tagValid, tagNot, tagComplement, tagBinary, tagCast, tagSlice, tagConcatenation, tagCall}
 use Rattle.rules.specs.Reading.{StmtTag, tagEmpty, tagAssign, tagIf, tagBlock, tagCallStmt, tagApply, tagReturnValue, tagReturn, tagExit, tagSetValid, tagSetInvalid, CallableKind, kindAction, kindFunction}
@@ -230,3 +230,56 @@ module _ (version : ℕ) where
 pub keeps-program : Keeps readProgram
 unfolding readProgram
 keeps-program = keeps-then (keeps-stands versionOf) λ version. keeps-after-version version
+
+-- what holds of everything that a reader gives
+unfoldable pub Given : {A : Type 0} → (A → Type 0) → Got A → Type 0
+Given P (got a left next) = P a
+Given P (bad number index) = Unit
+
+pub record Gives {A : Type 0} (P : A → Type 0) (read : Reader A) : Type 0 where
+  pub given : (left : List ℕ) (at : ℕ) → Given P (read left at)
+
+pub gives-then : {A B : Type 0} {P : B → Type 0} (read : Reader A) {k : A → Reader B} → ((a : A) → Gives P (k a)) → Gives P (read >>= k)
+unfolding _>>=_ andThen Given
+gives-then {A} {B} {P} read {k} g = record { given = λ left at. go (read left at) }
+  where
+    go : (x : Got A) → Given P (andThen x k)
+    go (got a left next) = g a .given left next
+    go (bad fault index) = tt
+
+pub gives-pure : {A : Type 0} (P : A → Type 0) (a : A) → P a → Gives P (pure a)
+unfolding pure Given
+gives-pure P a p = record { given = λ left at. p }
+
+-- what a reader gives carries the index where the reader starts
+pub record Starts {A : Type 0} (start : A → ℕ) (read : Reader A) : Type 0 where
+  pub started : (left : List ℕ) (at : ℕ) → Given (λ a. start a ≡ at) (read left at)
+
+pub starts-here : {A : Type 0} {start : A → ℕ} {k : ℕ → Reader A} → ((at : ℕ) → Gives (λ a. start a ≡ at) (k at)) → Starts start (here >>= k)
+unfolding here _>>=_ andThen
+starts-here g = record { started = λ left at. g at .given left at }
+
+pub starts-deep : {A : Type 0} (start : A → ℕ) → Starts start tooDeep
+unfolding tooDeep Given
+starts-deep {A} start = record { started = go }
+  where
+    go : (left : List ℕ) (at : ℕ) → Given (λ a. start a ≡ at) (tooDeep {A = A} left at)
+    go [] at = tt
+    go (n ∷ left) at = tt
+
+module _ (version : ℕ) where
+  pub starts-header : Starts (λ (h : HeaderTy). h .at) (readHeader version)
+  unfolding readHeader
+  starts-header = starts-here λ at. gives-then _ λ ws. gives-pure _ _ refl
+
+  pub starts-global : Starts (λ (g : Global). g .at) (readGlobal version)
+  unfolding readGlobal
+  starts-global = starts-here λ at. gives-then _ λ t. gives-pure _ _ refl
+
+  pub starts-callable : Starts (λ (c : Callable). c .at) (readCallable version)
+  unfolding readCallable
+  starts-callable = starts-here λ at. gives-then _ λ kind. gives-then _ λ returns. gives-then _ λ ps. gives-then _ λ ls. gives-then _ λ body. gives-pure _ _ refl
+
+  pub starts-table : Starts (λ (t : Table). t .at) (readTable version)
+  unfolding readTable
+  starts-table = starts-here λ at. gives-then _ λ ks. gives-then _ λ ns. gives-then _ λ d. gives-then _ λ n. gives-then _ λ xs. gives-pure _ _ refl

@@ -3,3 +3,4 @@ mod Rank
 mod Exprs
 mod Stmts
 mod Parts
+mod Starts

@@ -1,9 +1,10 @@
 // The shape of a program: refusals 5 and 4 over the list of numbers. A reader descends into operands itself and builds no tree.
 ghost use mathlib.Core.Path.{_≡_};
-ghost use Prim.Native.Nat.{ℕ, _+_, _<_};
+ghost use Prim.Native.Nat.{ℕ, _+_, _<_, _≤_};
 ghost use lib.ListN.{length, getElem?};
 ghost use Rattle.rules.specs.Reading.{number, between, standsFor, repeat, tooDeep, operators, readExpr, readTarget, readStmt};
-ghost use Rattle.rules.specs.Reading.{directions, keyKinds, typeOf, readParameter, readKey, readNumeral, readHeader, readGlobal, readCallable, readTable};
+ghost use Rattle.rules.specs.Reading.{directions, keyKinds, typeOf, readParameter, readKey, readNumeral, readHeader, readGlobal, readCallable, readTable, readAfterVersion, readProgram};
+ghost use Rattle.shape.specs.Directory.{Walked, WalkedList, Lays, readDeclared, layDeclared, readDefined, layDefined, layBody, directoryOf, ScansProgram};
 ghost use Rattle.shape.specs.Parts.{itemScan, repeatScan, listScan, readReturning, readFrame, readChoices, readDefault, partScan};
 ghost use Rattle.shape.specs.Scans.{scanOf, readLiteral, valueOf, leadBy, argumentsLead, callLead, blockLead, exprForm, exprLead, LeadsExpr};
 ghost use Rattle.shape.specs.Scans.{placeForm, placeScan, stmtForm, stmtLead, LeadsStmt};
@@ -42,6 +43,31 @@ const MOST_LOCALS: u64 = 8;
 const MOST_KEYS: u64 = 4;
 
 const MOST_ACTIONS: u64 = 8;
+
+// The latest version, which is also the first.
+const LATEST: u64 = 1;
+// The longest lists of a program.
+const MOST_HEADERS: u64 = 8;
+
+const MOST_GLOBALS: u64 = 32;
+
+const MOST_CALLABLES: u64 = 16;
+
+const MOST_TABLES: u64 = 8;
+// The directory: each list has a slot for its count, then one for each member; then the apply body's, and the end's.
+pub const HEADERS: usize = 0;
+
+pub const GLOBALS: usize = 9;
+
+pub const CALLABLES: usize = 42;
+
+pub const TABLES: usize = 59;
+
+pub const BODY: usize = 68;
+
+pub const END: usize = 69;
+
+pub const SLOTS: usize = 70;
 
 // What reading at an index finds: the index after what was read; or the fault, 5 or 4, and the index of the number at fault.
 pub enum Scan {
@@ -725,5 +751,168 @@ fn part_at(nums: &[u64], version: u64, part: Part, at: usize) -> Scan
         Part::GlobalPart => global_at(nums, version, at),
         Part::CallablePart => callable_at(nums, version, at),
         Part::TablePart => table_at(nums, version, at),
+    }
+}
+
+// The end of so many parts, one after the other. Where each begins goes into the directory, from `slot` on.
+fn parts_at(
+    nums: &[u64],
+    version: u64,
+    part: Part,
+    count: u64,
+    at: usize,
+    slot: usize,
+    directory: &mut [u64; SLOTS],
+) -> Scan
+    requires { ⌜ slot + count ≤ 70 ⌝ }
+    ensures { λ r. ⌜ Walked (partScan version part (now (nums .entry))) count at slot (now (directory .entry)) (now (directory .exit)) r ⌝ }
+{
+    if count == 0 {
+        Scan::Past(at)
+    } else {
+        directory[slot] = at as u64;
+        let first = part_at(nums, version, part, at);
+        match first {
+            Scan::Past(next) => {
+                parts_at(nums, version, part, count - 1, next, slot + 1, directory)
+            }
+            Scan::Fault { number, index } => Scan::Fault { number, index },
+        }
+    }
+}
+
+// The end of a list of at most so many parts. Its count and where each begins go into the directory, from `slot` on.
+fn part_list_at(
+    nums: &[u64],
+    version: u64,
+    part: Part,
+    most: u64,
+    at: usize,
+    slot: usize,
+    directory: &mut [u64; SLOTS],
+) -> Scan
+    requires { ⌜ slot + most < 70 ⌝ }
+    ensures { λ r. ⌜ WalkedList (partScan version part (now (nums .entry))) most (now (nums .entry)) at slot (now (directory .entry)) (now (directory .exit)) r ⌝ }
+{
+    let count = value_in(nums, 0, most, at);
+    match count {
+        Value::Of { value, next } => {
+            directory[slot] = value;
+            parts_at(nums, version, part, value, next, slot + 1, directory)
+        }
+        Value::Unread { number, index } => Scan::Fault { number, index },
+    }
+}
+
+// The header types and the globals.
+fn declared_at(nums: &[u64], version: u64, at: usize, directory: &mut [u64; SLOTS]) -> Scan
+    ensures { λ r. ⌜ Lays (readDeclared version) layDeclared (now (nums .entry)) at (now (directory .entry)) (now (directory .exit)) r ⌝ }
+{
+    let headers = part_list_at(
+        nums,
+        version,
+        Part::HeaderPart,
+        MOST_HEADERS,
+        at,
+        HEADERS,
+        directory,
+    );
+    match headers {
+        Scan::Past(next) => part_list_at(
+            nums,
+            version,
+            Part::GlobalPart,
+            MOST_GLOBALS,
+            next,
+            GLOBALS,
+            directory,
+        ),
+        Scan::Fault { number, index } => Scan::Fault { number, index },
+    }
+}
+
+// The callables and the tables.
+fn defined_at(nums: &[u64], version: u64, at: usize, directory: &mut [u64; SLOTS]) -> Scan
+    ensures { λ r. ⌜ Lays (readDefined version) layDefined (now (nums .entry)) at (now (directory .entry)) (now (directory .exit)) r ⌝ }
+{
+    let callables = part_list_at(
+        nums,
+        version,
+        Part::CallablePart,
+        MOST_CALLABLES,
+        at,
+        CALLABLES,
+        directory,
+    );
+    match callables {
+        Scan::Past(next) => part_list_at(
+            nums,
+            version,
+            Part::TablePart,
+            MOST_TABLES,
+            next,
+            TABLES,
+            directory,
+        ),
+        Scan::Fault { number, index } => Scan::Fault { number, index },
+    }
+}
+
+// The apply body, and the program's end.
+fn body_at(nums: &[u64], version: u64, at: usize, directory: &mut [u64; SLOTS]) -> Scan
+    ensures { λ r. ⌜ Lays (readStmt version 32) layBody (now (nums .entry)) at (now (directory .entry)) (now (directory .exit)) r ⌝ }
+{
+    let body = scan_stmt(nums, version, DEEPEST, at);
+    match body {
+        Scan::Past(end) => {
+            directory[BODY] = at as u64;
+            directory[END] = end as u64;
+            Scan::Past(end)
+        }
+        Scan::Fault { number, index } => Scan::Fault { number, index },
+    }
+}
+
+// What follows the version.
+fn after_version(nums: &[u64], version: u64, at: usize, directory: &mut [u64; SLOTS]) -> Scan
+    ensures { λ r. ⌜ Lays (readAfterVersion version) directoryOf (now (nums .entry)) at (now (directory .entry)) (now (directory .exit)) r ⌝ }
+{
+    let declared = declared_at(nums, version, at, directory);
+    match declared {
+        Scan::Past(next) => {
+            let defined = defined_at(nums, version, next, directory);
+            match defined {
+                Scan::Past(body) => body_at(nums, version, body, directory),
+                Scan::Fault { number, index } => Scan::Fault { number, index },
+            }
+        }
+        Scan::Fault { number, index } => Scan::Fault { number, index },
+    }
+}
+
+// A program, from the first number on.
+fn program_at(nums: &[u64], directory: &mut [u64; SLOTS]) -> Scan
+    ensures { λ r. ⌜ Lays readProgram directoryOf (now (nums .entry)) 0 (now (directory .entry)) (now (directory .exit)) r ⌝ }
+{
+    let version = value_in(nums, 1, LATEST, 0);
+    match version {
+        Value::Of { value, next } => after_version(nums, value, next, directory),
+        Value::Unread { number, index } => Scan::Fault { number, index },
+    }
+}
+
+// The end of the program at the head of `nums`, or its first fault, 5 or 4. Where its parts begin goes into the directory; a fault
+// leaves that as found.
+pub fn scan_program(nums: &[u64], directory: &mut [u64; SLOTS]) -> Scan
+    ensures { λ r. ⌜ ScansProgram (now (nums .entry)) (now (directory .entry)) (now (directory .exit)) r ⌝ }
+{
+    let mut filled = *directory;
+    let program = program_at(nums, &mut filled);
+    match program {
+        Scan::Past(end) => {
+            *directory = filled;
+            Scan::Past(end)
+        }
+        Scan::Fault { number, index } => Scan::Fault { number, index },
     }
 }
