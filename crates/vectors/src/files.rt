@@ -1,6 +1,8 @@
 // Files of bytes through the crates: a line for each crate that a file reaches.
 use crate::lines;
 use rules::ReadAnswer;
+use rules::Refusal;
+use shape::Scan;
 
 // The most numbers of a bench file: one a byte.
 const MOST_NUMBERS: usize = 4096;
@@ -41,10 +43,32 @@ fn check(name: &[u8], bytes: &[u8]) {
     lines::text(name);
     lines::read(answer);
     match answer {
-        ReadAnswer::Count(count) => {
-            lines::numbers(&slots[0..count], SHOWN);
-            lines::end();
-        }
+        ReadAnswer::Count(count) => read(name, bytes, &slots[0..count]),
         ReadAnswer::Unread(_) => lines::end(),
     }
+}
+
+// The list of numbers that the bytes hold, and what the crates behind make of it.
+fn read(name: &[u8], bytes: &[u8], list: &[u64]) {
+    lines::numbers(list, SHOWN);
+    lines::end();
+    scan(name, bytes, list);
+}
+
+// The program at the head of a list of numbers, which the bytes hold. An index becomes the place of that number.
+fn scan(name: &[u8], bytes: &[u8], list: &[u64]) {
+    let mut directory = [0u64; shape::SLOTS];
+    let answer = shape::scan_program(list, &mut directory);
+    lines::text(name);
+    match answer {
+        Scan::Past(end) => {
+            lines::text(b" shape");
+            lines::number(numbers::place_of(bytes, end) as u64);
+        }
+        Scan::Fault { number, index } => {
+            let place = numbers::place_of(bytes, index);
+            lines::refusal(Refusal { number, place });
+        }
+    }
+    lines::end();
 }

@@ -19,26 +19,23 @@ read-requires-2 c κs = search needs
 enum-known-answer : tie.Need-enum-known-answer
 enum-known-answer c = search needs
 
-sub-numbers : tie.Need-sub-numbers
-sub-numbers c = search needs
+sub-read : tie.Need-sub-read
+sub-read c = search needs
 
-part-numbers-start : tie.Need-part-numbers-start
-part-numbers-start c = search needs
+part-read-start : tie.Need-part-read-start
+part-read-start c = search needs
 
-part-numbers-end : tie.Need-part-numbers-end
-part-numbers-end c = search (numbers-within, needs)
+part-read-end : tie.Need-part-read-end
+part-read-end c = search (numbers-within, needs)
 
-numbers-requires : tie.Need-numbers-requires
-numbers-requires c κs = search needs
-
-end-requires : tie.Need-end-requires
-end-requires c κs = search needs
+read-requires-3 : tie.Need-read-requires-3
+read-requires-3 c κs = search needs
 
 enum-told : tie.Need-enum-told
 enum-told c = search needs
 
-end-requires-2 : tie.Need-end-requires-2
-end-requires-2 c κs = search needs
+end-requires : tie.Need-end-requires
+end-requires c κs = search needs
 
 returns : tie.Need-returns
 returns c = search needs
@@ -55,12 +52,11 @@ check-spec =
     text-requires
     read-requires-2
     enum-known-answer
-    sub-numbers
-    part-numbers-start
-    part-numbers-end
-    numbers-requires
-    end-requires
+    sub-read
+    part-read-start
+    part-read-end
+    read-requires-3
     enum-told
-    end-requires-2
+    end-requires
     returns
     returns-2)
