@@ -1,9 +1,9 @@
 -- What is counted lies within the slots or bytes that were lent: the numbers that were read, the bytes that were written.
 use mathlib.Core.List.{List, [], _∷_, _++_}
-use mathlib.Core.Path.{_≡_, refl, sym, ap, _∙_}
+use mathlib.Core.Path.{_≡_, sym, ap, _∙_}
 use Prim.Native.Nat.{ℕ, _≤_}
 use native.Mathlib.Omega.{arith}
-use lib.ListN.{length, take, drop, length-take, length-append}
+use lib.ListN.{length, drop, length-take, length-append}
 use Rattle.rules.specs.declared.ReadAnswer.{ReadAnswer}
 use Rattle.rules.specs.declared.ReadAnswer.the-variants.{Count}
 use Rattle.rules.specs.declared.WriteAnswer.{WriteAnswer}
@@ -24,8 +24,10 @@ pub bytes-within : (ns bytes : List ℕ) (r : WriteAnswer) (left : List ℕ) (ta
     r ≡ Length taken → taken ≤ length left
 unfolding ofWrite writeSays writeLeaves
 bytes-within ns bytes r left taken p e =
-    let told : 1 ∷ taken ∷ [] ≡ withRoom (length (bytesOf ns)) (length bytes) (1 ∷ length (bytesOf ns) ∷ []) = ap ofWrite (sym e) ∙ p .says in
-    let there : length (bytesOf ns) ≤ length bytes = room-there (length (bytesOf ns)) (length bytes) taken (1 ∷ length (bytesOf ns) ∷ []) told in
-    let same : taken ≡ length (bytesOf ns) = cc (room-told (length (bytesOf ns)) (length bytes) (1 ∷ length (bytesOf ns) ∷ []) there) in
-    let stored : left ≡ bytesOf ns ++ drop (length (bytesOf ns)) bytes = p .leaves ∙ filled-there (bytesOf ns) bytes there in
+    let all : List ℕ = bytesOf ns in
+    let told : List ℕ = 1 ∷ length all ∷ [] in
+    let says : 1 ∷ taken ∷ [] ≡ withRoom (length all) (length bytes) told = ap ofWrite (sym e) ∙ p .says in
+    let there : length all ≤ length bytes = room-there (length all) (length bytes) taken told says in
+    let same : taken ≡ length all = cc (room-told (length all) (length bytes) told there) in
+    let stored : left ≡ all ++ drop (length all) bytes = p .leaves ∙ filled-there all bytes there in
     omega (arith, simp length-append at (ap length stored))

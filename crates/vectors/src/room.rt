@@ -1,5 +1,5 @@
-// Reading and writing where there is little room, and what stays. A line says what is read or written, how many of the slots or bytes are
-// lent, the answer, and what all of them hold afterwards.
+// Reading and writing where there is little room, and what stays. A line says what is read or written, how many of the
+// slots or bytes are lent, the answer, and what all of them hold afterwards.
 use crate::lines;
 use rules::ReadAnswer;
 use rules::WriteAnswer;
