@@ -9,3 +9,4 @@ pub mod Saturating
 pub mod Codec
 pub mod Same
 pub mod Promises
+pub mod Readers

@@ -1,0 +1,6 @@
+mod Laws
+mod Rank
+mod Exprs
+mod Stmts
+mod Parts
+mod Starts

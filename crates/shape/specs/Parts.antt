@@ -1,0 +1,53 @@
+-- The parts of a program: how each scans, and how a list of them does.
+use mathlib.Core.Option.{Option}
+use mathlib.Core.List.{List, [], _∷_}
+use Prim.Native.Nat.{ℕ, zero, suc}
+use lib.ListN.{getElem?}
+use Rattle.rules.specs.Syntax.{Ty, HeaderTy, Global, Callable, Key, Numeral, Table}
+use Rattle.rules.specs.Reading.{Reader, _>>=_, pure, number, between, standsFor, listOf, deepest, callableKinds, typeOf}
+use Rattle.rules.specs.Reading.{readHeader, readGlobal, readParameter, readReturns, readCallable, readNumeral, readKey, readTable, readStmt}
+use Rattle.shape.specs.Scans.{scanOf, onScan, valueOf, onValue}
+use Rattle.shape.specs.declared.Scan.{Scan}
+use Rattle.shape.specs.declared.Scan.the-variants.{Past, Fault}
+use Rattle.shape.specs.declared.Item.{Item}
+use Rattle.shape.specs.declared.Item.the-variants.{WidthItem, TypeItem, ParameterItem, KeyItem, NumeralItem}
+use Rattle.shape.specs.declared.Part.{Part}
+use Rattle.shape.specs.declared.Part.the-variants.{HeaderPart, GlobalPart, CallablePart, TablePart}
+
+-- so many of a kind, and a list of them
+unfoldable pub repeatScan : (ℕ → Scan) → ℕ → ℕ → Scan
+repeatScan one zero at = Past at
+repeatScan one (suc count) at = onScan (one at) (repeatScan one count)
+
+unfoldable pub listScan : (ℕ → Scan) → ℕ → ℕ → List ℕ → ℕ → Scan
+listScan one least most nums at = onValue (valueOf least most nums at) (repeatScan one)
+
+-- what stands in lists inside a part
+unfoldable pub itemScan : ℕ → Item → List ℕ → ℕ → Scan
+itemScan version WidthItem = scanOf (between 1 64)
+itemScan version TypeItem = scanOf (standsFor (typeOf version))
+itemScan version ParameterItem = scanOf (readParameter version)
+itemScan version KeyItem = scanOf (readKey version)
+itemScan version NumeralItem = scanOf (readNumeral version)
+
+-- a callable up to its parameters: its kind and, of a function, its return type
+unfoldable pub readReturning : ℕ → Reader (Option Ty)
+readReturning version = standsFor (getElem? (callableKinds version)) >>= λ kind. readReturns version kind
+
+-- its parameters and locals
+unfoldable pub readFrame : ℕ → Reader (List Ty)
+readFrame version = listOf 0 8 (readParameter version) >>= λ parameters. listOf 0 8 (standsFor (typeOf version))
+
+-- a table's keys and actions; its default with its arguments
+unfoldable pub readChoices : ℕ → Reader (List Numeral)
+readChoices version = listOf 1 4 (readKey version) >>= λ keys. listOf 1 8 (readNumeral version)
+
+unfoldable pub readDefault : ℕ → Reader (List Numeral)
+readDefault version = readNumeral version >>= λ position. listOf 0 8 (readNumeral version)
+
+-- what the directory tells the beginnings of
+unfoldable pub partScan : ℕ → Part → List ℕ → ℕ → Scan
+partScan version HeaderPart = scanOf (readHeader version)
+partScan version GlobalPart = scanOf (readGlobal version)
+partScan version CallablePart = scanOf (readCallable version)
+partScan version TablePart = scanOf (readTable version)

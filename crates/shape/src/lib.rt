@@ -1,0 +1,918 @@
+// The shape of a program: refusals 5 and 4 over the list of numbers. A reader descends into operands itself and builds no tree.
+ghost use mathlib.Core.Path.{_≡_};
+ghost use Prim.Native.Nat.{ℕ, _+_, _<_, _≤_};
+ghost use lib.ListN.{length, getElem?};
+ghost use Rattle.rules.specs.Reading.{number, between, standsFor, repeat, tooDeep, operators, readExpr, readTarget, readStmt};
+ghost use Rattle.rules.specs.Reading.{directions, keyKinds, typeOf, readParameter, readKey, readNumeral, readHeader, readGlobal, readCallable, readTable, readAfterVersion, readProgram};
+ghost use Rattle.shape.specs.Directory.{Walked, WalkedList, Lays, readDeclared, layDeclared, readDefined, layDefined, layBody, directoryOf, ScansProgram};
+ghost use Rattle.shape.specs.Parts.{itemScan, repeatScan, listScan, readReturning, readFrame, readChoices, readDefault, partScan};
+ghost use Rattle.shape.specs.Scans.{scanOf, readLiteral, valueOf, leadBy, argumentsLead, callLead, blockLead, exprForm, exprLead, LeadsExpr};
+ghost use Rattle.shape.specs.Scans.{placeForm, placeScan, stmtForm, stmtLead, LeadsStmt};
+
+// The widest bit string.
+const WIDEST: u64 = 64;
+// The highest bound of a slice.
+const HIGHEST_BOUND: u64 = 63;
+// The last operator's number.
+const LAST_OPERATOR: u64 = 13;
+// The longest list of arguments.
+const MOST_ARGUMENTS: u64 = 8;
+
+// The longest block.
+const MOST_MEMBERS: u64 = 64;
+
+// The deepest level: bodies and keys are level 1.
+const DEEPEST: usize = 32;
+// The last kind of callable, of key, and the last direction.
+const LAST_CALLABLE_KIND: u64 = 1;
+
+const LAST_KEY_KIND: u64 = 2;
+
+const LAST_DIRECTION: u64 = 3;
+// The numbers that stand for header types among the types of globals.
+const FIRST_HEADER_TYPE: u64 = 128;
+
+const LAST_HEADER_TYPE: u64 = 135;
+// The longest lists in a header type, a callable and a table.
+const MOST_FIELDS: u64 = 16;
+
+const MOST_PARAMETERS: u64 = 8;
+
+const MOST_LOCALS: u64 = 8;
+
+const MOST_KEYS: u64 = 4;
+
+const MOST_ACTIONS: u64 = 8;
+
+// The latest version, which is also the first.
+const LATEST: u64 = 1;
+// The longest lists of a program.
+const MOST_HEADERS: u64 = 8;
+
+const MOST_GLOBALS: u64 = 32;
+
+const MOST_CALLABLES: u64 = 16;
+
+const MOST_TABLES: u64 = 8;
+// The directory: each list has a slot for its count, then one for each member; then the apply body's, and the end's.
+pub const HEADERS: usize = 0;
+
+pub const GLOBALS: usize = 9;
+
+pub const CALLABLES: usize = 42;
+
+pub const TABLES: usize = 59;
+
+pub const BODY: usize = 68;
+
+pub const END: usize = 69;
+
+pub const SLOTS: usize = 70;
+
+// What reading at an index finds: the index after what was read; or the fault, 5 or 4, and the index of the number at fault.
+pub enum Scan {
+    Past(usize),
+    Fault { number: u64, index: usize },
+}
+
+// A number with its value, and the index after it; or the fault.
+enum Value {
+    Of { value: u64, next: usize },
+    Unread { number: u64, index: usize },
+}
+
+// An expression or a statement up to its operands: where they begin, how many there are, and how many statements follow them.
+enum Lead {
+    On {
+        next: usize,
+        operands: usize,
+        statements: usize,
+    },
+    Off {
+        number: u64,
+        index: usize,
+    },
+}
+
+// What stands behind an expression's tag.
+enum ExprForm {
+    Number,
+    Field,
+    Literal,
+    Operand,
+    Binary,
+    Cast,
+    Slice,
+    Operands,
+    Call,
+    Unlisted,
+}
+
+// What stands behind the tag of an assignment's target.
+enum PlaceForm {
+    OneNumber,
+    TwoNumbers,
+    NoPlace,
+}
+
+// What stands behind a statement's tag.
+enum StmtForm {
+    Bare,
+    Assign,
+    If,
+    Block,
+    CallStmt,
+    Named,
+    Returned,
+    NoStmt,
+}
+
+// What stands in lists inside a part of a program.
+enum Item {
+    WidthItem,
+    TypeItem,
+    ParameterItem,
+    KeyItem,
+    NumeralItem,
+}
+
+// A part of a program that the directory tells the beginning of.
+enum Part {
+    HeaderPart,
+    GlobalPart,
+    CallablePart,
+    TablePart,
+}
+
+// A number of any value.
+fn any_number(nums: &[u64], at: usize) -> Scan
+    ensures { λ r. ⌜ r ≡ scanOf number (now (nums .entry)) at ⌝ }
+{
+    if at < nums.len() {
+        Scan::Past(at + 1)
+    } else {
+        Scan::Fault {
+            number: 4,
+            index: at,
+        }
+    }
+}
+
+// A number from `least` to `most`, with its value.
+fn value_in(nums: &[u64], least: u64, most: u64, at: usize) -> Value
+    ensures { λ r. ⌜ r ≡ valueOf least most (now (nums .entry)) at ⌝ }
+{
+    if at < nums.len() {
+        let n = nums[at];
+        if n < least {
+            Value::Unread {
+                number: 4,
+                index: at,
+            }
+        } else if most < n {
+            Value::Unread {
+                number: 4,
+                index: at,
+            }
+        } else {
+            Value::Of {
+                value: n,
+                next: at + 1,
+            }
+        }
+    } else {
+        Value::Unread {
+            number: 4,
+            index: at,
+        }
+    }
+}
+
+// A number from `least` to `most`.
+fn number_in(nums: &[u64], least: u64, most: u64, at: usize) -> Scan
+    ensures { λ r. ⌜ r ≡ scanOf (between least most) (now (nums .entry)) at ⌝ }
+{
+    let value = value_in(nums, least, most, at);
+    match value {
+        Value::Of { value: _, next } => Scan::Past(next),
+        Value::Unread { number, index } => Scan::Fault { number, index },
+    }
+}
+
+// Two numbers of any value.
+fn two_numbers(nums: &[u64], at: usize) -> Scan
+    ensures { λ r. ⌜ r ≡ scanOf (repeat 2 number) (now (nums .entry)) at ⌝ }
+{
+    let first = any_number(nums, at);
+    match first {
+        Scan::Past(next) => any_number(nums, next),
+        Scan::Fault { number, index } => Scan::Fault { number, index },
+    }
+}
+
+// A width.
+fn width_at(nums: &[u64], at: usize) -> Scan
+    ensures { λ r. ⌜ r ≡ scanOf (between 1 64) (now (nums .entry)) at ⌝ }
+{
+    number_in(nums, 1, WIDEST, at)
+}
+
+// A literal's width and value.
+fn literal_at(nums: &[u64], at: usize) -> Scan
+    ensures { λ r. ⌜ r ≡ scanOf readLiteral (now (nums .entry)) at ⌝ }
+{
+    let width = width_at(nums, at);
+    match width {
+        Scan::Past(next) => any_number(nums, next),
+        Scan::Fault { number, index } => Scan::Fault { number, index },
+    }
+}
+
+// The two bounds of a slice.
+fn bounds_at(nums: &[u64], at: usize) -> Scan
+    ensures { λ r. ⌜ r ≡ scanOf (repeat 2 (between 0 63)) (now (nums .entry)) at ⌝ }
+{
+    let high = number_in(nums, 0, HIGHEST_BOUND, at);
+    match high {
+        Scan::Past(next) => number_in(nums, 0, HIGHEST_BOUND, next),
+        Scan::Fault { number, index } => Scan::Fault { number, index },
+    }
+}
+
+// An operator of the version's list.
+fn operator_at(nums: &[u64], version: u64, at: usize) -> Scan
+    ensures { λ r. ⌜ r ≡ scanOf (standsFor (getElem? (operators version))) (now (nums .entry)) at ⌝ }
+{
+    number_in(nums, 0, LAST_OPERATOR, at)
+}
+
+// The lead that ends where a scan of its numbers does.
+fn lead_by(numbers: Scan, operands: usize, statements: usize) -> Lead
+    ensures { λ r. ⌜ r ≡ leadBy numbers operands statements ⌝ }
+{
+    match numbers {
+        Scan::Past(next) => Lead::On {
+            next: next,
+            operands: operands,
+            statements: statements,
+        },
+        Scan::Fault { number, index } => Lead::Off { number, index },
+    }
+}
+
+// A call up to its arguments: the callable's number and the count.
+fn call_lead(nums: &[u64], at: usize) -> Lead
+    ensures { λ r. ⌜ r ≡ callLead (now (nums .entry)) (scanOf number (now (nums .entry)) at) ⌝ }
+{
+    let callable = any_number(nums, at);
+    match callable {
+        Scan::Past(next) => arguments_lead(nums, next),
+        Scan::Fault { number, index } => Lead::Off { number, index },
+    }
+}
+
+// A list of arguments up to the first of them.
+fn arguments_lead(nums: &[u64], at: usize) -> Lead
+    ensures { λ r. ⌜ r ≡ argumentsLead (valueOf 0 8 (now (nums .entry)) at) ⌝ }
+{
+    let count = value_in(nums, 0, MOST_ARGUMENTS, at);
+    match count {
+        Value::Of { value, next } => Lead::On {
+            next: next,
+            operands: value as usize,
+            statements: 0,
+        },
+        Value::Unread { number, index } => Lead::Off { number, index },
+    }
+}
+
+// What stands behind an expression's tag, in the version's list of tags.
+fn expr_form(version: u64, tag: u64) -> ExprForm
+    ensures { λ r. ⌜ r ≡ exprForm version tag ⌝ }
+{
+    match tag {
+        0 => ExprForm::Number,
+        1 => ExprForm::Literal,
+        2 => ExprForm::Number,
+        3 => ExprForm::Number,
+        4 => ExprForm::Number,
+        5 => ExprForm::Field,
+        6 => ExprForm::Number,
+        7 => ExprForm::Operand,
+        8 => ExprForm::Operand,
+        9 => ExprForm::Binary,
+        10 => ExprForm::Cast,
+        11 => ExprForm::Slice,
+        12 => ExprForm::Operands,
+        13 => ExprForm::Call,
+        _ => ExprForm::Unlisted,
+    }
+}
+
+// The lead of an expression of that form whose tag is at `at`.
+fn form_lead(nums: &[u64], version: u64, form: ExprForm, at: usize) -> Lead
+    requires { ⌜ at < length (now nums) ⌝ }
+    ensures { λ r. ⌜ r ≡ exprLead version form (now (nums .entry)) at ⌝ }
+{
+    let next = at + 1;
+    match form {
+        ExprForm::Number => lead_by(any_number(nums, next), 0, 0),
+        ExprForm::Field => lead_by(two_numbers(nums, next), 0, 0),
+        ExprForm::Literal => lead_by(literal_at(nums, next), 0, 0),
+        ExprForm::Operand => lead_by(Scan::Past(next), 1, 0),
+        ExprForm::Binary => lead_by(operator_at(nums, version, next), 2, 0),
+        ExprForm::Cast => lead_by(width_at(nums, next), 1, 0),
+        ExprForm::Slice => lead_by(bounds_at(nums, next), 1, 0),
+        ExprForm::Operands => lead_by(Scan::Past(next), 2, 0),
+        ExprForm::Call => call_lead(nums, next),
+        ExprForm::Unlisted => Lead::Off {
+            number: 4,
+            index: at,
+        },
+    }
+}
+
+// The lead of the expression at `at`.
+fn expr_lead(nums: &[u64], version: u64, at: usize) -> Lead
+    ensures { λ r. ⌜ LeadsExpr version (now (nums .entry)) at r ⌝ }
+{
+    if at < nums.len() {
+        let tag = nums[at];
+        form_lead(nums, version, expr_form(version, tag), at)
+    } else {
+        Lead::Off {
+            number: 4,
+            index: at,
+        }
+    }
+}
+
+// A tag where no further level is allowed.
+fn too_deep(nums: &[u64], at: usize) -> Scan
+    ensures { λ r. ⌜ r ≡ scanOf (tooDeep {A = ℕ}) (now (nums .entry)) at ⌝ }
+{
+    if at < nums.len() {
+        Scan::Fault {
+            number: 5,
+            index: at,
+        }
+    } else {
+        Scan::Fault {
+            number: 4,
+            index: at,
+        }
+    }
+}
+
+// The end of the expression at `at`, with so many levels allowed.
+pub fn scan_expr(nums: &[u64], version: u64, depth: usize, at: usize) -> Scan
+    ensures { λ r. ⌜ r ≡ scanOf (readExpr version depth) (now (nums .entry)) at ⌝ }
+{
+    if depth == 0 {
+        too_deep(nums, at)
+    } else {
+        let lead = expr_lead(nums, version, at);
+        match lead {
+            Lead::On {
+                next,
+                operands,
+                statements: _,
+            } => scan_exprs(nums, version, depth - 1, operands, next),
+            Lead::Off { number, index } => Scan::Fault { number, index },
+        }
+    }
+}
+
+// The end of so many expressions, one after the other.
+fn scan_exprs(nums: &[u64], version: u64, depth: usize, count: usize, at: usize) -> Scan
+    ensures { λ r. ⌜ r ≡ scanOf (repeat count (readExpr version depth)) (now (nums .entry)) at ⌝ }
+{
+    if count == 0 {
+        Scan::Past(at)
+    } else {
+        let first = scan_expr(nums, version, depth, at);
+        match first {
+            Scan::Past(next) => scan_exprs(nums, version, depth, count - 1, next),
+            Scan::Fault { number, index } => Scan::Fault { number, index },
+        }
+    }
+}
+
+// What stands behind the tag of an assignment's target, in the version's list of tags.
+fn place_form(version: u64, tag: u64) -> PlaceForm
+    ensures { λ r. ⌜ r ≡ placeForm version tag ⌝ }
+{
+    match tag {
+        2 => PlaceForm::OneNumber,
+        3 => PlaceForm::OneNumber,
+        4 => PlaceForm::OneNumber,
+        5 => PlaceForm::TwoNumbers,
+        _ => PlaceForm::NoPlace,
+    }
+}
+
+// The end of a target of that form whose tag is at `at`.
+fn place_at(nums: &[u64], form: PlaceForm, at: usize) -> Scan
+    requires { ⌜ at < length (now nums) ⌝ }
+    ensures { λ r. ⌜ r ≡ placeScan form (now (nums .entry)) at ⌝ }
+{
+    match form {
+        PlaceForm::OneNumber => any_number(nums, at + 1),
+        PlaceForm::TwoNumbers => two_numbers(nums, at + 1),
+        PlaceForm::NoPlace => Scan::Fault {
+            number: 4,
+            index: at,
+        },
+    }
+}
+
+// The end of an assignment's target, with so many levels allowed.
+fn target_at(nums: &[u64], version: u64, depth: usize, at: usize) -> Scan
+    ensures { λ r. ⌜ r ≡ scanOf (readTarget version depth) (now (nums .entry)) at ⌝ }
+{
+    if depth == 0 {
+        too_deep(nums, at)
+    } else if at < nums.len() {
+        let tag = nums[at];
+        place_at(nums, place_form(version, tag), at)
+    } else {
+        Scan::Fault {
+            number: 4,
+            index: at,
+        }
+    }
+}
+
+// A block up to the first of its members.
+fn block_lead(nums: &[u64], at: usize) -> Lead
+    ensures { λ r. ⌜ r ≡ blockLead (valueOf 0 64 (now (nums .entry)) at) ⌝ }
+{
+    let count = value_in(nums, 0, MOST_MEMBERS, at);
+    match count {
+        Value::Of { value, next } => Lead::On {
+            next: next,
+            operands: 0,
+            statements: value as usize,
+        },
+        Value::Unread { number, index } => Lead::Off { number, index },
+    }
+}
+
+// What stands behind a statement's tag, in the version's list of tags.
+fn stmt_form(version: u64, tag: u64) -> StmtForm
+    ensures { λ r. ⌜ r ≡ stmtForm version tag ⌝ }
+{
+    match tag {
+        0 => StmtForm::Bare,
+        1 => StmtForm::Assign,
+        2 => StmtForm::If,
+        3 => StmtForm::Block,
+        4 => StmtForm::CallStmt,
+        5 => StmtForm::Named,
+        6 => StmtForm::Returned,
+        7 => StmtForm::Bare,
+        8 => StmtForm::Bare,
+        9 => StmtForm::Named,
+        10 => StmtForm::Named,
+        _ => StmtForm::NoStmt,
+    }
+}
+
+// The lead of a statement of that form whose tag is at `at`, with so many levels allowed below it.
+fn stmt_form_lead(nums: &[u64], version: u64, depth: usize, form: StmtForm, at: usize) -> Lead
+    requires { ⌜ at < length (now nums) ⌝ }
+    ensures { λ r. ⌜ r ≡ stmtLead version depth form (now (nums .entry)) at ⌝ }
+{
+    let next = at + 1;
+    match form {
+        StmtForm::Bare => lead_by(Scan::Past(next), 0, 0),
+        StmtForm::Assign => lead_by(target_at(nums, version, depth, next), 1, 0),
+        StmtForm::If => lead_by(Scan::Past(next), 1, 2),
+        StmtForm::Block => block_lead(nums, next),
+        StmtForm::CallStmt => call_lead(nums, next),
+        StmtForm::Named => lead_by(any_number(nums, next), 0, 0),
+        StmtForm::Returned => lead_by(Scan::Past(next), 1, 0),
+        StmtForm::NoStmt => Lead::Off {
+            number: 4,
+            index: at,
+        },
+    }
+}
+
+// The lead of the statement at `at`, with so many levels allowed below it.
+fn stmt_lead(nums: &[u64], version: u64, depth: usize, at: usize) -> Lead
+    ensures { λ r. ⌜ LeadsStmt version depth (now (nums .entry)) at r ⌝ }
+{
+    if at < nums.len() {
+        let tag = nums[at];
+        stmt_form_lead(nums, version, depth, stmt_form(version, tag), at)
+    } else {
+        Lead::Off {
+            number: 4,
+            index: at,
+        }
+    }
+}
+
+// The end of the statement at `at`, with so many levels allowed.
+pub fn scan_stmt(nums: &[u64], version: u64, depth: usize, at: usize) -> Scan
+    ensures { λ r. ⌜ r ≡ scanOf (readStmt version depth) (now (nums .entry)) at ⌝ }
+{
+    if depth == 0 {
+        too_deep(nums, at)
+    } else {
+        let lead = stmt_lead(nums, version, depth - 1, at);
+        match lead {
+            Lead::On {
+                next,
+                operands,
+                statements,
+            } => {
+                let operands_end = scan_exprs(nums, version, depth - 1, operands, next);
+                match operands_end {
+                    Scan::Past(after) => scan_stmts(nums, version, depth - 1, statements, after),
+                    Scan::Fault { number, index } => Scan::Fault { number, index },
+                }
+            }
+            Lead::Off { number, index } => Scan::Fault { number, index },
+        }
+    }
+}
+
+// The end of so many statements, one after the other.
+fn scan_stmts(nums: &[u64], version: u64, depth: usize, count: usize, at: usize) -> Scan
+    ensures { λ r. ⌜ r ≡ scanOf (repeat count (readStmt version depth)) (now (nums .entry)) at ⌝ }
+{
+    if count == 0 {
+        Scan::Past(at)
+    } else {
+        let first = scan_stmt(nums, version, depth, at);
+        match first {
+            Scan::Past(next) => scan_stmts(nums, version, depth, count - 1, next),
+            Scan::Fault { number, index } => Scan::Fault { number, index },
+        }
+    }
+}
+
+// A type of a value.
+fn type_at(nums: &[u64], version: u64, at: usize) -> Scan
+    ensures { λ r. ⌜ r ≡ scanOf (standsFor (typeOf version)) (now (nums .entry)) at ⌝ }
+{
+    number_in(nums, 0, WIDEST, at)
+}
+
+// A parameter's direction.
+fn direction_at(nums: &[u64], version: u64, at: usize) -> Scan
+    ensures { λ r. ⌜ r ≡ scanOf (standsFor (getElem? (directions version))) (now (nums .entry)) at ⌝ }
+{
+    number_in(nums, 0, LAST_DIRECTION, at)
+}
+
+// A parameter: its direction and its type.
+fn parameter_at(nums: &[u64], version: u64, at: usize) -> Scan
+    ensures { λ r. ⌜ r ≡ scanOf (readParameter version) (now (nums .entry)) at ⌝ }
+{
+    let direction = direction_at(nums, version, at);
+    match direction {
+        Scan::Past(next) => type_at(nums, version, next),
+        Scan::Fault { number, index } => Scan::Fault { number, index },
+    }
+}
+
+// A key's kind.
+fn key_kind_at(nums: &[u64], version: u64, at: usize) -> Scan
+    ensures { λ r. ⌜ r ≡ scanOf (standsFor (getElem? (keyKinds version))) (now (nums .entry)) at ⌝ }
+{
+    number_in(nums, 0, LAST_KEY_KIND, at)
+}
+
+// A key: its kind and its expression.
+fn key_at(nums: &[u64], version: u64, at: usize) -> Scan
+    ensures { λ r. ⌜ r ≡ scanOf (readKey version) (now (nums .entry)) at ⌝ }
+{
+    let kind = key_kind_at(nums, version, at);
+    match kind {
+        Scan::Past(next) => scan_expr(nums, version, DEEPEST, next),
+        Scan::Fault { number, index } => Scan::Fault { number, index },
+    }
+}
+
+// A number that stands for itself: an action, a position, a literal.
+fn numeral_at(nums: &[u64], version: u64, at: usize) -> Scan
+    ensures { λ r. ⌜ r ≡ scanOf (readNumeral version) (now (nums .entry)) at ⌝ }
+{
+    any_number(nums, at)
+}
+
+// The end of the item at `at`.
+fn item_at(nums: &[u64], version: u64, item: Item, at: usize) -> Scan
+    ensures { λ r. ⌜ r ≡ itemScan version item (now (nums .entry)) at ⌝ }
+{
+    match item {
+        Item::WidthItem => width_at(nums, at),
+        Item::TypeItem => type_at(nums, version, at),
+        Item::ParameterItem => parameter_at(nums, version, at),
+        Item::KeyItem => key_at(nums, version, at),
+        Item::NumeralItem => numeral_at(nums, version, at),
+    }
+}
+
+// The end of so many items, one after the other.
+fn items_at(nums: &[u64], version: u64, item: Item, count: u64, at: usize) -> Scan
+    ensures { λ r. ⌜ r ≡ repeatScan (itemScan version item (now (nums .entry))) count at ⌝ }
+{
+    if count == 0 {
+        Scan::Past(at)
+    } else {
+        let first = item_at(nums, version, item, at);
+        match first {
+            Scan::Past(next) => items_at(nums, version, item, count - 1, next),
+            Scan::Fault { number, index } => Scan::Fault { number, index },
+        }
+    }
+}
+
+// The end of a list of `least` to `most` items: their count, then the items.
+fn list_at(nums: &[u64], version: u64, item: Item, least: u64, most: u64, at: usize) -> Scan
+    ensures { λ r. ⌜ r ≡ listScan (itemScan version item (now (nums .entry))) least most (now (nums .entry)) at ⌝ }
+{
+    let count = value_in(nums, least, most, at);
+    match count {
+        Value::Of { value, next } => items_at(nums, version, item, value, next),
+        Value::Unread { number, index } => Scan::Fault { number, index },
+    }
+}
+
+// A header type: its fields' widths.
+fn header_at(nums: &[u64], version: u64, at: usize) -> Scan
+    ensures { λ r. ⌜ r ≡ scanOf (readHeader version) (now (nums .entry)) at ⌝ }
+{
+    list_at(nums, version, Item::WidthItem, 1, MOST_FIELDS, at)
+}
+
+// A global: the type of a value, or a header type's number.
+fn global_at(nums: &[u64], version: u64, at: usize) -> Scan
+    ensures { λ r. ⌜ r ≡ scanOf (readGlobal version) (now (nums .entry)) at ⌝ }
+{
+    let value = number_in(nums, 0, WIDEST, at);
+    match value {
+        Scan::Past(next) => Scan::Past(next),
+        Scan::Fault {
+            number: _,
+            index: _,
+        } => number_in(nums, FIRST_HEADER_TYPE, LAST_HEADER_TYPE, at),
+    }
+}
+
+// A callable up to its parameters: its kind and, of a function, its return type.
+fn returning_at(nums: &[u64], version: u64, at: usize) -> Scan
+    ensures { λ r. ⌜ r ≡ scanOf (readReturning version) (now (nums .entry)) at ⌝ }
+{
+    let kind = value_in(nums, 0, LAST_CALLABLE_KIND, at);
+    match kind {
+        Value::Of { value, next } => {
+            if value == 0 {
+                Scan::Past(next)
+            } else {
+                type_at(nums, version, next)
+            }
+        }
+        Value::Unread { number, index } => Scan::Fault { number, index },
+    }
+}
+
+// A callable's parameters and locals.
+fn frame_at(nums: &[u64], version: u64, at: usize) -> Scan
+    ensures { λ r. ⌜ r ≡ scanOf (readFrame version) (now (nums .entry)) at ⌝ }
+{
+    let parameters = list_at(nums, version, Item::ParameterItem, 0, MOST_PARAMETERS, at);
+    match parameters {
+        Scan::Past(next) => list_at(nums, version, Item::TypeItem, 0, MOST_LOCALS, next),
+        Scan::Fault { number, index } => Scan::Fault { number, index },
+    }
+}
+
+// A callable: its head, its parameters and locals, its body.
+fn callable_at(nums: &[u64], version: u64, at: usize) -> Scan
+    ensures { λ r. ⌜ r ≡ scanOf (readCallable version) (now (nums .entry)) at ⌝ }
+{
+    let returning = returning_at(nums, version, at);
+    match returning {
+        Scan::Past(next) => {
+            let frame = frame_at(nums, version, next);
+            match frame {
+                Scan::Past(body) => scan_stmt(nums, version, DEEPEST, body),
+                Scan::Fault { number, index } => Scan::Fault { number, index },
+            }
+        }
+        Scan::Fault { number, index } => Scan::Fault { number, index },
+    }
+}
+
+// A table's keys and actions.
+fn choices_at(nums: &[u64], version: u64, at: usize) -> Scan
+    ensures { λ r. ⌜ r ≡ scanOf (readChoices version) (now (nums .entry)) at ⌝ }
+{
+    let keys = list_at(nums, version, Item::KeyItem, 1, MOST_KEYS, at);
+    match keys {
+        Scan::Past(next) => list_at(nums, version, Item::NumeralItem, 1, MOST_ACTIONS, next),
+        Scan::Fault { number, index } => Scan::Fault { number, index },
+    }
+}
+
+// A table's default: its position, and its arguments.
+fn default_at(nums: &[u64], version: u64, at: usize) -> Scan
+    ensures { λ r. ⌜ r ≡ scanOf (readDefault version) (now (nums .entry)) at ⌝ }
+{
+    let position = numeral_at(nums, version, at);
+    match position {
+        Scan::Past(next) => list_at(nums, version, Item::NumeralItem, 0, MOST_ARGUMENTS, next),
+        Scan::Fault { number, index } => Scan::Fault { number, index },
+    }
+}
+
+// A table: its keys and actions, its default.
+fn table_at(nums: &[u64], version: u64, at: usize) -> Scan
+    ensures { λ r. ⌜ r ≡ scanOf (readTable version) (now (nums .entry)) at ⌝ }
+{
+    let choices = choices_at(nums, version, at);
+    match choices {
+        Scan::Past(next) => default_at(nums, version, next),
+        Scan::Fault { number, index } => Scan::Fault { number, index },
+    }
+}
+
+// The end of the part at `at`.
+fn part_at(nums: &[u64], version: u64, part: Part, at: usize) -> Scan
+    ensures { λ r. ⌜ r ≡ partScan version part (now (nums .entry)) at ⌝ }
+{
+    match part {
+        Part::HeaderPart => header_at(nums, version, at),
+        Part::GlobalPart => global_at(nums, version, at),
+        Part::CallablePart => callable_at(nums, version, at),
+        Part::TablePart => table_at(nums, version, at),
+    }
+}
+
+// The end of so many parts, one after the other. Where each begins goes into the directory, from `slot` on.
+fn parts_at(
+    nums: &[u64],
+    version: u64,
+    part: Part,
+    count: u64,
+    at: usize,
+    slot: usize,
+    directory: &mut [u64; SLOTS],
+) -> Scan
+    requires { ⌜ slot + count ≤ 70 ⌝ }
+    ensures { λ r. ⌜ Walked (partScan version part (now (nums .entry))) count at slot (now (directory .entry)) (now (directory .exit)) r ⌝ }
+{
+    if count == 0 {
+        Scan::Past(at)
+    } else {
+        directory[slot] = at as u64;
+        let first = part_at(nums, version, part, at);
+        match first {
+            Scan::Past(next) => {
+                parts_at(nums, version, part, count - 1, next, slot + 1, directory)
+            }
+            Scan::Fault { number, index } => Scan::Fault { number, index },
+        }
+    }
+}
+
+// The end of a list of at most so many parts. Its count and where each begins go into the directory, from `slot` on.
+fn part_list_at(
+    nums: &[u64],
+    version: u64,
+    part: Part,
+    most: u64,
+    at: usize,
+    slot: usize,
+    directory: &mut [u64; SLOTS],
+) -> Scan
+    requires { ⌜ slot + most < 70 ⌝ }
+    ensures { λ r. ⌜ WalkedList (partScan version part (now (nums .entry))) most (now (nums .entry)) at slot (now (directory .entry)) (now (directory .exit)) r ⌝ }
+{
+    let count = value_in(nums, 0, most, at);
+    match count {
+        Value::Of { value, next } => {
+            directory[slot] = value;
+            parts_at(nums, version, part, value, next, slot + 1, directory)
+        }
+        Value::Unread { number, index } => Scan::Fault { number, index },
+    }
+}
+
+// The header types and the globals.
+fn declared_at(nums: &[u64], version: u64, at: usize, directory: &mut [u64; SLOTS]) -> Scan
+    ensures { λ r. ⌜ Lays (readDeclared version) layDeclared (now (nums .entry)) at (now (directory .entry)) (now (directory .exit)) r ⌝ }
+{
+    let headers = part_list_at(
+        nums,
+        version,
+        Part::HeaderPart,
+        MOST_HEADERS,
+        at,
+        HEADERS,
+        directory,
+    );
+    match headers {
+        Scan::Past(next) => part_list_at(
+            nums,
+            version,
+            Part::GlobalPart,
+            MOST_GLOBALS,
+            next,
+            GLOBALS,
+            directory,
+        ),
+        Scan::Fault { number, index } => Scan::Fault { number, index },
+    }
+}
+
+// The callables and the tables.
+fn defined_at(nums: &[u64], version: u64, at: usize, directory: &mut [u64; SLOTS]) -> Scan
+    ensures { λ r. ⌜ Lays (readDefined version) layDefined (now (nums .entry)) at (now (directory .entry)) (now (directory .exit)) r ⌝ }
+{
+    let callables = part_list_at(
+        nums,
+        version,
+        Part::CallablePart,
+        MOST_CALLABLES,
+        at,
+        CALLABLES,
+        directory,
+    );
+    match callables {
+        Scan::Past(next) => part_list_at(
+            nums,
+            version,
+            Part::TablePart,
+            MOST_TABLES,
+            next,
+            TABLES,
+            directory,
+        ),
+        Scan::Fault { number, index } => Scan::Fault { number, index },
+    }
+}
+
+// The apply body, and the program's end.
+fn body_at(nums: &[u64], version: u64, at: usize, directory: &mut [u64; SLOTS]) -> Scan
+    ensures { λ r. ⌜ Lays (readStmt version 32) layBody (now (nums .entry)) at (now (directory .entry)) (now (directory .exit)) r ⌝ }
+{
+    let body = scan_stmt(nums, version, DEEPEST, at);
+    match body {
+        Scan::Past(end) => {
+            directory[BODY] = at as u64;
+            directory[END] = end as u64;
+            Scan::Past(end)
+        }
+        Scan::Fault { number, index } => Scan::Fault { number, index },
+    }
+}
+
+// What follows the version.
+fn after_version(nums: &[u64], version: u64, at: usize, directory: &mut [u64; SLOTS]) -> Scan
+    ensures { λ r. ⌜ Lays (readAfterVersion version) directoryOf (now (nums .entry)) at (now (directory .entry)) (now (directory .exit)) r ⌝ }
+{
+    let declared = declared_at(nums, version, at, directory);
+    match declared {
+        Scan::Past(next) => {
+            let defined = defined_at(nums, version, next, directory);
+            match defined {
+                Scan::Past(body) => body_at(nums, version, body, directory),
+                Scan::Fault { number, index } => Scan::Fault { number, index },
+            }
+        }
+        Scan::Fault { number, index } => Scan::Fault { number, index },
+    }
+}
+
+// A program, from the first number on.
+fn program_at(nums: &[u64], directory: &mut [u64; SLOTS]) -> Scan
+    ensures { λ r. ⌜ Lays readProgram directoryOf (now (nums .entry)) 0 (now (directory .entry)) (now (directory .exit)) r ⌝ }
+{
+    let version = value_in(nums, 1, LATEST, 0);
+    match version {
+        Value::Of { value, next } => after_version(nums, value, next, directory),
+        Value::Unread { number, index } => Scan::Fault { number, index },
+    }
+}
+
+// The end of the program at the head of `nums`, or its first fault, 5 or 4. Where its parts begin goes into the directory; a fault
+// leaves that as found.
+pub fn scan_program(nums: &[u64], directory: &mut [u64; SLOTS]) -> Scan
+    ensures { λ r. ⌜ ScansProgram (now (nums .entry)) (now (directory .entry)) (now (directory .exit)) r ⌝ }
+{
+    let mut filled = *directory;
+    let program = program_at(nums, &mut filled);
+    match program {
+        Scan::Past(end) => {
+            *directory = filled;
+            Scan::Past(end)
+        }
+        Scan::Fault { number, index } => Scan::Fault { number, index },
+    }
+}

@@ -1,0 +1,33 @@
+-- What is counted lies within the slots or bytes that were lent: the numbers that were read, the bytes that were written.
+use mathlib.Core.List.{List, [], _∷_, _++_}
+use mathlib.Core.Path.{_≡_, sym, ap, _∙_}
+use Prim.Native.Nat.{ℕ, _≤_}
+use native.Mathlib.Omega.{arith}
+use lib.ListN.{length, drop, length-take, length-append}
+use Rattle.rules.specs.declared.ReadAnswer.{ReadAnswer}
+use Rattle.rules.specs.declared.ReadAnswer.the-variants.{Count}
+use Rattle.rules.specs.declared.WriteAnswer.{WriteAnswer}
+use Rattle.rules.specs.declared.WriteAnswer.the-variants.{Length}
+use Rattle.rules.specs.Numbers.{bytesOf}
+use Rattle.rules.specs.Answers.{withRoom, ofWrite, writeSays, writeLeaves}
+use Rattle.numbers.specs.Promises.{Reads, Writes}
+use Rattle.numbers.proofs.Room.{room-told, room-there, filled-there}
+use Rattle.numbers.proofs.Outcomes.{Numbered, read-numbered}
+
+pub numbers-within : (bytes slots : List ℕ) (r : ReadAnswer) (left : List ℕ) (count : ℕ) → Reads bytes slots r left →
+    r ≡ Count count → count ≤ length left
+numbers-within bytes slots r left count p e =
+    let n : Numbered bytes slots count left = read-numbered bytes slots r left count p e in
+    omega (arith, simp length-take at (ap length (n .first)), n .counts)
+
+pub bytes-within : (ns bytes : List ℕ) (r : WriteAnswer) (left : List ℕ) (taken : ℕ) → Writes ns bytes r left →
+    r ≡ Length taken → taken ≤ length left
+unfolding ofWrite writeSays writeLeaves
+bytes-within ns bytes r left taken p e =
+    let all : List ℕ = bytesOf ns in
+    let told : List ℕ = 1 ∷ length all ∷ [] in
+    let says : 1 ∷ taken ∷ [] ≡ withRoom (length all) (length bytes) told = ap ofWrite (sym e) ∙ p .says in
+    let there : length all ≤ length bytes = room-there (length all) (length bytes) taken told says in
+    let same : taken ≡ length all = cc (room-told (length all) (length bytes) told there) in
+    let stored : left ≡ all ++ drop (length all) bytes = p .leaves ∙ filled-there all bytes there in
+    omega (arith, simp length-append at (ap length stored))

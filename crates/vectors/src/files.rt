@@ -1,0 +1,74 @@
+// Files of bytes through the crates: a line for each crate that a file reaches.
+use crate::lines;
+use rules::ReadAnswer;
+use rules::Refusal;
+use shape::Scan;
+
+// The most numbers of a bench file: one a byte.
+const MOST_NUMBERS: usize = 4096;
+// So many of a file's numbers are printed.
+const SHOWN: usize = 4;
+
+pub(crate) fn each() {
+    let count = os::arg_count();
+    let mut index = 1;
+    while index < count {
+        named_by(index);
+        index += 1;
+    }
+}
+
+fn named_by(argument: usize) {
+    let mut name = io::buffer();
+    let length = os::arg(argument, &mut name);
+    file(&name[..length]);
+}
+
+// The buffer has room for more bytes than a bench file may have, so that a file that has too many is not cut.
+fn file(name: &[u8]) {
+    let fd = os::open_read(name);
+    if fd < 0 {
+        os::fail(name);
+        return;
+    }
+    let mut bytes = io::large_buffer();
+    let length = io::read_full(fd, &mut bytes);
+    libc::close(fd);
+    check(name, &bytes[..length]);
+}
+
+fn check(name: &[u8], bytes: &[u8]) {
+    let mut slots = [0u64; MOST_NUMBERS];
+    let answer = numbers::read(bytes, &mut slots);
+    lines::text(name);
+    lines::read(answer);
+    match answer {
+        ReadAnswer::Count(count) => read(name, bytes, &slots[0..count]),
+        ReadAnswer::Unread(_) => lines::end(),
+    }
+}
+
+// The list of numbers that the bytes hold, and what the crates behind make of it.
+fn read(name: &[u8], bytes: &[u8], list: &[u64]) {
+    lines::numbers(list, SHOWN);
+    lines::end();
+    scan(name, bytes, list);
+}
+
+// The program at the head of a list of numbers, which the bytes hold. An index becomes the place of that number.
+fn scan(name: &[u8], bytes: &[u8], list: &[u64]) {
+    let mut directory = [0u64; shape::SLOTS];
+    let answer = shape::scan_program(list, &mut directory);
+    lines::text(name);
+    match answer {
+        Scan::Past(end) => {
+            lines::text(b" shape");
+            lines::number(numbers::place_of(bytes, end) as u64);
+        }
+        Scan::Fault { number, index } => {
+            let place = numbers::place_of(bytes, index);
+            lines::refusal(Refusal { number, place });
+        }
+    }
+    lines::end();
+}

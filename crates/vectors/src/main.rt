@@ -1,0 +1,12 @@
+// Runs bench checks through the proved crates and prints what each answers. The arguments name files of bytes. What is
+// printed is compared with the file `stdout`, which is worked out from document 01 and never from this program.
+mod files;
+mod lines;
+mod room;
+
+fn main() {
+    files::each();
+    room::reads();
+    room::writes();
+    room::round_trips();
+}
