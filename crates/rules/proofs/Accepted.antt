@@ -39,7 +39,8 @@ reads-asked : (P : Program) (test : ℕ → Bool) → Reads (λ n. test n ≡ tr
 unfolding asked
 reads-asked P test = reads-passing 10 test
 
-reads-numbered : {A : Type 0} (number : ℕ) (what : ℕ → Option A) → Reads (λ x. what (x .0) ≡ some (x .1)) (Rattle.rules.specs.Reading.lookedUp number (numbered what))
+reads-numbered : {A : Type 0} (number : ℕ) (what : ℕ → Option A) → Reads (λ x.
+    what (x .0) ≡ some (x .1)) (Rattle.rules.specs.Reading.lookedUp number (numbered what))
 unfolding numbered
 reads-numbered number what = reads-looked-up number λ n. if-then (if-self (what n)) λ a e. ifSome e
 
@@ -48,22 +49,27 @@ module _ (P : Program) where
   pattern-reads : (k : KeyKind) (w : ℕ) → Reads (λ p. patternFits w p ≡ true) (readPattern true P k w)
   unfolding readPattern patternFits
   pattern-reads exact w = reads-then (reads-asked P (fitsWidth w)) λ v h. reads-pure _ h
-  pattern-reads lpm w = reads-then (reads-asked P (fitsWidth w)) λ v h. reads-then (reads-asked P (prefixFits w v)) λ n q. reads-pure _ (both-true _ _ h q)
-  pattern-reads ternary w = reads-then (reads-asked P (fitsWidth w)) λ v h. reads-then (reads-asked P (maskFits w v)) λ n q. reads-pure _ (both-true _ _ h q)
+  pattern-reads lpm w = reads-then (reads-asked P (fitsWidth w)) λ v h.
+      reads-then (reads-asked P (prefixFits w v)) λ n q. reads-pure _ (both-true _ _ h q)
+  pattern-reads ternary w = reads-then (reads-asked P (fitsWidth w)) λ v h.
+      reads-then (reads-asked P (maskFits w v)) λ n q. reads-pure _ (both-true _ _ h q)
 
   patterns-read : (ks : List Key) → Reads (λ ps. patternsFit (map (keyWidth P) ks) ps ≡ true) (readPatterns true P ks)
   unfolding readPatterns patternsFit
   patterns-read [] = reads-pure _ refl
-  patterns-read (k ∷ ks) = reads-then (pattern-reads (k .kind) (keyWidth P k)) λ p h. reads-then (patterns-read ks) λ ps hs. reads-pure _ (both-true _ _ h hs)
+  patterns-read (k ∷ ks) = reads-then (pattern-reads (k .kind) (keyWidth P k)) λ p h.
+      reads-then (patterns-read ks) λ ps hs. reads-pure _ (both-true _ _ h hs)
 
   arguments-read : (ps : List Parameter) → Reads (λ ns. argumentsFit ps ns ≡ true) (readArguments true P ps)
   unfolding readArguments argumentsFit
   arguments-read [] = reads-pure _ refl
-  arguments-read (p ∷ ps) = reads-then (reads-asked P (fits (p .ty))) λ n h. reads-then (arguments-read ps) λ ns hs. reads-pure _ (both-true _ _ h hs)
+  arguments-read (p ∷ ps) = reads-then (reads-asked P (fits (p .ty))) λ n h. reads-then (arguments-read ps) λ ns hs.
+      reads-pure _ (both-true _ _ h hs)
 
   entry-reads : Reads (EntryOk P) (readEntry true P)
   unfolding readEntry argumentsGiven
-  entry-reads = reads-then (reads-numbered 10 (getElem? (P .tables))) λ t ht. reads-then (patterns-read (t .1 .keys)) λ ps hp. reads-then (reads-numbered 10 (actionAt P (t .1))) λ a ha.
+  entry-reads = reads-then (reads-numbered 10 (getElem? (P .tables))) λ t ht.
+      reads-then (patterns-read (t .1 .keys)) λ ps hp. reads-then (reads-numbered 10 (actionAt P (t .1))) λ a ha.
       reads-then (arguments-read (a .1 .parameters)) λ ns hn. reads-pure _ λ T e. rw (same T (t .1) e ht) (hp, rw ha hn)
     where
       same : (T U : Table) {o : Option Table} → o ≡ some T → o ≡ some U → T ≡ U
@@ -84,21 +90,25 @@ zero-only false n h e = eqb-true n 0 h
 fields-read : (valid : Bool) (widths : List ℕ) → Reads (FieldsFit valid widths) (readFields valid widths)
 unfolding readFields
 fields-read valid [] = reads-pure _ (λ _. nil, λ _. nil)
-fields-read valid (w ∷ widths) = reads-then (reads-passing 11 λ n. fitsWidth w n && (valid || eqb n 0)) λ n h. reads-then (fields-read valid widths) λ ns hs.
+fields-read valid (w ∷ widths) = reads-then (reads-passing 11 λ n. fitsWidth w n && (valid || eqb n 0)) λ n h.
+    reads-then (fields-read valid widths) λ ns hs.
     let both = and-both (fitsWidth w n) (valid || eqb n 0) h in
     reads-pure _ (λ e. cons (both .0) (hs .0 e), λ e. cons (zero-only valid n (both .1) e) (hs .1 e))
 
-header-fits : (valid : Bool) {widths ns : List ℕ} → FieldsFit valid widths ns → CellFits (aHeader widths) (headerCell valid ns)
+header-fits : (valid : Bool) {widths ns : List ℕ} → FieldsFit valid widths ns
+    → CellFits (aHeader widths) (headerCell valid ns)
 header-fits true h = validFits (h .0 refl)
 header-fits false h = invalidFits (h .1 refl)
 
 shape-reads : (shape : Shape) → Reads (CellFits shape) (readShape shape)
 unfolding readShape
 shape-reads (aVariable t) = reads-then (reads-passing 11 (fits t)) λ n h. reads-pure (variableCell n) (variableFits h)
-shape-reads (aHeader widths) = reads-then (reads-any (passing 11 (fits bool))) λ mark _. reads-then (fields-read (eqb mark 1) widths) λ ns h.
+shape-reads (aHeader widths) = reads-then (reads-any (passing 11 (fits bool))) λ mark _.
+    reads-then (fields-read (eqb mark 1) widths) λ ns h.
     reads-pure (headerCell (eqb mark 1) ns) (header-fits (eqb mark 1) h)
 
-got-some : {shape : Shape} {g : Got Cell} → IfGot (CellFits shape) g → IfGot (λ c. SomeOf (λ s. CellFits s c) (some shape)) g
+got-some : {shape : Shape} {g : Got Cell} → IfGot (CellFits shape) g → IfGot (λ c. SomeOf (λ s.
+    CellFits s c) (some shape)) g
 got-some (isGot h) = isGot (isSome h)
 got-some isBad = isBad
 
@@ -107,13 +117,15 @@ unfolding readCell
 cell-reads none = record { reads = λ left at. isBad }
 cell-reads (some shape) = record { reads = λ left at. got-some (shape-reads shape .reads left at) }
 
-shape-found : (P : Program) (g : Global) (c : Cell) {o : Option Shape} → shapeIn P (g .ty) ≡ o → SomeOf (λ shape. CellFits shape c) o → GlobalFits P g c
+shape-found : (P : Program) (g : Global) (c : Cell) {o : Option Shape} → shapeIn P (g .ty) ≡ o → SomeOf (λ shape.
+    CellFits shape c) o → GlobalFits P g c
 shape-found P g c e (isSome h) = globalFits e h
 
 cells-read : (P : Program) (gs : List Global) → Reads (All2 (GlobalFits P) gs) (readCells P gs)
 unfolding readCells
 cells-read P [] = reads-pure _ nil
-cells-read P (g ∷ gs) = reads-then (cell-reads (shapeIn P (g .ty))) λ c h. reads-then (cells-read P gs) λ cs hs. reads-pure _ (cons (shape-found P g c refl h) hs)
+cells-read P (g ∷ gs) = reads-then (cell-reads (shapeIn P (g .ty))) λ c h. reads-then (cells-read P gs) λ cs hs.
+    reads-pure _ (cons (shape-found P g c refl h) hs)
 
 store-reads : (P : Program) → Reads (StoreFits P) (readStore P)
 unfolding readStore
@@ -134,10 +146,18 @@ reads-checked isFault = record { reads = λ left at. isBad }
 judging-reads : Reads BenchOk judging
 unfolding judging
 judging-reads = reads-then (reads-any _) λ P _. reads-then (reads-checked (ok-self (judgeProgram P))) λ _ formed.
-    reads-then (reads-checked (ok-need 9 0 (leb (ceilingOf P) mostSteps))) λ _ bounded. reads-then (entries-read P) λ es fit. reads-then (store-reads P) λ cells fits. reads-then (reads-any _) λ _ _.
-    reads-pure _ (record { formed = formed; bounded = leb-true (ceilingOf P) mostSteps bounded; entries-fit = fit; store-fits = fits })
+    reads-then (reads-checked (ok-need 9 0 (leb (ceilingOf P) mostSteps))) λ _ bounded.
+    reads-then (entries-read P) λ es fit. reads-then (store-reads P) λ cells fits. reads-then (reads-any _) λ _ _.
+    reads-pure _ (record {
+      formed = formed;
+      bounded = leb-true
+          (ceilingOf P) mostSteps bounded;
+      entries-fit = fit;
+      store-fits = fits;
+    })
 
-accepted-ok : (bytes : List ℕ) {g : Got Bench} (bench : Bench) → IfGot BenchOk g → placed bytes g ≡ accepted bench → BenchOk bench
+accepted-ok : (bytes : List ℕ) {g : Got Bench} (bench : Bench) → IfGot BenchOk g → placed bytes g ≡ accepted bench
+    → BenchOk bench
 unfolding placed
 accepted-ok bytes bench (isGot {a} h) e = rw (same a bench e) at h
   where
@@ -155,56 +175,76 @@ unfolding judged
 judged-ok bytes bench e = stream-ok bytes (streamOf bytes) bench e
 
 -- tables, then the whole program
-tables-judged : (P : Program) (Ts : List Table) → IfOk (λ _. (t : ℕ) → IfSome (λ T. judgeTable P T ≡ ok tt) (getElem? Ts t)) (judgeTables P Ts)
+tables-judged : (P : Program) (Ts : List Table) → IfOk (λ _. (t : ℕ) → IfSome (λ T.
+    judgeTable P T ≡ ok tt) (getElem? Ts t)) (judgeTables P Ts)
 unfolding judgeTables
 tables-judged P [] = isOk λ t. ifNone
-tables-judged P (T ∷ Ts) = ok-then (ok-self (judgeTable P T)) λ _ h. ok-map (tables-judged P Ts) λ _ hs. λ t. look t h hs
+tables-judged P (T ∷ Ts) = ok-then (ok-self (judgeTable P T)) λ _ h. ok-map (tables-judged P Ts) λ _ hs. λ t.
+    look t h hs
   where
-    look : (t : ℕ) → judgeTable P T ≡ ok tt → ((t : ℕ) → IfSome (λ T. judgeTable P T ≡ ok tt) (getElem? Ts t)) → IfSome (λ T. judgeTable P T ≡ ok tt) (getElem? (T ∷ Ts) t)
+    look : (t : ℕ) → judgeTable P T ≡ ok tt → ((t : ℕ) → IfSome (λ T. judgeTable P T ≡ ok tt) (getElem? Ts t))
+        → IfSome (λ T. judgeTable P T ≡ ok tt) (getElem? (T ∷ Ts) t)
     look zero h hs = ifSome h
     look (suc t) h hs = hs t
 
 -- how a run of an accepted file ends: within the ceiling, with a store that fits; or full
 pub data Ends (P : Program) : Out (List Cell) Signal → Type 0 where
-  ends : (signal : Signal) (store : List Cell) (steps : ℕ) → steps ≤ ceilingOf P → StoreFits P store → Ends P (done signal store steps)
+  ends : (signal : Signal) (store : List Cell) (steps : ℕ) → steps ≤ ceilingOf P → StoreFits P store
+      → Ends P (done signal store steps)
   fills : Ends P full
 
-finish-ends : (P : Program) {b : Bool} {o : Out State Ending} → Good _≤_ (StateFits (applyScope P)) (EndOk inApply b) (ceilingOf P) o → Ends P (finish o)
+finish-ends : (P : Program) {b : Bool} {o : Out State Ending}
+    → Good _≤_ (StateFits (applyScope P)) (EndOk inApply b) (ceilingOf P) o → Ends P (finish o)
 unfolding finish applyScope
 finish-ends P (good n r f q) = ends _ _ n q (f .store-fits)
 finish-ends P isFull = fills
 
 module _ (capacity : ℕ) (P : Program) (entries : List Entry) (fit : All (EntryOk P) entries) where
-  applies : (used : ℕ) → CallsOk P (length (P .callables)) (callsBelow capacity P (length (P .callables))) (calleeIn (ceilingsBelow P (length (P .callables))))
+  applies : (used : ℕ) → CallsOk P (length (P .callables)) (callsBelow capacity P (length (P .callables))) (calleeIn
+      (ceilingsBelow P (length (P .callables))))
       → ((t : ℕ) → IfSome (λ T. judgeTable P T ≡ ok tt) (getElem? (P .tables) t))
-      → AppliesOk (applyScope P) (runTable P used (callsBelow capacity P (length (P .callables))) entries) (λ t. ceilingTable (calleeIn (ceilingsBelow P (length (P .callables)))) (getElem? (P .tables) t))
+      → AppliesOk (applyScope P) (runTable P used (callsBelow capacity P (length (P .callables))) entries) (λ t.
+      ceilingTable (calleeIn (ceilingsBelow P (length (P .callables)))) (getElem? (P .tables) t))
   unfolding applyScope
   applies used h judged _ t = go (getElem? (P .tables) t) refl (judged t)
     where
       go : (o : Option Table) → getElem? (P .tables) t ≡ o → IfSome (λ T. judgeTable P T ≡ ok tt) o
-          → IfSome (λ _. Runs _≤_ (StateFits (applyScope P)) (EndOk inApply false) (ceilingTable (calleeIn (ceilingsBelow P (length (P .callables)))) o) (runTable P used (callsBelow capacity P (length (P .callables))) entries t)) o
+          → IfSome (λ _. Runs _≤_ (StateFits (applyScope P)) (EndOk inApply false) (ceilingTable (calleeIn
+          (ceilingsBelow P (length (P .callables)))) o) (runTable P used (callsBelow capacity P (length
+          (P .callables))) entries t)) o
       go none e j = ifNone
-      go (some T) e (ifSome j) = ifSome (from-ok (rw j at (table-ok P used (callsBelow capacity P (length (P .callables))) (calleeIn (ceilingsBelow P (length (P .callables)))) h entries fit t T e)))
+      go (some T) e (ifSome j) = ifSome (from-ok (rw j at (table-ok P used (callsBelow capacity P (length
+          (P .callables))) (calleeIn (ceilingsBelow P (length (P .callables)))) h entries fit t T e)))
 
-  program-ok : IfOk (λ _. (store : List Cell) → StoreFits P store → Ends P (runProgram capacity P entries store)) (judgeProgram P)
+  program-ok : IfOk (λ _. (store : List Cell) → StoreFits P store
+      → Ends P (runProgram capacity P entries store)) (judgeProgram P)
   unfolding judgeProgram runProgram started ceilingOf ceilingWith applyScope
-  program-ok = ok-then (ok-self (judgeGlobals P (P .globals))) λ _ _. ok-then (judged-all P 0 (P .callables)) λ _ callables. ok-then (tables-judged P (P .tables)) λ _ tables. ok-map (ok-self (judgeStmt (applyScope P) (P .body))) λ _ j store h.
-      finish-ends P ((from-ok (rw j at (sound-stmt (applyScope P) (length (slotsOf store)) (callsBelow capacity P (length (P .callables))) (calleeIn (ceilingsBelow P (length (P .callables))))
-      (calls-below capacity P callables (length (P .callables))) _ _ (applies (length (slotsOf store)) (calls-below capacity P callables (length (P .callables))) tables) (P .body)))) .run _ (record { store-fits = h; parameters-fit = nil; locals-fit = nil }))
+  program-ok = ok-then (ok-self (judgeGlobals P (P .globals))) λ _ _.
+      ok-then (judged-all P 0 (P .callables)) λ _ callables. ok-then (tables-judged P (P .tables)) λ _ tables.
+      ok-map (ok-self (judgeStmt (applyScope P) (P .body))) λ _ j store h.
+      finish-ends P ((from-ok (rw j at (sound-stmt (applyScope P) (length (slotsOf store)) (callsBelow capacity P
+      (length (P .callables))) (calleeIn (ceilingsBelow P (length (P .callables))))
+      (calls-below capacity P callables (length (P .callables))) _ _ (applies (length (slotsOf store))
+      (calls-below capacity P callables (length (P .callables))) tables) (P .body)))) .run _
+      (record { store-fits = h; parameters-fit = nil; locals-fit = nil }))
 
 -- THE THEOREM: for all bytes that are accepted, and every capacity
-pub accepted-ends : (capacity : ℕ) (bytes : List ℕ) (bench : Bench) → judged bytes ≡ accepted bench → Ends (bench .program) (runProgram capacity (bench .program) (bench .entries) (bench .store))
+pub accepted-ends : (capacity : ℕ) (bytes : List ℕ) (bench : Bench) → judged bytes ≡ accepted bench
+    → Ends (bench .program) (runProgram capacity (bench .program) (bench .entries) (bench .store))
 accepted-ends capacity bytes bench e = let known = judged-ok bytes bench e in
-    from-ok (rw (known .formed) at (program-ok capacity (bench .program) (bench .entries) (known .entries-fit))) (bench .store) (known .store-fits)
+    from-ok (rw (known .formed) at (program-ok capacity (bench .program) (bench .entries) (known .entries-fit)))
+    (bench .store) (known .store-fits)
 
 -- so no file's result is the stuck one
-ends-told : (P : Program) (ceiling : ℕ) {o : Out (List Cell) Signal} → Ends P o → numbersOf (outcomeOf ceiling o) ≡ 3 ∷ [] → ⊥
+ends-told : (P : Program) (ceiling : ℕ) {o : Out (List Cell) Signal} → Ends P o
+    → numbersOf (outcomeOf ceiling o) ≡ 3 ∷ [] → ⊥
 unfolding numbersOf toldWith outcomeOf ofSignal
 ends-told P ceiling (ends Done store steps q h) e = let z : _≡_ {A = ℕ} 1 3 = cc in omega arith
 ends-told P ceiling (ends Exit store steps q h) e = let z : _≡_ {A = ℕ} 2 3 = cc in omega arith
 ends-told P ceiling fills e = let z : _≡_ {A = ℕ} 0 3 = cc in omega arith
 
-file-told : (capacity : ℕ) (j : Judged) → ((bench : Bench) → j ≡ accepted bench → Ends (bench .program) (runProgram capacity (bench .program) (bench .entries) (bench .store)))
+file-told : (capacity : ℕ) (j : Judged) → ((bench : Bench) → j ≡ accepted bench
+    → Ends (bench .program) (runProgram capacity (bench .program) (bench .entries) (bench .store)))
     → numbersOf (fileOutcome capacity j) ≡ 3 ∷ [] → ⊥
 unfolding fileOutcome runBench
 file-told capacity (accepted bench) h e = ends-told (bench .program) (ceilingOf (bench .program)) (h bench refl) e

@@ -32,14 +32,16 @@ some-same e = cc
 judged-nil : (P : Program) (n : ℕ) → AllJudged P n []
 judged-nil P n i c e = absurd (none-some e)
 
-judged-cons : (P : Program) (n : ℕ) (c : Callable) (cs : List Callable) → judgeCallable P n c ≡ ok tt → AllJudged P (suc n) cs → AllJudged P n (c ∷ cs)
+judged-cons : (P : Program) (n : ℕ) (c : Callable) (cs : List Callable) → judgeCallable P n c ≡ ok tt
+    → AllJudged P (suc n) cs → AllJudged P n (c ∷ cs)
 judged-cons P n c cs h hs zero d e = rw (add-zero n, ← some-same e) h
 judged-cons P n c cs h hs (suc i) d e = rw (add-suc n i, ← suc-add n i) (hs i d e)
 
 pub judged-all : (P : Program) (n : ℕ) (cs : List Callable) → IfOk (λ _. AllJudged P n cs) (judgeCallables P n cs)
 unfolding judgeCallables
 judged-all P n [] = isOk (judged-nil P n)
-judged-all P n (c ∷ cs) = ok-then (ok-self (judgeCallable P n c)) λ _ h. ok-map (judged-all P (suc n) cs) λ _ hs. judged-cons P n c cs h hs
+judged-all P n (c ∷ cs) = ok-then (ok-self (judgeCallable P n c)) λ _ h. ok-map (judged-all P (suc n) cs) λ _ hs.
+    judged-cons P n c cs h hs
 
 -- what is below n + 1: number n, and what is below n
 below-same : (P : Program) (n f : ℕ) → eqb f n ≡ true → callableBelow P (suc n) f ≡ getElem? (P .callables) n
@@ -65,11 +67,14 @@ below-out P n f e = rw e
 ceilings-length : (P : Program) (n : ℕ) → length (ceilingsBelow P n) ≡ n
 unfolding ceilingsBelow
 ceilings-length P zero = refl
-ceilings-length P (suc n) = length-append (ceilingsBelow P n) _ ∙ (add-one (length (ceilingsBelow P n)) ∙ ap suc (ceilings-length P n))
+ceilings-length P (suc n) = length-append (ceilingsBelow P n) _ ∙ (add-one (length (ceilingsBelow P n)) ∙ ap suc
+    (ceilings-length P n))
 
-callee-same : (P : Program) (n f : ℕ) → eqb f n ≡ true → calleeIn (ceilingsBelow P (suc n)) f ≡ ceilingAt (ceilingsBelow P n) (getElem? (P .callables) n)
+callee-same : (P : Program) (n f : ℕ) → eqb f n ≡ true
+    → calleeIn (ceilingsBelow P (suc n)) f ≡ ceilingAt (ceilingsBelow P n) (getElem? (P .callables) n)
 unfolding calleeIn ceilingsBelow
-callee-same P n f e = rw (eqb-true f n e) (getD-at (ceilingsBelow P n) (ceilingAt (ceilingsBelow P n) (getElem? (P .callables) n)) [] 0 n (ceilings-length P n))
+callee-same P n f e = rw (eqb-true f n e) (getD-at (ceilingsBelow P n) (ceilingAt (ceilingsBelow P n) (getElem?
+    (P .callables) n)) [] 0 n (ceilings-length P n))
 
 callee-less : (P : Program) (n f : ℕ) → f < n → calleeIn (ceilingsBelow P (suc n)) f ≡ calleeIn (ceilingsBelow P n) f
 unfolding calleeIn ceilingsBelow
@@ -77,26 +82,34 @@ callee-less P n f h = List·getD-append (ceilingsBelow P n) _ 0 f (rw (ceilings-
 
 module _ (capacity : ℕ) (P : Program) (judged : AllJudged P 0 (P .callables)) where
   number-ok : (n : ℕ) → CallsOk P n (callsBelow capacity P n) (calleeIn (ceilingsBelow P n))
-      → IfSome (λ c. CallOk P (λ used f ns. runNumber capacity P n (callsBelow capacity P n) (getElem? (P .callables) n) used ns) n (ceilingAt (ceilingsBelow P n) (getElem? (P .callables) n)) c) (getElem? (P .callables) n)
+      → IfSome (λ c. CallOk P (λ used f ns. runNumber capacity P n (callsBelow capacity P n) (getElem?
+      (P .callables) n) used ns) n (ceilingAt (ceilingsBelow P n) (getElem? (P .callables) n)) c) (getElem?
+      (P .callables) n)
   unfolding runNumber ceilingAt
   number-ok n h = go (getElem? (P .callables) n) refl
     where
       go : (o : Option Callable) → getElem? (P .callables) n ≡ o
-          → IfSome (λ c. CallOk P (λ used f ns. runNumber capacity P n (callsBelow capacity P n) o used ns) n (ceilingAt (ceilingsBelow P n) o) c) o
+          → IfSome (λ c. CallOk P (λ used f ns. runNumber capacity P n (callsBelow capacity P n) o used ns) n
+          (ceilingAt (ceilingsBelow P n) o) c) o
       go none e = ifNone
-      go (some c) e = ifSome (from-ok (rw (rw (zero-add n) at (judged n c e)) at (callable-ok capacity P n c (callsBelow capacity P n) (calleeIn (ceilingsBelow P n)) h)))
+      go (some c) e = ifSome (from-ok (rw (rw (zero-add n) at (judged n c e)) at (callable-ok capacity P n c
+          (callsBelow capacity P n) (calleeIn (ceilingsBelow P n)) h)))
 
   pub calls-below : (n : ℕ) → CallsOk P n (callsBelow capacity P n) (calleeIn (ceilingsBelow P n))
   unfolding callsBelow
   calls-below zero f = rw (below-zero P f) ifNone
   calls-below (suc n) f = go (eqb f n) refl (calls-below n)
     where
-      inner : (b : Bool) → ltb f n ≡ b → eqb f n ≡ false → CallsOk P n (callsBelow capacity P n) (calleeIn (ceilingsBelow P n))
+      inner : (b : Bool) → ltb f n ≡ b → eqb f n ≡ false
+          → CallsOk P n (callsBelow capacity P n) (calleeIn (ceilingsBelow P n))
           → IfSome (CallOk P (callsBelow capacity P n) f (calleeIn (ceilingsBelow P (suc n)) f)) (callableBelow P n f)
       inner true q e h = rw (callee-less P n f (ltb-true f n q)) (h f)
       inner false q e h = rw (below-out P n f q) ifNone
 
       go : (b : Bool) → eqb f n ≡ b → CallsOk P n (callsBelow capacity P n) (calleeIn (ceilingsBelow P n))
-          → IfSome (CallOk P (callsBelow capacity P (suc n)) f (calleeIn (ceilingsBelow P (suc n)) f)) (callableBelow P (suc n) f)
-      go true q h = rw (below-same P n f q, callee-same P n f q) (if-map (number-ok n h) λ c k used ns hns. rw (q, callsBelow) (k used ns hns))
-      go false q h = rw (below-less P n f q) (if-map (inner (ltb f n) refl q h) λ c k used ns hns. rw (q, callsBelow) (k used ns hns))
+          → IfSome (CallOk P (callsBelow capacity P (suc n)) f (calleeIn (ceilingsBelow P (suc n)) f)) (callableBelow P
+          (suc n) f)
+      go true q h = rw (below-same P n f q, callee-same P n f q) (if-map (number-ok n h) λ c k used ns hns.
+          rw (q, callsBelow) (k used ns hns))
+      go false q h = rw (below-less P n f q) (if-map (inner (ltb f n) refl q h) λ c k used ns hns.
+          rw (q, callsBelow) (k used ns hns))

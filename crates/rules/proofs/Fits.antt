@@ -99,7 +99,8 @@ unfolding zeroed
 zeroed-zeros nil = nil
 zeroed-zeros (cons h hs) = cons refl (zeroed-zeros hs)
 
-fields-fit : {widths : List ℕ} {c : Cell} (f : ℕ) → CellFits (aHeader widths) c → IfSome (λ w. SomeOf (FitWidth w) (fieldIn f c)) (getElem? widths f)
+fields-fit : {widths : List ℕ} {c : Cell} (f : ℕ) → CellFits (aHeader widths) c → IfSome (λ w.
+    SomeOf (FitWidth w) (fieldIn f c)) (getElem? widths f)
 unfolding fieldIn
 fields-fit f (validFits h) = look-fits h f
 fields-fit f (invalidFits h) = look-fits (zeros-fit h) f
@@ -107,29 +108,35 @@ fields-fit f (invalidFits h) = look-fits (zeros-fit h) f
 set-field : {widths : List ℕ} {c : Cell} (f : ℕ) → CellFits (aHeader widths) c
     → IfSome (λ w. (n : ℕ) → FitWidth w n → SomeOf (CellFits (aHeader widths)) (setField f n c)) (getElem? widths f)
 unfolding setField
-set-field f (validFits h) = if-map (change-fits h f) λ w g n hn. some-then (g (λ _. some n) λ _ _. isSome hn) λ ms hms. isSome (validFits hms)
+set-field f (validFits h) = if-map (change-fits h f) λ w g n hn. some-then (g (λ _. some n) λ _ _. isSome hn) λ ms hms.
+    isSome (validFits hms)
 set-field {widths} f (invalidFits h) = if-map (if-self (getElem? widths f)) λ w _ n hn. isSome (invalidFits h)
 
-pub make-valid : {widths : List ℕ} {c : Cell} → CellFits (aHeader widths) c → SomeOf (CellFits (aHeader widths)) (makeValid c)
+pub make-valid : {widths : List ℕ} {c : Cell} → CellFits (aHeader widths) c
+    → SomeOf (CellFits (aHeader widths)) (makeValid c)
 unfolding makeValid
 make-valid (validFits h) = isSome (validFits h)
 make-valid (invalidFits h) = isSome (validFits (zeros-fit (zeroed-zeros h)))
 
-pub make-invalid : {widths : List ℕ} {c : Cell} → CellFits (aHeader widths) c → SomeOf (CellFits (aHeader widths)) (makeInvalid c)
+pub make-invalid : {widths : List ℕ} {c : Cell} → CellFits (aHeader widths) c
+    → SomeOf (CellFits (aHeader widths)) (makeInvalid c)
 unfolding makeInvalid
 make-invalid (validFits h) = isSome (invalidFits (zeroed-zeros h))
 make-invalid (invalidFits h) = isSome (invalidFits (zeroed-zeros h))
 
 -- globals: looked up with their shape
-look-global : {P : Program} {g : Global} {o : Option Cell} → SomeOf (GlobalFits P g) o → IfSome (λ shape. SomeOf (CellFits shape) o) (shapeIn P (g .ty))
+look-global : {P : Program} {g : Global} {o : Option Cell} → SomeOf (GlobalFits P g) o → IfSome (λ shape.
+    SomeOf (CellFits shape) o) (shapeIn P (g .ty))
 look-global (isSome (globalFits e h)) = rw e (ifSome (isSome h))
 
-pub store-look : {P : Program} {cells : List Cell} → StoreFits P cells → (i : ℕ) → IfSome (λ shape. SomeOf (CellFits shape) (getElem? cells i)) (globalAt P i)
+pub store-look : {P : Program} {cells : List Cell} → StoreFits P cells → (i : ℕ) → IfSome (λ shape.
+    SomeOf (CellFits shape) (getElem? cells i)) (globalAt P i)
 unfolding globalAt
 store-look h i = if-then (look-fits h i) λ g k. look-global k
 
 keep-global : {P : Program} {g : Global} (f : Cell → Option Cell) {shape : Shape} → shapeIn P (g .ty) ≡ some shape
-    → ((c : Cell) → CellFits shape c → SomeOf (CellFits shape) (f c)) → (c : Cell) → GlobalFits P g c → SomeOf (GlobalFits P g) (f c)
+    → ((c : Cell) → CellFits shape c → SomeOf (CellFits shape) (f c)) → (c : Cell) → GlobalFits P g c
+    → SomeOf (GlobalFits P g) (f c)
 keep-global {P} {g} f {shape} e h c (globalFits {shape = other} q k) = go (h c (subst (λ s. CellFits s c) (same e q) k))
   where
     same : shapeIn P (g .ty) ≡ some shape → shapeIn P (g .ty) ≡ some other → other ≡ shape
@@ -139,21 +146,26 @@ keep-global {P} {g} f {shape} e h c (globalFits {shape = other} q k) = go (h c (
     go (isSome p) = isSome (globalFits e p)
 
 pub store-change : {P : Program} {cells : List Cell} → StoreFits P cells → (i : ℕ)
-    → IfSome (λ shape. (f : Cell → Option Cell) → ((c : Cell) → CellFits shape c → SomeOf (CellFits shape) (f c)) → SomeOf (StoreFits P) (change f cells i)) (globalAt P i)
+    → IfSome (λ shape. (f : Cell → Option Cell) → ((c : Cell) → CellFits shape c → SomeOf (CellFits shape) (f c))
+    → SomeOf (StoreFits P) (change f cells i)) (globalAt P i)
 unfolding globalAt
-store-change {P} h i = if-then (change-fits h i) λ g k. if-map (if-self (shapeIn P (g .ty))) λ shape e f hf. k f (keep-global f e hf)
+store-change {P} h i = if-then (change-fits h i) λ g k. if-map (if-self (shapeIn P (g .ty))) λ shape e f hf.
+    k f (keep-global f e hf)
 
-some-all : {A B : Type 0} {C : B → Type 0} {Q : B → A → Type 0} (o : Option A) → ((b : B) → C b → IfSome (Q b) o) → IfSome (λ a. (b : B) → C b → Q b a) o
+some-all : {A B : Type 0} {C : B → Type 0} {Q : B → A → Type 0} (o : Option A) → ((b : B) → C b → IfSome (Q b) o)
+    → IfSome (λ a. (b : B) → C b → Q b a) o
 some-all none h = ifNone
 some-all (some a) h = ifSome λ b c. from-some (h b c)
 
 -- places
 module _ (Γ : Scope) where
-  pub with-store : {s : State} {cells : List Cell} → StateFits Γ s → StoreFits (Γ .program) cells → StateFits Γ (withStore s cells)
+  pub with-store : {s : State} {cells : List Cell} → StateFits Γ s → StoreFits (Γ .program) cells
+      → StateFits Γ (withStore s cells)
   unfolding withStore
   with-store f h = record { store-fits = h; parameters-fit = f .parameters-fit; locals-fit = f .locals-fit }
 
-  with-parameters : {s : State} {ns : List ℕ} → StateFits Γ s → All2 FitParameter (Γ .parameters) ns → StateFits Γ (withParameters s ns)
+  with-parameters : {s : State} {ns : List ℕ} → StateFits Γ s → All2 FitParameter (Γ .parameters) ns
+      → StateFits Γ (withParameters s ns)
   unfolding withParameters
   with-parameters f h = record { store-fits = f .store-fits; parameters-fit = h; locals-fit = f .locals-fit }
 
@@ -161,12 +173,14 @@ module _ (Γ : Scope) where
   unfolding withLocals
   with-locals f h = record { store-fits = f .store-fits; parameters-fit = f .parameters-fit; locals-fit = h }
 
-  variable-held : (shape : Shape) {o : Option Cell} → SomeOf (CellFits shape) o → IfSome (λ t. SomeOf (Fit t) (andLook o variableIn)) (variableTy shape)
+  variable-held : (shape : Shape) {o : Option Cell} → SomeOf (CellFits shape) o → IfSome (λ t.
+      SomeOf (Fit t) (andLook o variableIn)) (variableTy shape)
   unfolding variableTy variableIn andLook
   variable-held (aVariable t) (isSome (variableFits h)) = ifSome (isSome h)
   variable-held (aHeader widths) h = ifNone
 
-  field-held : (f : ℕ) (shape : Shape) {o : Option Cell} → SomeOf (CellFits shape) o → IfSome (λ t. SomeOf (Fit t) (andLook o (fieldIn f))) (fieldTy f shape)
+  field-held : (f : ℕ) (shape : Shape) {o : Option Cell} → SomeOf (CellFits shape) o → IfSome (λ t.
+      SomeOf (Fit t) (andLook o (fieldIn f))) (fieldTy f shape)
   unfolding fieldTy andLook fits
   field-held f (aVariable t) h = ifNone
   field-held f (aHeader widths) (isSome h) = if-then (fields-fit f h) λ w k. ifSome k
@@ -175,10 +189,13 @@ module _ (Γ : Scope) where
   unfolding held declared shapeFor
   held-at (local i) s f = look-fits (f .locals-fit) i
   held-at (parameter i) s f = if-then (look-fits (f .parameters-fit) i) λ p h. ifSome h
-  held-at (global g) s f = if-then (if-only (seesGlobals (Γ .body)) (store-look (f .store-fits) g)) λ shape h. variable-held shape h
-  held-at (field g i) s f = if-then (if-only (seesGlobals (Γ .body)) (store-look (f .store-fits) g)) λ shape h. field-held i shape h
+  held-at (global g) s f = if-then (if-only (seesGlobals (Γ .body)) (store-look (f .store-fits) g)) λ shape h.
+      variable-held shape h
+  held-at (field g i) s f = if-then (if-only (seesGlobals (Γ .body)) (store-look (f .store-fits) g)) λ shape h.
+      field-held i shape h
 
-  set-variable : (shape : Shape) → IfSome (λ t. (n : ℕ) → Fit t n → (c : Cell) → CellFits shape c → SomeOf (CellFits shape) (setVariable n c)) (variableTy shape)
+  set-variable : (shape : Shape) → IfSome (λ t. (n : ℕ) → Fit t n → (c : Cell) → CellFits shape c
+      → SomeOf (CellFits shape) (setVariable n c)) (variableTy shape)
   unfolding variableTy setVariable
   set-variable (aVariable t) = ifSome λ n hn c hc. go n hn c hc
     where
@@ -186,18 +203,25 @@ module _ (Γ : Scope) where
       go n hn _ (variableFits h) = isSome (variableFits hn)
   set-variable (aHeader widths) = ifNone
 
-  put-field : (f : ℕ) (shape : Shape) → IfSome (λ t. (n : ℕ) → Fit t n → (c : Cell) → CellFits shape c → SomeOf (CellFits shape) (setField f n c)) (fieldTy f shape)
+  put-field : (f : ℕ) (shape : Shape) → IfSome (λ t. (n : ℕ) → Fit t n → (c : Cell) → CellFits shape c
+      → SomeOf (CellFits shape) (setField f n c)) (fieldTy f shape)
   unfolding fieldTy fits
   put-field f (aVariable t) = ifNone
-  put-field f (aHeader widths) = if-then (some-all (getElem? widths f) λ c hc. set-field {c = c} f hc) λ w h. ifSome λ n hn c hc. h c hc n hn
+  put-field f (aHeader widths) = if-then (some-all (getElem? widths f) λ c hc. set-field {c = c} f hc) λ w h.
+      ifSome λ n hn c hc. h c hc n hn
 
-  pub put-at : (p : Place) (s : State) → StateFits Γ s → IfSome (λ t. (n : ℕ) → Fit t n → SomeOf (StateFits Γ) (put p n s)) (declared Γ p)
+  pub put-at : (p : Place) (s : State) → StateFits Γ s → IfSome (λ t. (n : ℕ) → Fit t n
+      → SomeOf (StateFits Γ) (put p n s)) (declared Γ p)
   unfolding put declared shapeFor changeStore
-  put-at (local i) s f = if-map (change-fits (f .locals-fit) i) λ t g n hn. some-then (g (λ _. some n) λ _ _. isSome hn) λ ns h. isSome (with-locals f h)
-  put-at (parameter i) s f = if-then (change-fits (f .parameters-fit) i) λ p g. ifSome λ n hn. some-then (g (λ _. some n) λ _ _. isSome hn) λ ns h. isSome (with-parameters f h)
-  put-at (global g) s f = if-then (if-only (seesGlobals (Γ .body)) (store-change (f .store-fits) g)) λ shape k. if-map (set-variable shape) λ t h n hn.
+  put-at (local i) s f = if-map (change-fits (f .locals-fit) i) λ t g n hn. some-then (g (λ _. some n) λ _ _.
+      isSome hn) λ ns h. isSome (with-locals f h)
+  put-at (parameter i) s f = if-then (change-fits (f .parameters-fit) i) λ p g. ifSome λ n hn. some-then (g (λ _.
+      some n) λ _ _. isSome hn) λ ns h. isSome (with-parameters f h)
+  put-at (global g) s f = if-then (if-only (seesGlobals (Γ .body)) (store-change (f .store-fits) g)) λ shape k.
+      if-map (set-variable shape) λ t h n hn.
       some-then (k (setVariable n) (h n hn)) λ cells hc. isSome (with-store f hc)
-  put-at (field g i) s f = if-then (if-only (seesGlobals (Γ .body)) (store-change (f .store-fits) g)) λ shape k. if-map (put-field i shape) λ t h n hn.
+  put-at (field g i) s f = if-then (if-only (seesGlobals (Γ .body)) (store-change (f .store-fits) g)) λ shape k.
+      if-map (put-field i shape) λ t h n hn.
       some-then (k (setField i n) (h n hn)) λ cells hc. isSome (with-store f hc)
 
   -- what the judge says of a place is its declared type
@@ -215,17 +239,21 @@ module _ (Γ : Scope) where
   unfolding judgePlace declared shapeFor andLook onlyIf
   declared-ok at (local i) = ok-found (suc at) (getElem? (Γ .locals) i)
   declared-ok at (parameter i) = ok-then (ok-found (suc at) (getElem? (Γ .parameters) i)) λ p e. isOk (rw e)
-  declared-ok at (global g) = ok-then (ok-found (suc at) (globalAt (Γ .program) g)) λ shape e. ok-then (variable-ok at shape) λ t q.
+  declared-ok at (global g) = ok-then (ok-found (suc at) (globalAt (Γ .program) g)) λ shape e.
+      ok-then (variable-ok at shape) λ t q.
       ok-then (ok-need 8 at (seesGlobals (Γ .body))) λ _ b. isOk (rw (b, e) q)
-  declared-ok at (field g f) = ok-then (ok-found (suc at) (globalAt (Γ .program) g)) λ shape e. ok-then (field-ok at f shape) λ t q.
+  declared-ok at (field g f) = ok-then (ok-found (suc at) (globalAt (Γ .program) g)) λ shape e.
+      ok-then (field-ok at f shape) λ t q.
       ok-then (ok-need 8 at (seesGlobals (Γ .body))) λ _ b. isOk (rw (b, e) q)
 
-  header-ok : (at : ℕ) (shape : Shape) → IfOk (λ _. SomeOf (λ widths. some shape ≡ some (aHeader widths)) (headerOnly shape)) (judgeHeader at shape)
+  header-ok : (at : ℕ) (shape : Shape) → IfOk (λ _. SomeOf (λ widths.
+      some shape ≡ some (aHeader widths)) (headerOnly shape)) (judgeHeader at shape)
   unfolding judgeHeader headerOnly
   header-ok at (aVariable t) = isFault
   header-ok at (aHeader widths) = isOk (isSome refl)
 
-  pub header-at : (at g : ℕ) → IfOk (λ _. SomeOf (λ widths. globalAt (Γ .program) g ≡ some (aHeader widths)) (andLook (shapeFor Γ g) headerOnly)) (judgeHeaderAt Γ at g)
+  pub header-at : (at g : ℕ) → IfOk (λ _. SomeOf (λ widths.
+      globalAt (Γ .program) g ≡ some (aHeader widths)) (andLook (shapeFor Γ g) headerOnly)) (judgeHeaderAt Γ at g)
   unfolding judgeHeaderAt shapeFor onlyIf andLook
   header-at at g = ok-then (ok-found (suc at) (globalAt (Γ .program) g)) λ shape e. ok-then (header-ok at shape) λ _ h.
       ok-map (ok-need 8 at (seesGlobals (Γ .body))) λ _ b. rw (b, e) h
@@ -257,15 +285,18 @@ pub truth-has : (b : Bool) → HasTy bool (truth b)
 unfolding truth
 truth-has b = has (mark-fits b)
 
-pub arithmetic-ok : (o : Arithmetic) {w : ℕ} {v u : Value} → HasTy (bits w) v → HasTy (bits w) u → SomeOf (HasTy (bits w)) (arithmeticOn o v u)
+pub arithmetic-ok : (o : Arithmetic) {w : ℕ} {v u : Value} → HasTy (bits w) v → HasTy (bits w) u
+    → SomeOf (HasTy (bits w)) (arithmeticOn o v u)
 unfolding arithmeticOn onlyIf
 arithmetic-ok o {w} (has {n} h) (has {n = m} k) = rw (eq-eqb w w refl) (isSome (has (calculate-fits o w n m h k)))
 
-pub order-ok : (o : Order) {w : ℕ} {v u : Value} → HasTy (bits w) v → HasTy (bits w) u → SomeOf (HasTy bool) (orderOn o v u)
+pub order-ok : (o : Order) {w : ℕ} {v u : Value} → HasTy (bits w) v → HasTy (bits w) u
+    → SomeOf (HasTy bool) (orderOn o v u)
 unfolding orderOn onlyIf
 order-ok o {w} (has {n} h) (has {n = m} k) = rw (eq-eqb w w refl) (isSome (truth-has (compare o n m)))
 
-pub shift-ok : (o : Shift) {w z : ℕ} {v u : Value} → HasTy (bits w) v → HasTy (bits z) u → SomeOf (HasTy (bits w)) (shiftOn o v u)
+pub shift-ok : (o : Shift) {w z : ℕ} {v u : Value} → HasTy (bits w) v → HasTy (bits z) u
+    → SomeOf (HasTy (bits w)) (shiftOn o v u)
 unfolding shiftOn
 shift-ok o {w} (has {n} h) (has {n = m} k) = isSome (has (shift-fits o w n m h))
 
@@ -285,13 +316,17 @@ pub cast-ok : (w : ℕ) {z : ℕ} {v : Value} → HasTy (bits z) v → SomeOf (H
 unfolding castOn
 cast-ok w (has {n} h) = isSome (has (lt-fits w (castTo w n) (cast-fits w n)))
 
-pub slice-ok : (high low w : ℕ) {v : Value} → sliceFits high low w ≡ true → HasTy (bits w) v → SomeOf (HasTy (bits (sliceWidth high low))) (sliceOn high low v)
+pub slice-ok : (high low w : ℕ) {v : Value} → sliceFits high low w ≡ true → HasTy (bits w) v
+    → SomeOf (HasTy (bits (sliceWidth high low))) (sliceOn high low v)
 unfolding sliceOn onlyIf
-slice-ok high low w e (has {n} h) = rw e (isSome (has (lt-fits (sliceWidth high low) (sliceOf high low n) (slice-fits high low n))))
+slice-ok high low w e (has {n} h) = rw e (isSome (has (lt-fits (sliceWidth high low) (sliceOf high low n)
+    (slice-fits high low n))))
 
-pub concatenation-ok : {w z : ℕ} {v u : Value} → joinFits w z ≡ true → HasTy (bits w) v → HasTy (bits z) u → SomeOf (HasTy (bits (w + z))) (concatenationOn v u)
+pub concatenation-ok : {w z : ℕ} {v u : Value} → joinFits w z ≡ true → HasTy (bits w) v → HasTy (bits z) u
+    → SomeOf (HasTy (bits (w + z))) (concatenationOn v u)
 unfolding concatenationOn onlyIf
-concatenation-ok {w} {z} e (has {n} h) (has {n = m} k) = rw e (isSome (has (lt-fits (w + z) (joined z n m) (joined-fits w z n m (fits-lt w n h) (fits-lt z m k)))))
+concatenation-ok {w} {z} e (has {n} h) (has {n = m} k) = rw e (isSome (has (lt-fits (w + z) (joined z n m)
+    (joined-fits w z n m (fits-lt w n h) (fits-lt z m k)))))
 
 pub bool-ok : {v : Value} → HasTy bool v → SomeOf (HasTy bool) (aBool v)
 unfolding aBool
@@ -313,17 +348,22 @@ cell-length (variableFits h) = refl
 cell-length (validFits h) = ap suc (all2-length h)
 cell-length (invalidFits h) = ap suc (all2-length h)
 
-global-length : {P : Program} {g : Global} {c d : Cell} → GlobalFits P g c → GlobalFits P g d → length (slotsOfCell c) ≡ length (slotsOfCell d)
-global-length (globalFits {shape = x} e h) (globalFits {shape = y} q k) = cell-length h ∙ (ap numbersIn (same e q) ∙ sym (cell-length k))
+global-length : {P : Program} {g : Global} {c d : Cell} → GlobalFits P g c → GlobalFits P g d
+    → length (slotsOfCell c) ≡ length (slotsOfCell d)
+global-length (globalFits {shape = x} e h) (globalFits {shape = y} q k) = cell-length h ∙ (ap numbersIn
+    (same e q) ∙ sym (cell-length k))
   where
     same : {o : Option Shape} → o ≡ some x → o ≡ some y → x ≡ y
     same e q = cc
 
-cells-length : {P : Program} {gs : List Global} {cs ds : List Cell} → All2 (GlobalFits P) gs cs → All2 (GlobalFits P) gs ds → length (slotsOf cs) ≡ length (slotsOf ds)
+cells-length : {P : Program} {gs : List Global} {cs ds : List Cell} → All2 (GlobalFits P) gs cs
+    → All2 (GlobalFits P) gs ds → length (slotsOf cs) ≡ length (slotsOf ds)
 unfolding slotsOf
 cells-length nil nil = refl
 cells-length (cons {b = c} {ys = cs} h hs) (cons {b = d} {ys = ds} k ks) =
-    length-append (slotsOfCell c) (slotsOf cs) ∙ (ap₂ (λ n m. n + m) (global-length h k) (cells-length hs ks) ∙ sym (length-append (slotsOfCell d) (slotsOf ds)))
+    length-append (slotsOfCell c) (slotsOf cs) ∙ (ap₂ (λ n m.
+    n + m) (global-length h k) (cells-length hs ks) ∙ sym (length-append (slotsOfCell d) (slotsOf ds)))
 
-pub store-length : (P : Program) (cs ds : List Cell) → StoreFits P cs → StoreFits P ds → length (slotsOf cs) ≡ length (slotsOf ds)
+pub store-length : (P : Program) (cs ds : List Cell) → StoreFits P cs → StoreFits P ds
+    → length (slotsOf cs) ≡ length (slotsOf ds)
 store-length P cs ds h k = cells-length h k

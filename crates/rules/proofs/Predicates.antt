@@ -48,7 +48,8 @@ pub data SomeOf {A : Type 0} (P : A → Type 0) : Option A → Type 0 where
   isSome : {a : A} → P a → SomeOf P (some a)
 
 -- judged parts
-pub ok-then : {A B : Type 0} {P : A → Type 0} {Q : B → Type 0} {r : Res A} {k : A → Res B} → IfOk P r → ((a : A) → P a → IfOk Q (k a)) → IfOk Q (r >>= k)
+pub ok-then : {A B : Type 0} {P : A → Type 0} {Q : B → Type 0} {r : Res A} {k : A → Res B} → IfOk P r → ((a : A) → P a
+    → IfOk Q (k a)) → IfOk Q (r >>= k)
 unfolding _>>=_
 ok-then (isOk p) h = h _ p
 ok-then isFault h = isFault
@@ -84,11 +85,13 @@ pub from-ok : {A : Type 0} {P : A → Type 0} {a : A} → IfOk P (ok a) → P a
 from-ok (isOk p) = p
 
 -- options
-pub some-then : {A B : Type 0} {P : A → Type 0} {Q : B → Type 0} {o : Option A} {k : A → Option B} → SomeOf P o → ((a : A) → P a → SomeOf Q (k a)) → SomeOf Q (andLook o k)
+pub some-then : {A B : Type 0} {P : A → Type 0} {Q : B → Type 0} {o : Option A} {k : A → Option B} → SomeOf P o
+    → ((a : A) → P a → SomeOf Q (k a)) → SomeOf Q (andLook o k)
 unfolding andLook
 some-then (isSome p) h = h _ p
 
-pub if-then : {A B : Type 0} {P : A → Type 0} {Q : B → Type 0} {o : Option A} {k : A → Option B} → IfSome P o → ((a : A) → P a → IfSome Q (k a)) → IfSome Q (andLook o k)
+pub if-then : {A B : Type 0} {P : A → Type 0} {Q : B → Type 0} {o : Option A} {k : A → Option B} → IfSome P o
+    → ((a : A) → P a → IfSome Q (k a)) → IfSome Q (andLook o k)
 unfolding andLook
 if-then ifNone h = ifNone
 if-then (ifSome p) h = h _ p
@@ -113,13 +116,15 @@ pub some-is : {A : Type 0} {P : A → Type 0} {a : A} → SomeOf P (some a) → 
 some-is (isSome p) = p
 
 -- looking into a list that fits another, and changing one member of it
-pub look-fits : {A B : Type 0} {R : A → B → Type 0} {xs : List A} {ys : List B} → All2 R xs ys → (i : ℕ) → IfSome (λ a. SomeOf (R a) (getElem? ys i)) (getElem? xs i)
+pub look-fits : {A B : Type 0} {R : A → B → Type 0} {xs : List A} {ys : List B} → All2 R xs ys → (i : ℕ) → IfSome (λ a.
+    SomeOf (R a) (getElem? ys i)) (getElem? xs i)
 look-fits nil i = ifNone
 look-fits (cons r rs) zero = ifSome (isSome r)
 look-fits (cons r rs) (suc i) = look-fits rs i
 
 pub change-fits : {A B : Type 0} {R : A → B → Type 0} {xs : List A} {ys : List B} → All2 R xs ys → (i : ℕ)
-    → IfSome (λ a. (f : B → Option B) → ((b : B) → R a b → SomeOf (R a) (f b)) → SomeOf (All2 R xs) (change f ys i)) (getElem? xs i)
+    → IfSome (λ a. (f : B → Option B) → ((b : B) → R a b → SomeOf (R a) (f b))
+    → SomeOf (All2 R xs) (change f ys i)) (getElem? xs i)
 unfolding change
 change-fits nil i = ifNone
 change-fits (cons r rs) zero = ifSome λ f h. some-then (h _ r) λ c hc. isSome (cons hc rs)
@@ -129,12 +134,14 @@ change-fits (cons r rs) (suc i) = if-map (change-fits rs i) λ a g f h. some-the
 pub record Reads {A : Type 0} (P : A → Type 0) (read : Reader A) : Type 0 where
   pub reads : (left : List ℕ) (at : ℕ) → IfGot P (read left at)
 
-got-then : {A B : Type 0} {P : A → Type 0} {Q : B → Type 0} {g : Got A} {k : A → Reader B} → IfGot P g → ((a : A) → P a → Reads Q (k a)) → IfGot Q (Reading.andThen g k)
+got-then : {A B : Type 0} {P : A → Type 0} {Q : B → Type 0} {g : Got A} {k : A → Reader B} → IfGot P g → ((a : A) → P a
+    → Reads Q (k a)) → IfGot Q (Reading.andThen g k)
 unfolding Reading.andThen
 got-then (isGot p) h = (h _ p) .reads _ _
 got-then isBad h = isBad
 
-pub reads-then : {A B : Type 0} {P : A → Type 0} {Q : B → Type 0} {read : Reader A} {k : A → Reader B} → Reads P read → ((a : A) → P a → Reads Q (k a)) → Reads Q (Reading._>>=_ read k)
+pub reads-then : {A B : Type 0} {P : A → Type 0} {Q : B → Type 0} {read : Reader A} {k : A → Reader B} → Reads P read
+    → ((a : A) → P a → Reads Q (k a)) → Reads Q (Reading._>>=_ read k)
 unfolding Reading._>>=_
 reads-then h g = record { reads = λ left at. got-then (h .reads left at) g }
 
@@ -142,17 +149,20 @@ pub reads-pure : {A : Type 0} {P : A → Type 0} (a : A) → P a → Reads P (Re
 unfolding Reading.pure
 reads-pure a p = record { reads = λ left at. isGot p }
 
-got-meaning : {A : Type 0} {P : A → Type 0} (number : ℕ) {o : Option A} (left : List ℕ) (at : ℕ) → IfSome P o → IfGot P (Reading.meaning number o left at)
+got-meaning : {A : Type 0} {P : A → Type 0} (number : ℕ) {o : Option A} (left : List ℕ) (at : ℕ) → IfSome P o
+    → IfGot P (Reading.meaning number o left at)
 unfolding Reading.meaning
 got-meaning number left at ifNone = isBad
 got-meaning number left at (ifSome p) = isGot p
 
-got-looked-up : {A : Type 0} {P : A → Type 0} (number : ℕ) (what : ℕ → Option A) → ((n : ℕ) → IfSome P (what n)) → (left : List ℕ) (at : ℕ) → IfGot P (Reading.lookedUp number what left at)
+got-looked-up : {A : Type 0} {P : A → Type 0} (number : ℕ) (what : ℕ → Option A) → ((n : ℕ) → IfSome P (what n))
+    → (left : List ℕ) (at : ℕ) → IfGot P (Reading.lookedUp number what left at)
 unfolding Reading.lookedUp
 got-looked-up number what h [] at = isBad
 got-looked-up number what h (n ∷ left) at = got-meaning number left at (h n)
 
-pub reads-looked-up : {A : Type 0} {P : A → Type 0} (number : ℕ) {what : ℕ → Option A} → ((n : ℕ) → IfSome P (what n)) → Reads P (Reading.lookedUp number what)
+pub reads-looked-up : {A : Type 0} {P : A → Type 0} (number : ℕ) {what : ℕ → Option A} → ((n : ℕ) → IfSome P (what n))
+    → Reads P (Reading.lookedUp number what)
 reads-looked-up number h = record { reads = got-looked-up number _ h }
 
 pub reads-any : {A : Type 0} (read : Reader A) → Reads (λ _. Unit {0}) read
@@ -162,7 +172,8 @@ reads-any read = record { reads = λ left at. any (read left at) }
     any (got a left at) = isGot tt
     any (bad number at) = isBad
 
-pub reads-repeat : {A : Type 0} {P : A → Type 0} (n : ℕ) {one : Reader A} → Reads P one → Reads (All P) (Reading.repeat n one)
+pub reads-repeat : {A : Type 0} {P : A → Type 0} (n : ℕ) {one : Reader A} → Reads P one
+    → Reads (All P) (Reading.repeat n one)
 unfolding Reading.repeat
 reads-repeat zero h = reads-pure _ none-left
 reads-repeat (suc n) h = reads-then h λ a p. reads-then (reads-repeat n h) λ rest ps. reads-pure _ (also p ps)
@@ -188,23 +199,27 @@ pub record Runs (W : ℕ → ℕ → Type 0) {S B : Type 0} (F : S → Type 0) (
   pub run : (s : S) → F s → Good W F R c (m s)
 
 module _ {W : ℕ → ℕ → Type 0} (counts : Counts W) where
-  good-more : {S B : Type 0} {F : S → Type 0} {R : B → Type 0} {c d k : ℕ} {o : Out S B} → W k d → Good W F R c o → Good W F R (d + c) (more k o)
+  good-more : {S B : Type 0} {F : S → Type 0} {R : B → Type 0} {c d k : ℕ} {o : Out S B} → W k d → Good W F R c o
+      → Good W F R (d + c) (more k o)
   unfolding more
   good-more {k} h (good n r f q) = good (k + n) r f (counts .sum h q)
   good-more h isFull = isFull
 
-  good-next : {S A B : Type 0} {F : S → Type 0} {R : A → Type 0} {Q : B → Type 0} {c d : ℕ} {o : Out S A} {k : A → M S B}
+  good-next : {S A B : Type 0} {F : S → Type 0} {R : A → Type 0} {Q : B → Type 0} {c d : ℕ} {o : Out S A} {k : A
+      → M S B}
       → Good W F R c o → ((a : A) → R a → Runs W F Q d (k a)) → Good W F Q (c + d) (next o k)
   unfolding next
   good-next (good n r f q) h = good-more q ((h _ r) .run _ f)
   good-next isFull h = isFull
 
-  pub runs-then : {S A B : Type 0} {F : S → Type 0} {R : A → Type 0} {Q : B → Type 0} {c d : ℕ} {m : M S A} {k : A → M S B}
+  pub runs-then : {S A B : Type 0} {F : S → Type 0} {R : A → Type 0} {Q : B → Type 0} {c d : ℕ} {m : M S A} {k : A
+      → M S B}
       → Runs W F R c m → ((a : A) → R a → Runs W F Q d (k a)) → Runs W F Q (c + d) (Running._>>=_ m k)
   unfolding Running._>>=_
   runs-then h g = record { run = λ s f. good-next (h .run s f) g }
 
-  pub runs-tick : {S A : Type 0} {F : S → Type 0} {R : A → Type 0} {c : ℕ} {m : M S A} → Runs W F R c m → Runs W F R (1 + c) (tick m)
+  pub runs-tick : {S A : Type 0} {F : S → Type 0} {R : A → Type 0} {c : ℕ} {m : M S A} → Runs W F R c m
+      → Runs W F R (1 + c) (tick m)
   unfolding tick
   runs-tick h = record { run = λ s f. good-more {d = 1} (counts .one) (h .run s f) }
 
@@ -212,11 +227,13 @@ module _ {W : ℕ → ℕ → Type 0} (counts : Counts W) where
   unfolding pure
   runs-pure a r = record { run = λ s f. good 0 r f (counts .nought) }
 
-  good-some : {S A : Type 0} {F : S → Type 0} {R : A → Type 0} {o : Option A} (s : S) → SomeOf R o → F s → Good W F R 0 (orStuck o s)
+  good-some : {S A : Type 0} {F : S → Type 0} {R : A → Type 0} {o : Option A} (s : S) → SomeOf R o → F s
+      → Good W F R 0 (orStuck o s)
   unfolding orStuck
   good-some s (isSome r) f = good 0 r f (counts .nought)
 
-  pub runs-some : {S A : Type 0} {F : S → Type 0} {R : A → Type 0} {o : Option A} → SomeOf R o → Runs W F R 0 (orStuck o)
+  pub runs-some : {S A : Type 0} {F : S → Type 0} {R : A → Type 0} {o : Option A} → SomeOf R o
+      → Runs W F R 0 (orStuck o)
   runs-some h = record { run = λ s f. good-some s h f }
 
   pub runs-must : {S : Type 0} {F : S → Type 0} (b : Bool) → b ≡ true → Runs W F (λ _. Unit {0}) 0 (must b)
@@ -224,7 +241,8 @@ module _ {W : ℕ → ℕ → Type 0} (counts : Counts W) where
   runs-must true e = record { run = λ s f. good 0 tt f (counts .nought) }
   runs-must false e = absurd (false≢true e)
 
-  pub runs-gets : {S A : Type 0} {F : S → Type 0} {R : A → Type 0} {g : S → Option A} → ((s : S) → F s → SomeOf R (g s)) → Runs W F R 0 (gets g)
+  pub runs-gets : {S A : Type 0} {F : S → Type 0} {R : A → Type 0} {g : S → Option A} → ((s : S) → F s
+      → SomeOf R (g s)) → Runs W F R 0 (gets g)
   unfolding gets
   runs-gets h = record { run = λ s f. good-some s (h s f) f }
 
@@ -232,28 +250,36 @@ module _ {W : ℕ → ℕ → Type 0} (counts : Counts W) where
   unfolding setTo
   good-set (isSome f) = good 0 tt f (counts .nought)
 
-  pub runs-puts : {S : Type 0} {F : S → Type 0} {g : S → Option S} → ((s : S) → F s → SomeOf F (g s)) → Runs W F (λ _. Unit {0}) 0 (puts g)
+  pub runs-puts : {S : Type 0} {F : S → Type 0} {g : S → Option S} → ((s : S) → F s → SomeOf F (g s)) → Runs W F (λ _.
+      Unit {0}) 0 (puts g)
   unfolding puts
   runs-puts h = record { run = λ s f. good-set (h s f) }
 
-good-map : {W : ℕ → ℕ → Type 0} {S A : Type 0} {F : S → Type 0} {R Q : A → Type 0} {c : ℕ} {o : Out S A} → ((a : A) → R a → Q a) → Good W F R c o → Good W F Q c o
+good-map : {W : ℕ → ℕ → Type 0} {S A : Type 0} {F : S → Type 0} {R Q : A → Type 0} {c : ℕ} {o : Out S A} → ((a : A)
+    → R a → Q a) → Good W F R c o → Good W F Q c o
 good-map g (good n r f q) = good n (g _ r) f q
 good-map g isFull = isFull
 
-pub runs-map : {W : ℕ → ℕ → Type 0} {S A : Type 0} {F : S → Type 0} {R Q : A → Type 0} {c : ℕ} {m : M S A} → Runs W F R c m → ((a : A) → R a → Q a) → Runs W F Q c m
+pub runs-map : {W : ℕ → ℕ → Type 0} {S A : Type 0} {F : S → Type 0} {R Q : A → Type 0} {c : ℕ} {m : M S A}
+    → Runs W F R c m → ((a : A) → R a → Q a) → Runs W F Q c m
 runs-map h g = record { run = λ s f. good-map g (h .run s f) }
 
 -- at most a smaller ceiling is at most a larger one
-good-le : {S B : Type 0} {F : S → Type 0} {R : B → Type 0} {c d : ℕ} {o : Out S B} → c ≤ d → Good _≤_ F R c o → Good _≤_ F R d o
+good-le : {S B : Type 0} {F : S → Type 0} {R : B → Type 0} {c d : ℕ} {o : Out S B} → c ≤ d → Good _≤_ F R c o
+    → Good _≤_ F R d o
 good-le h (good n r f q) = good n r f (omega arith)
 good-le h isFull = isFull
 
-pub runs-le : {S A : Type 0} {F : S → Type 0} {R : A → Type 0} {c d : ℕ} {m : M S A} → c ≤ d → Runs _≤_ F R c m → Runs _≤_ F R d m
+pub runs-le : {S A : Type 0} {F : S → Type 0} {R : A → Type 0} {c d : ℕ} {m : M S A} → c ≤ d → Runs _≤_ F R c m
+    → Runs _≤_ F R d m
 runs-le h r = record { run = λ s f. good-le h (r .run s f) }
 
 -- behind a look-up that finds, and a test that holds
-pub runs-known : {S A B : Type 0} {F : S → Type 0} {R : B → Type 0} {c : ℕ} {o : Option A} {k : A → M S B} (a : A) → o ≡ some a → ((x : A) → x ≡ a → Runs _≤_ F R c (k x)) → Runs _≤_ F R c (Running._>>=_ (orStuck o) k)
-runs-known {c} a e h = rw e (runs-le {c = 0 + c} (omega arith) (runs-then at-most (runs-some at-most {R = λ x. x ≡ a} (isSome refl)) h))
+pub runs-known : {S A B : Type 0} {F : S → Type 0} {R : B → Type 0} {c : ℕ} {o : Option A} {k : A → M S B} (a : A)
+    → o ≡ some a → ((x : A) → x ≡ a → Runs _≤_ F R c (k x)) → Runs _≤_ F R c (Running._>>=_ (orStuck o) k)
+runs-known {c} a e h = rw e (runs-le {c = 0 + c} (omega arith) (runs-then at-most (runs-some at-most {R = λ x.
+    x ≡ a} (isSome refl)) h))
 
-pub runs-holds : {S B : Type 0} {F : S → Type 0} {R : B → Type 0} {c : ℕ} {m : M S B} (b : Bool) → b ≡ true → Runs _≤_ F R c m → Runs _≤_ F R c (Running._>>=_ (must b) λ _. m)
+pub runs-holds : {S B : Type 0} {F : S → Type 0} {R : B → Type 0} {c : ℕ} {m : M S B} (b : Bool) → b ≡ true
+    → Runs _≤_ F R c m → Runs _≤_ F R c (Running._>>=_ (must b) λ _. m)
 runs-holds {c} b e h = runs-le {c = 0 + c} (omega arith) (runs-then at-most (runs-must at-most b e) λ _ _. h)

@@ -32,12 +32,14 @@ pub result-not-stuck : (bytes : List ℕ) → marked bytes ≡ 3 ∷ [] → ⊥
 result-not-stuck = never-stuck
 
 -- Stores that fit one program, as the first and the last of a run do, have as many numbers.
-pub as-many-numbers : (P : Program) (cs ds : List Cell) → StoreFits P cs → StoreFits P ds → length (slotsOf cs) ≡ length (slotsOf ds)
+pub as-many-numbers : (P : Program) (cs ds : List Cell) → StoreFits P cs → StoreFits P ds
+    → length (slotsOf cs) ≡ length (slotsOf ds)
 as-many-numbers = store-length
 
 -- Inside a run: a call on numbers that fit its parameters keeps every parameter and local within its type, a function's body returns a
 -- value of its type, and it takes at most its ceiling (`CallsOk` of Sound).
-pub calls-sound : (capacity : ℕ) (P : Program) → AllJudged P 0 (P .callables) → (n : ℕ) → CallsOk P n (callsBelow capacity P n) (calleeIn (ceilingsBelow P n))
+pub calls-sound : (capacity : ℕ) (P : Program) → AllJudged P 0 (P .callables) → (n : ℕ)
+    → CallsOk P n (callsBelow capacity P n) (calleeIn (ceilingsBelow P n))
 calls-sound = calls-below
 
 -- The ceiling is a function of the program alone: no entry and no store occurs in its type.
@@ -52,7 +54,8 @@ pub ceiling-exact : (P : Program) → ceilingOf P ≤ mostSteps → countOf P �
 ceiling-exact = exact-below
 
 -- Demand 2, numbers: what is written reads back; a list has one byte form; written bytes are bytes.
-pub written-reads : (ns : List ℕ) → Below (2 ^ 64) ns → 0 < length (bytesOf ns) → length (bytesOf ns) ≤ mostBytes → streamOf (bytesOf ns) ≡ numbers ns
+pub written-reads : (ns : List ℕ) → Below (2 ^ 64) ns → 0 < length (bytesOf ns) → length (bytesOf ns) ≤ mostBytes
+    → streamOf (bytesOf ns) ≡ numbers ns
 written-reads = read-write
 
 pub one-form : (x y ns : List ℕ) → Below 256 x → Below 256 y → streamOf x ≡ numbers ns → streamOf y ≡ numbers ns → x ≡ y
@@ -62,14 +65,18 @@ pub written-bytes : (ns : List ℕ) → Below (2 ^ 64) ns → Below 256 (bytesOf
 written-bytes = write-below
 
 -- Two answers that a promise allows are equal, for every input; what is left in the slots is a function of the input by its type.
-pub read-determined : (bytes : List ℕ) (lent : ℕ) (a b : ReadAnswer) → ofRead a ≡ readSays bytes lent → ofRead b ≡ readSays bytes lent → a ≡ b
+pub read-determined : (bytes : List ℕ) (lent : ℕ) (a b : ReadAnswer) → ofRead a ≡ readSays bytes lent
+    → ofRead b ≡ readSays bytes lent → a ≡ b
 read-determined bytes lent a b e q = read-same a b (e ∙ sym q)
 
-pub write-determined : (ns : List ℕ) (lent : ℕ) (a b : WriteAnswer) → ofWrite a ≡ writeSays ns lent → ofWrite b ≡ writeSays ns lent → a ≡ b
+pub write-determined : (ns : List ℕ) (lent : ℕ) (a b : WriteAnswer) → ofWrite a ≡ writeSays ns lent
+    → ofWrite b ≡ writeSays ns lent → a ≡ b
 write-determined ns lent a b e q = write-same a b (e ∙ sym q)
 
-pub judge-determined : (bytes : List ℕ) (a b : JudgeAnswer) → ofJudge a ≡ judgeSays bytes → ofJudge b ≡ judgeSays bytes → a ≡ b
+pub judge-determined : (bytes : List ℕ) (a b : JudgeAnswer) → ofJudge a ≡ judgeSays bytes → ofJudge b ≡ judgeSays bytes
+    → a ≡ b
 judge-determined bytes a b e q = judge-same a b (e ∙ sym q)
 
-pub run-determined : (bytes : List ℕ) (results working : ℕ) (a b : RunAnswer) → ofRun a ≡ runSays bytes results working → ofRun b ≡ runSays bytes results working → a ≡ b
+pub run-determined : (bytes : List ℕ) (results working : ℕ) (a b : RunAnswer) → ofRun a ≡ runSays bytes results working
+    → ofRun b ≡ runSays bytes results working → a ≡ b
 run-determined bytes results working a b e q = run-same a b (e ∙ sym q)

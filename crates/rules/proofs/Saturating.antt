@@ -100,7 +100,8 @@ unfoldable pub countOf : Program → ℕ
 countOf P = countWith (countsBelow P (length (P .callables))) P
 
 -- `counted` and `tabled` are the cut counts of what is called and applied
-module _ (callee table counted tabled : ℕ → ℕ) (hc : (f : ℕ) → cut (callee f) ≡ counted f) (ht : (t : ℕ) → cut (table t) ≡ tabled t) where
+module _ (callee table counted tabled : ℕ → ℕ) (hc : (f : ℕ) → cut (callee f) ≡ counted f) (ht : (t : ℕ)
+    → cut (table t) ≡ tabled t) where
   mutual
     unfolding ceilingExpr countExpr
 
@@ -111,11 +112,32 @@ module _ (callee table counted tabled : ℕ → ℕ) (hc : (f : ℕ) → cut (ca
     cut-expr (validOf at g) = one
     cut-expr (negation at a) = rw (cut-plus 1 (ceilingExpr callee a), one, cut-expr a)
     cut-expr (complement at a) = rw (cut-plus 1 (ceilingExpr callee a), one, cut-expr a)
-    cut-expr (binary at o a b) = rw (cut-plus 1 (ceilingExpr callee a + ceilingExpr callee b), cut-plus (ceilingExpr callee a) (ceilingExpr callee b), one, cut-expr a, cut-expr b)
+    cut-expr (binary at o a b) = rw (
+      cut-plus 1 (ceilingExpr callee a + ceilingExpr callee b),
+      cut-plus
+          (ceilingExpr callee a) (ceilingExpr callee b),
+      one,
+      cut-expr a,
+      cut-expr b,
+    )
     cut-expr (cast at w a) = rw (cut-plus 1 (ceilingExpr callee a), one, cut-expr a)
     cut-expr (slice at h l a) = rw (cut-plus 1 (ceilingExpr callee a), one, cut-expr a)
-    cut-expr (concatenation at a b) = rw (cut-plus 1 (ceilingExpr callee a + ceilingExpr callee b), cut-plus (ceilingExpr callee a) (ceilingExpr callee b), one, cut-expr a, cut-expr b)
-    cut-expr (callExpr at f xs) = rw (cut-plus 1 (ceilingArgs callee xs + callee f), cut-plus (ceilingArgs callee xs) (callee f), one, cut-args xs, hc f)
+    cut-expr (concatenation at a b) = rw (
+      cut-plus 1 (ceilingExpr callee a + ceilingExpr callee b),
+      cut-plus
+          (ceilingExpr callee a) (ceilingExpr callee b),
+      one,
+      cut-expr a,
+      cut-expr b,
+    )
+    cut-expr (callExpr at f xs) = rw (
+      cut-plus 1 (ceilingArgs callee xs + callee f),
+      cut-plus (ceilingArgs callee xs)
+          (callee f),
+      one,
+      cut-args xs,
+      hc f,
+    )
 
     pub cut-args : (xs : Args) → cut (ceilingArgs callee xs) ≡ countArgs counted xs
     cut-args noArgs = nought
@@ -137,7 +159,14 @@ module _ (callee table counted tabled : ℕ → ℕ) (hc : (f : ℕ) → cut (ca
       cut-stmt b,
     )
     cut-stmt (block at ss) = rw (cut-plus 1 (ceilingStmts callee table ss), one, cut-stmts ss)
-    cut-stmt (callStmt at f xs) = rw (cut-plus 1 (ceilingArgs callee xs + callee f), cut-plus (ceilingArgs callee xs) (callee f), one, cut-args xs, hc f)
+    cut-stmt (callStmt at f xs) = rw (
+      cut-plus 1 (ceilingArgs callee xs + callee f),
+      cut-plus (ceilingArgs callee xs)
+          (callee f),
+      one,
+      cut-args xs,
+      hc f,
+    )
     cut-stmt (apply at t) = rw (cut-plus 1 (table t), one, ht t)
     cut-stmt (returnValue at e) = rw (cut-plus 1 (ceilingExpr callee e), one, cut-expr e)
     cut-stmt (return at) = one
@@ -147,12 +176,22 @@ module _ (callee table counted tabled : ℕ → ℕ) (hc : (f : ℕ) → cut (ca
 
     pub cut-stmts : (ss : Stmts) → cut (ceilingStmts callee table ss) ≡ countStmts counted tabled ss
     cut-stmts noStmts = nought
-    cut-stmts (stmt s ss) = rw (cut-plus (ceilingStmt callee table s) (ceilingStmts callee table ss), cut-stmt s, cut-stmts ss)
+    cut-stmts (stmt s ss) = rw (
+      cut-plus (ceilingStmt callee table s)
+          (ceilingStmts callee table ss),
+      cut-stmt s,
+      cut-stmts ss,
+    )
 
   cut-keys : (ks : List Key) → cut (ceilingKeys callee ks) ≡ countKeys counted ks
   unfolding ceilingKeys countKeys
   cut-keys [] = nought
-  cut-keys (k ∷ ks) = rw (cut-plus (ceilingExpr callee (k .expr)) (ceilingKeys callee ks), cut-expr (k .expr), cut-keys ks)
+  cut-keys (k ∷ ks) = rw (
+    cut-plus (ceilingExpr callee (k .expr)) (ceilingKeys callee ks),
+    cut-expr
+        (k .expr),
+    cut-keys ks,
+  )
 
   cut-largest : (ns : List Numeral) → cut (largestOf callee ns) ≡ largestOf counted ns
   unfolding largestOf
@@ -162,7 +201,12 @@ module _ (callee table counted tabled : ℕ → ℕ) (hc : (f : ℕ) → cut (ca
   pub cut-table : (o : Option Table) → cut (ceilingTable callee o) ≡ countTable counted o
   unfolding ceilingTable countTable
   cut-table none = nought
-  cut-table (some T) = rw (cut-plus (ceilingKeys callee (T .keys)) (largestOf callee (T .actions)), cut-keys (T .keys), cut-largest (T .actions))
+  cut-table (some T) = rw (
+    cut-plus (ceilingKeys callee (T .keys)) (largestOf callee (T .actions)),
+    cut-keys
+        (T .keys),
+    cut-largest (T .actions),
+  )
 
 -- the lists of ceilings
 cut-callee : (cs : List ℕ) (f : ℕ) → cut (calleeIn cs f) ≡ calleeIn (map cut cs) f
@@ -176,18 +220,22 @@ map-snoc f (x ∷ xs) y = ap (λ l. f x ∷ l) (map-snoc f xs y)
 cut-at : (cs : List ℕ) (o : Option Callable) → cut (ceilingAt cs o) ≡ countAt (map cut cs) o
 unfolding ceilingAt countAt
 cut-at cs none = nought
-cut-at cs (some c) = cut-stmt (calleeIn cs) noTable (calleeIn (map cut cs)) noTable (cut-callee cs) (λ t. nought) (c .body)
+cut-at cs (some c) = cut-stmt (calleeIn cs) noTable (calleeIn (map cut cs)) noTable (cut-callee cs) (λ t.
+    nought) (c .body)
 
 cut-below : (P : Program) (n : ℕ) → map cut (ceilingsBelow P n) ≡ countsBelow P n
 unfolding ceilingsBelow countsBelow
 cut-below P zero = refl
-cut-below P (suc n) = map-snoc cut (ceilingsBelow P n) (ceilingAt (ceilingsBelow P n) (getElem? (P .callables) n)) ∙ rw (cut-at (ceilingsBelow P n) (getElem? (P .callables) n), cut-below P n)
+cut-below P (suc n) = map-snoc cut (ceilingsBelow P n) (ceilingAt (ceilingsBelow P n) (getElem? (P .callables) n)) ∙ rw
+    (cut-at (ceilingsBelow P n) (getElem? (P .callables) n), cut-below P n)
 
 -- the count is the ceiling, cut at 1,000,001
 pub cut-ceiling : (P : Program) → cut (ceilingOf P) ≡ countOf P
 unfolding ceilingOf countOf ceilingWith countWith
-cut-ceiling P = cut-stmt _ _ _ _ (λ f. cut-callee (ceilingsBelow P (length (P .callables))) f ∙ ap (λ cs. calleeIn cs f) (cut-below P (length (P .callables))))
-    (λ t. cut-table _ (λ _. 0) _ (λ _. 0) (λ f. cut-callee (ceilingsBelow P (length (P .callables))) f ∙ ap (λ cs. calleeIn cs f) (cut-below P (length (P .callables)))) (λ _. nought) (getElem? (P .tables) t)) (P .body)
+cut-ceiling P = cut-stmt _ _ _ _ (λ f. cut-callee (ceilingsBelow P (length (P .callables))) f ∙ ap (λ cs.
+    calleeIn cs f) (cut-below P (length (P .callables))))
+    (λ t. cut-table _ (λ _. 0) _ (λ _. 0) (λ f. cut-callee (ceilingsBelow P (length (P .callables))) f ∙ ap (λ cs.
+    calleeIn cs f) (cut-below P (length (P .callables)))) (λ _. nought) (getElem? (P .tables) t)) (P .body)
 
 -- 9 sees no difference, and where it is not given the count is the ceiling
 pub same-refusal : (P : Program) → leb (countOf P) mostSteps ≡ leb (ceilingOf P) mostSteps
