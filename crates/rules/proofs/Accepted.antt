@@ -13,17 +13,27 @@ use Rattle.rules.specs.declared.Signal.the-variants.{Done, Exit}
 use Rattle.rules.specs.Numbers.{Stream, numbers, broken, streamOf}
 use Rattle.rules.specs.Words.{fitsWidth, prefixFits, maskFits}
 use Rattle.rules.specs.Syntax.{bool, KeyKind, exact, lpm, ternary, Global, Parameter, Callable, Key, Table, Program}
-use Rattle.rules.specs.Reading.{Got, got, bad, Reader}
+use Rattle.rules.specs.Reading.{Got, got, bad, Reader, within}
 use Rattle.rules.specs.Form.{Res, ok, fault, need, onlyIf, fits, Shape, aVariable, aHeader, shapeIn, inApply, isApply, isFunction, applyScope, judgeCallables, judgeTable, judgeTables, judgeGlobals, judgeStmt, judgeProgram, andLook}
 use Rattle.rules.specs.Ceiling.{mostSteps, calleeIn, ceilingsBelow, ceilingTable, ceilingWith, ceilingOf}
-use Rattle.rules.specs.Lists.{Pattern, exactly, prefixed, masked, Entry, Cell, variableCell, headerCell, passing, keyWidth, actionAt, numbered, asked, readPattern, readPatterns, readArguments, readEntry, readEntries, readFields, readShape, readCell, readCells, readStore, slotsOf}
+use Rattle.rules.specs.Lists.{Pattern, exactly, prefixed, masked, Entry, mostEntries, nothingLeft, Cell, variableCell, headerCell, passing, keyWidth, actionAt, numbered, asked, readPattern, readPatterns, readArguments, readEntry, readEntries, readFields, readShape, readCell, readCells, readStore, slotsOf}
 use Rattle.rules.specs.Running.{State, Ending, Out, done, stuck, full, callsBelow, argumentsFit, argumentsGiven, patternFits, patternsFit, runTable, finish, started, runStmt, runProgram}
 use Rattle.rules.specs.Answers.{Bench, checked, judging, Judged, accepted, refused, placed, judgedStream, judged, outcomeOf, runBench, fileOutcome, toldWith, numbersOf, ofSignal, workingSlots, marked}
-use Rattle.rules.proofs.Predicates.{and-both, both-true, All2, nil, cons, All, none-left, also, IfOk, isOk, isFault, IfSome, ifNone, ifSome, IfGot, isGot, isBad, SomeOf, isSome, ok-then, ok-map, ok-self, ok-need, from-ok, from-some, if-then, if-map, if-self, Reads, reads-then, reads-pure, reads-looked-up, reads-any, reads-repeat, Good, good, isFull, Runs}
+use Rattle.rules.proofs.Refusals.{program-reads, Judging-ok, fine, faulty, program-judged, place-within, Stream-ok, whole, breaks, stream-ok}
+use Rattle.rules.proofs.Predicates.{JudgeGives, if-any, and-both, both-true, All2, nil, cons, All, none-left, also, IfOk, isOk, isFault, IfSome, ifNone, ifSome, IfGot, isGot, isBad, SomeOf, isSome, ok-then, ok-map, ok-self, ok-need, from-ok, from-some, if-then, if-map, if-self, Reads, reads-then, reads-pure, reads-looked-up, reads-repeat, Good, good, isFull, Runs}
 use Rattle.rules.proofs.Fits.{Fit, FitWidth, CellFits, variableFits, validFits, invalidFits, GlobalFits, globalFits, StoreFits, StateFits}
 use Rattle.rules.proofs.Sound.{EndOk, CallsOk, AppliesOk, sound-stmt}
 use Rattle.rules.proofs.Callables.{judged-all, calls-below}
 use Rattle.rules.proofs.Tables.{EntryOk, table-ok}
+
+ten : JudgeGives 10
+ten = (omega arith, omega arith)
+
+eleven : JudgeGives 11
+eleven = (omega arith, omega arith)
+
+twelve : JudgeGives 12
+twelve = (omega arith, omega arith)
 
 -- numbers that pass a test
 only-if : (b : Bool) {A : Type 0} (a : A) → IfSome (λ x. (x ≡ a) × (b ≡ true)) (onlyIf b (some a))
@@ -31,18 +41,18 @@ unfolding onlyIf
 only-if true a = ifSome (refl, refl)
 only-if false a = ifNone
 
-reads-passing : (number : ℕ) (test : ℕ → Bool) → Reads (λ n. test n ≡ true) (passing number test)
+reads-passing : (number : ℕ) → JudgeGives number → (test : ℕ → Bool) → Reads (λ n. test n ≡ true) (passing number test)
 unfolding passing
-reads-passing number test = reads-looked-up number λ n. if-map (only-if (test n) n) λ x h. rw (h .0) (h .1)
+reads-passing number q test = reads-looked-up number q λ n. if-map (only-if (test n) n) λ x h. rw (h .0) (h .1)
 
 reads-asked : (P : Program) (test : ℕ → Bool) → Reads (λ n. test n ≡ true) (passing 10 (asked true P test))
 unfolding asked
-reads-asked P test = reads-passing 10 test
+reads-asked P test = reads-passing 10 ten test
 
-reads-numbered : {A : Type 0} (number : ℕ) (what : ℕ → Option A) → Reads (λ x.
-    what (x .0) ≡ some (x .1)) (Rattle.rules.specs.Reading.lookedUp number (numbered what))
+reads-numbered : {A : Type 0} (what : ℕ → Option A) → Reads (λ x.
+    what (x .0) ≡ some (x .1)) (Rattle.rules.specs.Reading.lookedUp 10 (numbered what))
 unfolding numbered
-reads-numbered number what = reads-looked-up number λ n. if-then (if-self (what n)) λ a e. ifSome e
+reads-numbered what = reads-looked-up 10 ten λ n. if-then (if-self (what n)) λ a e. ifSome e
 
 -- entries
 module _ (P : Program) where
@@ -68,8 +78,8 @@ module _ (P : Program) where
 
   entry-reads : Reads (EntryOk P) (readEntry true P)
   unfolding readEntry argumentsGiven
-  entry-reads = reads-then (reads-numbered 10 (getElem? (P .tables))) λ t ht.
-      reads-then (patterns-read (t .1 .keys)) λ ps hp. reads-then (reads-numbered 10 (actionAt P (t .1))) λ a ha.
+  entry-reads = reads-then (reads-numbered (getElem? (P .tables))) λ t ht.
+      reads-then (patterns-read (t .1 .keys)) λ ps hp. reads-then (reads-numbered (actionAt P (t .1))) λ a ha.
       reads-then (arguments-read (a .1 .parameters)) λ ns hn. reads-pure _ λ T e. rw (same T (t .1) e ht) (hp, rw ha hn)
     where
       same : (T U : Table) {o : Option Table} → o ≡ some T → o ≡ some U → T ≡ U
@@ -77,7 +87,8 @@ module _ (P : Program) where
 
   pub entries-read : Reads (All (EntryOk P)) (readEntries true P)
   unfolding readEntries
-  entries-read = reads-then (reads-any _) λ n _. reads-repeat n entry-reads
+  entries-read = reads-then (reads-looked-up 10 ten λ n. if-any (within 0 mostEntries n)) λ n _.
+      reads-repeat n entry-reads
 
 -- the store
 abbrev FieldsFit : Bool → List ℕ → List ℕ → Type 0
@@ -90,7 +101,7 @@ zero-only false n h e = eqb-true n 0 h
 fields-read : (valid : Bool) (widths : List ℕ) → Reads (FieldsFit valid widths) (readFields valid widths)
 unfolding readFields
 fields-read valid [] = reads-pure _ (λ _. nil, λ _. nil)
-fields-read valid (w ∷ widths) = reads-then (reads-passing 11 λ n. fitsWidth w n && (valid || eqb n 0)) λ n h.
+fields-read valid (w ∷ widths) = reads-then (reads-passing 11 eleven λ n. fitsWidth w n && (valid || eqb n 0)) λ n h.
     reads-then (fields-read valid widths) λ ns hs.
     let both = and-both (fitsWidth w n) (valid || eqb n 0) h in
     reads-pure _ (λ e. cons (both .0) (hs .0 e), λ e. cons (zero-only valid n (both .1) e) (hs .1 e))
@@ -102,19 +113,20 @@ header-fits false h = invalidFits (h .1 refl)
 
 shape-reads : (shape : Shape) → Reads (CellFits shape) (readShape shape)
 unfolding readShape
-shape-reads (aVariable t) = reads-then (reads-passing 11 (fits t)) λ n h. reads-pure (variableCell n) (variableFits h)
-shape-reads (aHeader widths) = reads-then (reads-any (passing 11 (fits bool))) λ mark _.
+shape-reads (aVariable t) = reads-then (reads-passing 11 eleven (fits t)) λ n h.
+    reads-pure (variableCell n) (variableFits h)
+shape-reads (aHeader widths) = reads-then (reads-passing 11 eleven (fits bool)) λ mark _.
     reads-then (fields-read (eqb mark 1) widths) λ ns h.
     reads-pure (headerCell (eqb mark 1) ns) (header-fits (eqb mark 1) h)
 
 got-some : {shape : Shape} {g : Got Cell} → IfGot (CellFits shape) g → IfGot (λ c. SomeOf (λ s.
     CellFits s c) (some shape)) g
 got-some (isGot h) = isGot (isSome h)
-got-some isBad = isBad
+got-some (isBad q) = isBad q
 
 cell-reads : (o : Option Shape) → Reads (λ c. SomeOf (λ shape. CellFits shape c) o) (readCell o)
 unfolding readCell
-cell-reads none = record { reads = λ left at. isBad }
+cell-reads none = record { reads = λ left at. isBad eleven }
 cell-reads (some shape) = record { reads = λ left at. got-some (shape-reads shape .reads left at) }
 
 shape-found : (P : Program) (g : Global) (c : Cell) {o : Option Shape} → shapeIn P (g .ty) ≡ o → SomeOf (λ shape.
@@ -138,20 +150,34 @@ pub record BenchOk (bench : Bench) : Type 0 where
   pub entries-fit : All (EntryOk (bench .program)) (bench .entries)
   pub store-fits : StoreFits (bench .program) (bench .store)
 
-reads-checked : {A : Type 0} {P : A → Type 0} {r : Res A} → IfOk P r → Reads P (checked r)
+reads-checked : {A : Type 0} {r : Res A} → Judging-ok r → Reads (λ a. r ≡ ok a) (checked r)
 unfolding checked
-reads-checked (isOk p) = record { reads = λ left at. isGot p }
-reads-checked isFault = record { reads = λ left at. isBad }
+reads-checked fine = record { reads = λ left at. isGot refl }
+reads-checked (faulty q) = record { reads = λ left at. isBad q }
+
+left-at : (left : List ℕ) (at : ℕ) → IfGot (λ _. Unit {0}) (nothingLeft left at)
+unfolding nothingLeft
+left-at [] at = isGot tt
+left-at (n ∷ left) at = isBad twelve
+
+bounded-ok : (b : Bool) → Judging-ok (need 9 0 b)
+unfolding need
+bounded-ok true = fine
+bounded-ok false = faulty {number = 9} (omega arith, omega arith)
+
+needed : (number at : ℕ) (b : Bool) {a : Unit {0}} → need number at b ≡ ok a → b ≡ true
+unfolding need
+needed number at true e = refl
+needed number at false e = let z : _≡_ {A = ℕ} 0 1 = cc in absurd (omega arith)
 
 judging-reads : Reads BenchOk judging
 unfolding judging
-judging-reads = reads-then (reads-any _) λ P _. reads-then (reads-checked (ok-self (judgeProgram P))) λ _ formed.
-    reads-then (reads-checked (ok-need 9 0 (leb (ceilingOf P) mostSteps))) λ _ bounded.
-    reads-then (entries-read P) λ es fit. reads-then (store-reads P) λ cells fits. reads-then (reads-any _) λ _ _.
-    reads-pure _ (record {
+judging-reads = reads-then program-reads λ P _. reads-then (reads-checked (program-judged P)) λ _ formed.
+    reads-then (reads-checked (bounded-ok (leb (ceilingOf P) mostSteps))) λ _ bounded.
+    reads-then (entries-read P) λ es fit.
+    reads-then (store-reads P) λ cells fits. reads-then (record { reads = left-at }) λ _ _. reads-pure _ (record {
       formed = formed;
-      bounded = leb-true
-          (ceilingOf P) mostSteps bounded;
+      bounded = leb-true (ceilingOf P) mostSteps (needed 9 0 (leb (ceilingOf P) mostSteps) bounded);
       entries-fit = fit;
       store-fits = fits;
     })
@@ -163,16 +189,16 @@ accepted-ok bytes bench (isGot {a} h) e = rw (same a bench e) at h
   where
     same : (a b : Bench) → accepted a ≡ accepted b → a ≡ b
     same a b e = cc
-accepted-ok bytes bench isBad e = absurd (let z : _≡_ {A = ℕ} 0 1 = cc in omega arith)
+accepted-ok bytes bench (isBad q) e = absurd (let z : _≡_ {A = ℕ} 0 1 = cc in omega arith)
 
-stream-ok : (bytes : List ℕ) (s : Stream) (bench : Bench) → judgedStream bytes s ≡ accepted bench → BenchOk bench
+stream-accepted : (bytes : List ℕ) (s : Stream) (bench : Bench) → judgedStream bytes s ≡ accepted bench → BenchOk bench
 unfolding judgedStream
-stream-ok bytes (numbers ns) bench e = accepted-ok bytes bench (judging-reads .reads ns 0) e
-stream-ok bytes (broken number place) bench e = absurd (let z : _≡_ {A = ℕ} 0 1 = cc in omega arith)
+stream-accepted bytes (numbers ns) bench e = accepted-ok bytes bench (judging-reads .reads ns 0) e
+stream-accepted bytes (broken number place) bench e = absurd (let z : _≡_ {A = ℕ} 0 1 = cc in omega arith)
 
 pub judged-ok : (bytes : List ℕ) (bench : Bench) → judged bytes ≡ accepted bench → BenchOk bench
 unfolding judged
-judged-ok bytes bench e = stream-ok bytes (streamOf bytes) bench e
+judged-ok bytes bench e = stream-accepted bytes (streamOf bytes) bench e
 
 -- tables, then the whole program
 tables-judged : (P : Program) (Ts : List Table) → IfOk (λ _. (t : ℕ) → IfSome (λ T.
@@ -253,3 +279,22 @@ file-told capacity (refused number place) h e = unfold numbersOf toldWith in let
 pub never-stuck : (bytes : List ℕ) → marked bytes ≡ 3 ∷ [] → ⊥
 unfolding marked
 never-stuck bytes e = file-told workingSlots (judged bytes) (λ bench q. accepted-ends workingSlots bytes bench q) e
+
+-- every file is accepted, or refused with a number from 1 to 12 at a place within it
+pub data Answered (bytes : List ℕ) : Judged → Type 0 where
+  isAccepted : {bench : Bench} → Answered bytes (accepted bench)
+  isRefused : {number place : ℕ} → JudgeGives number → place ≤ length bytes → Answered bytes (refused number place)
+
+placed-ok : (bytes : List ℕ) {g : Got Bench} → IfGot BenchOk g → Answered bytes (placed bytes g)
+unfolding placed
+placed-ok bytes (isGot h) = isAccepted
+placed-ok bytes (isBad q) = isRefused q (place-within bytes _)
+
+answered-stream : (bytes : List ℕ) {s : Stream} → Stream-ok (length bytes) s → Answered bytes (judgedStream bytes s)
+unfolding judgedStream
+answered-stream bytes whole = placed-ok bytes (judging-reads .reads _ 0)
+answered-stream bytes (breaks q h) = isRefused q h
+
+pub judge-answers : (bytes : List ℕ) → Answered bytes (judged bytes)
+unfolding judged
+judge-answers bytes = answered-stream bytes (stream-ok bytes)

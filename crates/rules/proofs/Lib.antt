@@ -4,6 +4,7 @@ pub mod Fits
 pub mod Sound
 pub mod Callables
 pub mod Tables
+pub mod Refusals
 pub mod Accepted
 pub mod Saturating
 pub mod Codec

@@ -39,9 +39,13 @@ pub data IfSome {A : Type 0} (P : A → Type 0) : Option A → Type 0 where
   ifNone : IfSome P none
   ifSome : {a : A} → P a → IfSome P (some a)
 
+-- the numbers that the judge refuses with
+abbrev pub JudgeGives : ℕ → Type 0
+JudgeGives n = (1 ≤ n) × (n ≤ 12)
+
 pub data IfGot {A : Type 0} (P : A → Type 0) : Got A → Type 0 where
   isGot : {a : A} {left : List ℕ} {at : ℕ} → P a → IfGot P (got a left at)
-  isBad : {number at : ℕ} → IfGot P (bad number at)
+  isBad : {number at : ℕ} → JudgeGives number → IfGot P (bad number at)
 
 -- there is a value, and P holds of it
 pub data SomeOf {A : Type 0} (P : A → Type 0) : Option A → Type 0 where
@@ -105,6 +109,10 @@ pub if-map : {A : Type 0} {P Q : A → Type 0} {o : Option A} → IfSome P o →
 if-map ifNone h = ifNone
 if-map (ifSome p) h = ifSome (h _ p)
 
+pub if-any : {A : Type 0} (o : Option A) → IfSome (λ _. Unit {0}) o
+if-any none = ifNone
+if-any (some a) = ifSome tt
+
 pub if-self : {A : Type 0} (o : Option A) → IfSome (λ a. o ≡ some a) o
 if-self none = ifNone
 if-self (some a) = ifSome refl
@@ -138,7 +146,7 @@ got-then : {A B : Type 0} {P : A → Type 0} {Q : B → Type 0} {g : Got A} {k :
     → Reads Q (k a)) → IfGot Q (Reading.andThen g k)
 unfolding Reading.andThen
 got-then (isGot p) h = (h _ p) .reads _ _
-got-then isBad h = isBad
+got-then (isBad q) h = isBad q
 
 pub reads-then : {A B : Type 0} {P : A → Type 0} {Q : B → Type 0} {read : Reader A} {k : A → Reader B} → Reads P read
     → ((a : A) → P a → Reads Q (k a)) → Reads Q (Reading._>>=_ read k)
@@ -149,28 +157,21 @@ pub reads-pure : {A : Type 0} {P : A → Type 0} (a : A) → P a → Reads P (Re
 unfolding Reading.pure
 reads-pure a p = record { reads = λ left at. isGot p }
 
-got-meaning : {A : Type 0} {P : A → Type 0} (number : ℕ) {o : Option A} (left : List ℕ) (at : ℕ) → IfSome P o
-    → IfGot P (Reading.meaning number o left at)
+got-meaning : {A : Type 0} {P : A → Type 0} (number : ℕ) → JudgeGives number → {o : Option A} (left : List ℕ) (at : ℕ)
+    → IfSome P o → IfGot P (Reading.meaning number o left at)
 unfolding Reading.meaning
-got-meaning number left at ifNone = isBad
-got-meaning number left at (ifSome p) = isGot p
+got-meaning number q left at ifNone = isBad q
+got-meaning number q left at (ifSome p) = isGot p
 
-got-looked-up : {A : Type 0} {P : A → Type 0} (number : ℕ) (what : ℕ → Option A) → ((n : ℕ) → IfSome P (what n))
-    → (left : List ℕ) (at : ℕ) → IfGot P (Reading.lookedUp number what left at)
+got-looked-up : {A : Type 0} {P : A → Type 0} (number : ℕ) → JudgeGives number → (what : ℕ → Option A)
+    → ((n : ℕ) → IfSome P (what n)) → (left : List ℕ) (at : ℕ) → IfGot P (Reading.lookedUp number what left at)
 unfolding Reading.lookedUp
-got-looked-up number what h [] at = isBad
-got-looked-up number what h (n ∷ left) at = got-meaning number left at (h n)
+got-looked-up number q what h [] at = isBad q
+got-looked-up number q what h (n ∷ left) at = got-meaning number q left at (h n)
 
-pub reads-looked-up : {A : Type 0} {P : A → Type 0} (number : ℕ) {what : ℕ → Option A} → ((n : ℕ) → IfSome P (what n))
-    → Reads P (Reading.lookedUp number what)
-reads-looked-up number h = record { reads = got-looked-up number _ h }
-
-pub reads-any : {A : Type 0} (read : Reader A) → Reads (λ _. Unit {0}) read
-reads-any read = record { reads = λ left at. any (read left at) }
-  where
-    any : {A : Type 0} (g : Got A) → IfGot (λ _. Unit {0}) g
-    any (got a left at) = isGot tt
-    any (bad number at) = isBad
+pub reads-looked-up : {A : Type 0} {P : A → Type 0} (number : ℕ) → JudgeGives number → {what : ℕ → Option A}
+    → ((n : ℕ) → IfSome P (what n)) → Reads P (Reading.lookedUp number what)
+reads-looked-up number q h = record { reads = got-looked-up number q _ h }
 
 pub reads-repeat : {A : Type 0} {P : A → Type 0} (n : ℕ) {one : Reader A} → Reads P one
     → Reads (All P) (Reading.repeat n one)

@@ -17,10 +17,14 @@ use Rattle.rules.specs.Answers.{ofRead, ofWrite, ofJudge, ofRun, readSay
 use Rattle.rules.proofs.Fits.{StoreFits, store-length}
 use Rattle.rules.proofs.Sound.{CallsOk}
 use Rattle.rules.proofs.Callables.{AllJudged, calls-below}
-use Rattle.rules.proofs.Accepted.{Ends, accepted-ends, never-stuck}
+use Rattle.rules.proofs.Accepted.{Ends, accepted-ends, never-stuck, Answered, judge-answers}
 use Rattle.rules.proofs.Saturating.{countOf, same-refusal, exact-below}
 use Rattle.rules.proofs.Codec.{Below, read-write, write-one-form, write-below}
 use Rattle.rules.proofs.Same.{read-same, write-same, judge-same, run-same}
+
+-- Demand 1. Every file is accepted, or refused with a number from 1 to 12 at a place within it (`Answered` of Accepted).
+pub every-file : (bytes : List ℕ) → Answered bytes (judged bytes)
+every-file = judge-answers
 
 -- Demand 3. A file that the judge accepts is not stuck: its run is done or exit, within the ceiling, and in the final store every field
 -- and variable fits its declared type and a header marked invalid has only zeros (`Ends`, with `StoreFits` of Fits); or it is full.
