@@ -2,7 +2,7 @@
 ghost use mathlib.Core.Path.{_≡_};
 ghost use Prim.Native.Nat.{ℕ, _+_, _<_, _≤_};
 ghost use lib.ListN.{length, getElem?};
-ghost use Rattle.rules.specs.Reading.{number, between, standsFor, repeat, tooDeep, operators, readExpr, readTarget, readStmt};
+ghost use Rattle.rules.specs.Reading.{number, between, standsFor, repeat, tooDeep, deepest, operators, readExpr, readTarget, readStmt};
 ghost use Rattle.rules.specs.Reading.{directions, keyKinds, typeOf, readParameter, readKey, readNumeral, readHeader, readGlobal, readCallable, readTable, readAfterVersion, readProgram};
 ghost use Rattle.shape.specs.Directory.{Walked, WalkedList, Lays, readDeclared, layDeclared, readDefined, layDefined, layBody, directoryOf, ScansProgram};
 ghost use Rattle.shape.specs.Parts.{itemScan, repeatScan, listScan, readReturning, readFrame, readChoices, readDefault, partScan};
@@ -860,7 +860,7 @@ fn defined_at(nums: &[u64], version: u64, at: usize, directory: &mut [u64; SLOTS
 
 // The apply body, and the program's end.
 fn body_at(nums: &[u64], version: u64, at: usize, directory: &mut [u64; SLOTS]) -> Scan
-    ensures { λ r. ⌜ Lays (readStmt version 32) layBody (now (nums .entry)) at (now (directory .entry)) (now (directory .exit)) r ⌝ }
+    ensures { λ r. ⌜ Lays (readStmt version deepest) layBody (now (nums .entry)) at (now (directory .entry)) (now (directory .exit)) r ⌝ }
 {
     let body = scan_stmt(nums, version, DEEPEST, at);
     match body {
