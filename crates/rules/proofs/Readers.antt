@@ -2,19 +2,19 @@
 -- `drop next nums` for the index `next` that it gives. So positions in one list can stand for lists of numbers left.
 use mathlib.Core.Bool.{Bool, true, false}
 use mathlib.Core.Option.{Option, none, some}
-use mathlib.Core.Path.{_≡_, refl}
+use mathlib.Core.Path.{_≡_, refl, ap}
 use mathlib.Core.List.{List, [], _∷_}
 use Prim.Native.Nat.{ℕ, zero, suc, _≤_, _<_}
 use native.Mathlib.Omega.{arith}
-use lib.ListN.{length, getD, drop, getElem?, drop-of-length-le}
+use lib.ListN.{length, getD, drop, drop-of-length-le}
 use lib.Seq.{drop-cons}
-use lib.Dec.{ltb}
-use borrow.Author.Tests.{ltb-true, ltb-false}
+use lib.Dec.{ltb, leb}
+use borrow.Author.Tests.{ltb-true, ltb-false, leb-true}
 use Rattle.rules.specs.Syntax.{Expr, Stmt, Place, HeaderTy, Global, Callable, Table}
 use Rattle.rules.specs.Reading.{Got, got, bad, Reader, andThen, _>>=_, pure, here, number, meaning, lookedUp, standsFor, between, within, repeat, listOf, tooDeep, deepest}
 use Rattle.rules.specs.Reading.{PlaceTag, tagLocal, tagParameter, tagGlobal, tagField, ExprTag, tagBool, tagBits, tagPlace, tagValid, tagNot, tagComplement, tagBinary, tagCast, tagSlice, tagConcatenation, tagCall}
 use Rattle.rules.specs.Reading.{StmtTag, tagEmpty, tagAssign, tagIf, tagBlock, tagCallStmt, tagApply, tagReturnValue, tagReturn, tagExit, tagSetValid, tagSetInvalid, CallableKind, kindAction, kindFunction}
-use Rattle.rules.specs.Reading.{versionOf, exprTags, operators, stmtTags, callableKinds, directions, keyKinds, typeOf, globalTypeOf, placeTagOf, readPlace, readExprAs, readExpr, readTarget, readStmtAs, readStmt}
+use Rattle.rules.specs.Reading.{versionOf, readPlace, readExprAs, readExpr, readTarget, readStmtAs, readStmt}
 use Rattle.rules.specs.Reading.{readHeader, readGlobal, readParameter, readReturns, readCallable, readNumeral, readKey, readTable, readAfterVersion, readProgram}
 
 -- a number at an index of the list, and beyond its end
@@ -283,3 +283,44 @@ module _ (version : ℕ) where
   pub starts-table : Starts (λ (t : Table). t .at) (readTable version)
   unfolding readTable
   starts-table = starts-here λ at. gives-then _ λ ks. gives-then _ λ ns. gives-then _ λ d. gives-then _ λ n. gives-then _ λ xs. gives-pure _ _ refl
+
+pub gives-as : {A : Type 0} {P Q : A → Type 0} {read : Reader A} → ((a : A) → P a → Q a) → Gives P read → Gives Q read
+unfolding Given
+gives-as {A} {P} {Q} {read} f h = record { given = λ left at. go (read left at) (h .given left at) }
+  where
+    go : (x : Got A) → Given P x → Given Q x
+    go (got a left next) p = f a p
+    go (bad fault index) p = tt
+
+-- how long lists are
+pub gives-with : {A B : Type 0} {Q : A → Type 0} {P : B → Type 0} {read : Reader A} {k : A → Reader B} → Gives Q read
+    → ((a : A) → Q a → Gives P (k a)) → Gives P (read >>= k)
+unfolding _>>=_ andThen Given
+gives-with {A} {B} {Q} {P} {read} {k} h g = record { given = λ left at. go (read left at) (h .given left at) }
+  where
+    go : (x : Got A) → Given Q x → Given P (andThen x k)
+    go (got a left next) q = g a q .given left next
+    go (bad fault index) q = tt
+
+pub gives-between : (least most : ℕ) → Gives (λ n. n ≤ most) (between least most)
+unfolding between standsFor lookedUp meaning within Given
+gives-between least most = record { given = go }
+  where
+    in-range : (n : ℕ) (b : Bool) → leb least n ≡ b → (d : Bool) → leb n most ≡ d → (left : List ℕ) (at : ℕ)
+        → Given (λ n. n ≤ most) (meaning 4 (within least most n) left at)
+    in-range n true e true f left at = rw (within, e, f) (leb-true n most f)
+    in-range n true e false f left at = rw (within, e, f) tt
+    in-range n false e d f left at = rw (within, e) tt
+
+    go : (left : List ℕ) (at : ℕ) → Given (λ n. n ≤ most) (lookedUp 4 (within least most) left at)
+    go [] at = tt
+    go (n ∷ left) at = in-range n (leb least n) refl (leb n most) refl left at
+
+pub gives-repeat : {A : Type 0} (n : ℕ) (one : Reader A) → Gives (λ xs. length xs ≡ n) (repeat n one)
+unfolding repeat
+gives-repeat zero one = gives-pure _ [] refl
+gives-repeat (suc n) one = gives-then one λ a. gives-with (gives-repeat n one) λ rest e. gives-pure _ (a ∷ rest) (ap suc e)
+
+pub gives-list : {A : Type 0} (least most : ℕ) (one : Reader A) → Gives (λ xs. length xs ≤ most) (listOf least most one)
+unfolding listOf
+gives-list least most one = gives-with (gives-between least most) λ n h. gives-as (λ xs e. rw e h) (gives-repeat n one)

@@ -1,18 +1,17 @@
 -- Scanning an expression: what its lead is by its tag, and that lead and operands together are the expression.
-use mathlib.Core.Bool.{Bool, true, false}
 use mathlib.Core.Option.{Option, none, some}
-use mathlib.Core.Path.{_≡_, refl, sym, ap, _∙_}
-use mathlib.Core.List.{List, [], _∷_}
-use Prim.Native.Nat.{ℕ, zero, suc, _+_, _-_, _≤_, _<_, _^_}
+use mathlib.Core.Path.{_≡_, refl, sym, _∙_}
+use mathlib.Core.List.{List}
+use Prim.Native.Nat.{ℕ, suc, _+_, _-_, _≤_, _<_, _^_}
 use native.Mathlib.Omega.{arith}
-use native.Mathlib.Numerals.{add-one, sub-one}
-use lib.ListN.{length, getD, drop, getElem?}
+use native.Mathlib.Numerals.{add-one}
+use lib.ListN.{length, getD, getElem?}
 use lib.Dec.{lit<}
 use Rattle.rules.specs.Syntax.{Expr}
-use Rattle.rules.specs.Reading.{Got, got, bad, Reader, _>>=_, pure, here, number, standsFor, between, repeat, listOf, tooDeep}
-use Rattle.rules.specs.Reading.{PlaceTag, tagLocal, tagParameter, tagGlobal, tagField, ExprTag, tagBool, tagBits, tagPlace, tagValid, tagNot, tagComplement, tagBinary, tagCast, tagSlice, tagConcatenation, tagCall}
+use Rattle.rules.specs.Reading.{Reader, _>>=_, number, standsFor, between, repeat, listOf, tooDeep}
+use Rattle.rules.specs.Reading.{tagLocal, tagParameter, tagGlobal, tagField, ExprTag, tagBool, tagBits, tagPlace, tagValid, tagNot, tagComplement, tagBinary, tagCast, tagSlice, tagConcatenation, tagCall}
 use Rattle.rules.specs.Reading.{operators, exprTags, readPlace, readExprAs, readExpr}
-use Rattle.rules.proofs.Readers.{Keeps, keeps-then, keeps-pure, keeps-number, keeps-stands, keeps-between, keeps-repeat, keeps-list, keeps-place, keeps-expr}
+use Rattle.rules.proofs.Readers.{Keeps, keeps-number, keeps-stands, keeps-between, keeps-list, keeps-place, keeps-expr}
 use Rattle.shape.specs.Scans.{scanOf, onScan, readLiteral, valueOf, onValue, leadBy, onLead, argumentsLead, callLead, formOf, exprForm, exprLead, Counts, LeadsExpr}
 use Rattle.shape.specs.declared.Scan.{Scan}
 use Rattle.shape.specs.declared.Scan.the-variants.{Past, Fault}
@@ -47,10 +46,6 @@ module _ (nums : List ℕ) (at n number₁ index : ℕ) (a r : Scan) where
 scans-literal : (nums : List ℕ) → Scans readLiteral nums (λ at. onScan (scanOf (between 1 64) nums at) (scanOf number nums))
 unfolding readLiteral
 scans-literal nums = scans-then (keeps-between 1 64) (scans-self (between 1 64) nums) λ width. scans-self number nums
-
-keeps-literal : Keeps readLiteral
-unfolding readLiteral
-keeps-literal = keeps-then (keeps-between 1 64) λ width. keeps-number
 
 module _ (nums : List ℕ) (at n number₁ index : ℕ) (a r : Scan) where
   pub literal-past : a ≡ scanOf (between 1 64) nums at → a ≡ Past n → r ≡ scanOf number nums n → r ≡ scanOf readLiteral nums at

@@ -4,3 +4,5 @@ mod Exprs
 mod Stmts
 mod Parts
 mod Starts
+pub mod Entries
+pub mod Outcomes

@@ -1,17 +1,17 @@
 -- Scanning the parts of a program: header types, globals, callables, tables, and the lists in them.
 use mathlib.Core.Bool.{Bool, true, false, _&&_}
 use mathlib.Core.Option.{Option, none, some}
-use mathlib.Core.Path.{_≡_, refl, sym, ap, _∙_}
-use mathlib.Core.List.{List, [], _∷_}
-use Prim.Native.Nat.{ℕ, zero, suc, _+_, _-_, _≤_, _<_}
+use mathlib.Core.Path.{_≡_, refl, sym, _∙_}
+use mathlib.Core.List.{List}
+use Prim.Native.Nat.{ℕ, zero, suc, _-_, _<_}
 use native.Mathlib.Omega.{arith}
-use native.Mathlib.Numerals.{add-one, sub-one}
+use native.Mathlib.Numerals.{sub-one}
 use lib.ListN.{length, getD, getElem?}
 use lib.Dec.{leb, leb·zero}
-use Rattle.rules.specs.Syntax.{Ty, GlobalTy, Callable}
+use Rattle.rules.specs.Syntax.{Ty, Callable}
 use borrow.Author.Tests.{le-leb}
 use Rattle.rules.specs.Reading.{Reader, _>>=_, pure, number, within, between, standsFor, repeat, listOf, deepest}
-use Rattle.rules.specs.Reading.{CallableKind, kindAction, kindFunction, directions, keyKinds, callableKinds, bitsOf, typeOf, orHeader, globalTypeOf}
+use Rattle.rules.specs.Reading.{kindAction, kindFunction, directions, keyKinds, callableKinds, bitsOf, typeOf, orHeader, globalTypeOf}
 use Rattle.rules.specs.Reading.{readExpr, readStmt, readHeader, readGlobal, readParameter, readReturns, readCallable, readNumeral, readKey, readTable}
 use Rattle.rules.proofs.Readers.{Keeps, keeps-then, keeps-number, keeps-stands, keeps-between, keeps-list, keeps-expr, keeps-stmt, keeps-parameter, keeps-returns, keeps-numeral, keeps-key}
 use Rattle.shape.specs.Scans.{scanOf, onScan, valueOf, onValue}
@@ -24,8 +24,8 @@ use Rattle.shape.specs.declared.Item.{Item}
 use Rattle.shape.specs.declared.Item.the-variants.{WidthItem, TypeItem, ParameterItem, KeyItem, NumeralItem}
 use Rattle.shape.specs.declared.Part.{Part}
 use Rattle.shape.specs.declared.Part.the-variants.{HeaderPart, GlobalPart, CallablePart, TablePart}
-use Rattle.shape.proofs.Laws.{on-past, on-fault, on-same, on-assoc, Scans, scans-self, scans-then, scans-pure, scans-here, scans-last, scans-as, scans-assoc, stands-is, stands-none, seq-past, seq-fault}
-use Rattle.shape.proofs.Laws.{isSome, Spans, some-within, scan-like, spans-scan, spans-list, list-scan, repeat-none, scans-repeat, IsValue, value-inv, between-past, between-fault, scan-fault, stands-some, stands-lacks}
+use Rattle.shape.proofs.Laws.{on-past, on-fault, on-same, on-assoc, Scans, scans-self, scans-then, scans-pure, scans-here, scans-last, scans-as, scans-assoc, stands-is, seq-past, seq-fault}
+use Rattle.shape.proofs.Laws.{isSome, Spans, some-within, scan-like, spans-scan, spans-list, list-scan, repeat-none, scans-repeat, IsValue, value-inv, between-fault, scan-fault, stands-some, stands-lacks}
 
 -- lists, with the members' own scan
 repeat-scan : {A : Type 0} {one : Reader A} {nums : List ℕ} {s : ℕ → Scan} → Keeps one → Scans one nums s
@@ -240,7 +240,7 @@ module _ (version : ℕ) (nums : List ℕ) (at n f i : ℕ) (a r : Scan) where
   pub parameter-fault : a ≡ scanOf (standsFor (getElem? (directions version))) nums at → a ≡ Fault f i → Fault f i ≡ scanOf (readParameter version) nums at
   parameter-fault q p = seq-fault _ _ _ (scans-parameter version nums .scan at) a q f i p
 
-  pub key-past : a ≡ scanOf (standsFor (getElem? (keyKinds version))) nums at → a ≡ Past n → r ≡ scanOf (readExpr version 32) nums n
+  pub key-past : a ≡ scanOf (standsFor (getElem? (keyKinds version))) nums at → a ≡ Past n → r ≡ scanOf (readExpr version deepest) nums n
       → r ≡ scanOf (readKey version) nums at
   key-past q p h = seq-past _ _ _ (scans-key version nums .scan at) a q n r p h
 
@@ -275,7 +275,7 @@ module _ (version : ℕ) (nums : List ℕ) (at n f i : ℕ) (a r : Scan) where
   table-fault q p = seq-fault _ _ _ (scans-table version nums .scan at) a q f i p
 
   pub callable-past : (b : Scan) (body : ℕ) → a ≡ scanOf (readReturning version) nums at → a ≡ Past n → b ≡ scanOf (readFrame version) nums n → b ≡ Past body
-      → r ≡ scanOf (readStmt version 32) nums body → r ≡ scanOf (readCallable version) nums at
+      → r ≡ scanOf (readStmt version deepest) nums body → r ≡ scanOf (readCallable version) nums at
   callable-past b body q p e m h =
       seq-past _ _ _ (scans-callable version nums .scan at) a q n r p (on-past (scanOf (readFrame version) nums n) r body _ (sym e ∙ m) h)
 

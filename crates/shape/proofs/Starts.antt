@@ -1,7 +1,6 @@
 -- The directory: where the members of lists begin, and that what is laid into the slots is what the tree tells.
-use mathlib.Core.Option.{Option, none, some}
 use mathlib.Core.Path.{_≡_, refl, sym, ap, _∙_}
-use mathlib.Core.List.{List, [], _∷_, map}
+use mathlib.Core.List.{List, _∷_, map}
 use Prim.Native.Nat.{ℕ, zero, suc, _+_, _-_, _≤_, _<_}
 use native.Mathlib.Omega.{arith}
 use native.Mathlib.Numerals.{add-one, sub-one}
@@ -11,18 +10,17 @@ use Rattle.rules.specs.Syntax.{Expr, Stmt, Place, HeaderTy, Global, Callable, T
 use Rattle.rules.specs.Reading.{Got, got, bad, Reader, andThen, _>>=_, pure, between, repeat, listOf, deepest}
 use Rattle.rules.specs.Reading.{StmtTag, tagEmpty, tagAssign, tagIf, tagBlock, tagCallStmt, tagApply, tagReturnValue, tagReturn, tagExit, tagSetValid, tagSetInvalid}
 use Rattle.rules.specs.Reading.{readStmtAs, readStmt, readHeader, readGlobal, readCallable, readTable, readAfterVersion, versionOf, readProgram}
-use Rattle.rules.proofs.Readers.{Kept, Keeps, keeps-then, keeps-pure, keeps-between, keeps-list, keeps-stands, keeps-header, keeps-global, keeps-callable, keeps-table, keeps-stmt, Given, Gives, gives-then, gives-pure, Starts, starts-here, starts-deep, starts-header, starts-global, starts-callable, starts-table}
-use Rattle.shape.specs.Scans.{forget, scanOf, onScan, valued, valueOf, onValue}
-use Rattle.shape.specs.Parts.{repeatScan, listScan, partScan}
+use Rattle.rules.proofs.Readers.{Kept, Keeps, keeps-then, keeps-pure, keeps-between, keeps-list, keeps-header, keeps-global, keeps-callable, keeps-table, Given, Gives, gives-then, gives-pure, Starts, starts-here, starts-deep, starts-header, starts-global, starts-callable, starts-table}
+use Rattle.shape.specs.Scans.{forget, scanOf, valued, valueOf}
+use Rattle.shape.specs.Parts.{listScan, partScan}
 use Rattle.shape.specs.Directory.{stmtAt, listed, declared, defined, directoryOf, directoryLeft, startsAfter, starts, Walked, laidList, WalkedList, Laid, Lays}
 use Rattle.shape.specs.Directory.{readDeclared, layDeclared, readDefined, layDefined, layBody, ScansProgram}
 use Rattle.shape.specs.declared.Scan.{Scan}
 use Rattle.shape.specs.declared.Scan.the-variants.{Past, Fault}
 use Rattle.shape.specs.declared.Value.{Value}
 use Rattle.shape.specs.declared.Value.the-variants.{Of, Unread}
-use Rattle.shape.specs.declared.Part.{Part}
 use Rattle.shape.specs.declared.Part.the-variants.{HeaderPart, GlobalPart, CallablePart, TablePart}
-use Rattle.shape.proofs.Laws.{AtMost, value-most, Scans, scans-self}
+use Rattle.shape.proofs.Laws.{AtMost, value-most, scans-self}
 use Rattle.shape.proofs.Parts.{scans-items, items-none, items-past, items-fault, list-of, list-fault, count-falls}
 
 -- so many parts, and where they begin
@@ -260,10 +258,10 @@ unfolding readStmt
 starts-stmt version zero = starts-deep stmtAt
 starts-stmt version (suc depth) = starts-here λ at. gives-then _ λ tag. gives-stmt version tag at _ _ _
 
-module _ (version : ℕ) (nums : List ℕ) (at : ℕ) (found : List ℕ) (a : Scan) (q : a ≡ scanOf (readStmt version 32) nums at) where
-  pub body-past : (end : ℕ) → a ≡ Past end → Lays (readStmt version 32) layBody nums at found (set (set found 68 at) 69 end) (Past end)
+module _ (version : ℕ) (nums : List ℕ) (at : ℕ) (found : List ℕ) (a : Scan) (q : a ≡ scanOf (readStmt version deepest) nums at) where
+  pub body-past : (end : ℕ) → a ≡ Past end → Lays (readStmt version deepest) layBody nums at found (set (set found 68 at) 69 end) (Past end)
   unfolding scanOf forget Laid Given layBody
-  body-past end p = record { scan = sym p ∙ q; laid = go (readStmt version 32 (drop at nums) at) (starts-stmt version 32 .started (drop at nums) at) (sym q ∙ p) }
+  body-past end p = record { scan = sym p ∙ q; laid = go (readStmt version deepest (drop at nums) at) (starts-stmt version 32 .started (drop at nums) at) (sym q ∙ p) }
     where
       go : (y : Got Stmt) → Given (λ s. stmtAt s ≡ at) y → forget y ≡ Past end → Laid y layBody found (set (set found 68 at) 69 end)
       go (bad fault index) g e = tt
@@ -271,9 +269,9 @@ module _ (version : ℕ) (nums : List ℕ) (at : ℕ) (found : List ℕ) (a : Sc
           let same : next ≡ end = cc in
           rw (g, same)
 
-  pub body-fault : (f i : ℕ) → a ≡ Fault f i → Lays (readStmt version 32) layBody nums at found found (Fault f i)
+  pub body-fault : (f i : ℕ) → a ≡ Fault f i → Lays (readStmt version deepest) layBody nums at found found (Fault f i)
   unfolding scanOf forget Laid
-  body-fault f i p = record { scan = sym p ∙ q; laid = go (readStmt version 32 (drop at nums) at) (sym q ∙ p) }
+  body-fault f i p = record { scan = sym p ∙ q; laid = go (readStmt version deepest (drop at nums) at) (sym q ∙ p) }
     where
       go : (y : Got Stmt) → forget y ≡ Fault f i → Laid y layBody found found
       go (bad fault index) e = tt
@@ -353,7 +351,7 @@ module _ (version : ℕ) where
   keeps-defined = keeps-then (keeps-list 0 16 (keeps-callable version)) λ cs. keeps-then (keeps-list 0 8 (keeps-table version)) λ ts. keeps-pure _
 
 module _ (version : ℕ) (nums : List ℕ) (at n m f i : ℕ) (found mid third filled : List ℕ) (a b r : Scan) where
-  rest-lays : Lays (readDefined version) layDefined nums n mid third b → b ≡ Past m → Lays (readStmt version 32) layBody nums m third filled r
+  rest-lays : Lays (readDefined version) layDefined nums n mid third b → b ≡ Past m → Lays (readStmt version deepest) layBody nums m third filled r
       → Lays (readRest version) (layRest version) nums n mid filled r
   unfolding readRest layRest layDefined
   rest-lays w p v = lays-then (λ d s. (d, s)) (layRest version) (λ d s k next slots. refl) (keeps-defined version) w p v
@@ -365,7 +363,7 @@ module _ (version : ℕ) (nums : List ℕ) (at n m f i : ℕ) (found mid third f
       (lays-then (tree version) directoryOf (λ d q k next slots. refl) (keeps-declared version) w p v)
 
   pub after-past : Lays (readDeclared version) layDeclared nums at found mid a → a ≡ Past n → Lays (readDefined version) layDefined nums n mid third b
-      → b ≡ Past m → Lays (readStmt version 32) layBody nums m third filled r → Lays (readAfterVersion version) directoryOf nums at found filled r
+      → b ≡ Past m → Lays (readStmt version deepest) layBody nums m third filled r → Lays (readAfterVersion version) directoryOf nums at found filled r
   after-past w p v q u = all-lays w p (rest-lays v q u)
 
   pub after-defined : Lays (readDeclared version) layDeclared nums at found mid a → a ≡ Past n → Lays (readDefined version) layDefined nums n mid filled b

@@ -1,15 +1,14 @@
 -- Scanning a statement: what its lead is by its tag, and that lead, operands and statements together are the statement.
-use mathlib.Core.Bool.{Bool, true, false}
 use mathlib.Core.Option.{Option, none, some}
-use mathlib.Core.Path.{_≡_, refl, sym, ap, _∙_}
-use mathlib.Core.List.{List, [], _∷_}
-use Prim.Native.Nat.{ℕ, zero, suc, _+_, _-_, _≤_, _<_, _^_}
+use mathlib.Core.Path.{_≡_, refl, sym, _∙_}
+use mathlib.Core.List.{List}
+use Prim.Native.Nat.{ℕ, zero, suc, _+_, _-_, _≤_, _<_}
 use native.Mathlib.Omega.{arith}
 use native.Mathlib.Numerals.{add-one}
 use lib.ListN.{length, getD, getElem?}
 use lib.Dec.{lit<}
 use Rattle.rules.specs.Syntax.{Expr, Stmt, Place}
-use Rattle.rules.specs.Reading.{Reader, _>>=_, pure, number, standsFor, repeat, listOf, tooDeep}
+use Rattle.rules.specs.Reading.{Reader, _>>=_, pure, number, standsFor, repeat, tooDeep}
 use Rattle.rules.specs.Reading.{PlaceTag, tagLocal, tagParameter, tagGlobal, tagField}
 use Rattle.rules.specs.Reading.{StmtTag, tagEmpty, tagAssign, tagIf, tagBlock, tagCallStmt, tagApply, tagReturnValue, tagReturn, tagExit, tagSetValid, tagSetInvalid}
 use Rattle.rules.specs.Reading.{exprTags, placeTagOf, stmtTags, readPlace, readExpr, readTarget, readStmtAs, readStmt}

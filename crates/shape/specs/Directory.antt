@@ -8,8 +8,8 @@ use lib.ListN.{length, drop}
 use lib.Seq.{sets}
 use Rattle.rules.specs.Syntax.{Program, HeaderTy, Global, Callable, Table}
 use Rattle.rules.specs.Syntax.{Stmt, empty, assign, ifElse, block, callStmt, apply, returnValue, return, exit, setValid, setInvalid}
-use Rattle.rules.specs.Reading.{Got, got, bad, Reader, _>>=_, pure, listOf, deepest}
-use Rattle.rules.specs.Reading.{readHeader, readGlobal, readCallable, readTable, readStmt, readProgram}
+use Rattle.rules.specs.Reading.{Got, got, bad, Reader, _>>=_, pure, listOf}
+use Rattle.rules.specs.Reading.{readHeader, readGlobal, readCallable, readTable, readProgram}
 use Rattle.shape.specs.Scans.{scanOf, valueOf}
 use Rattle.shape.specs.Parts.{repeatScan, listScan}
 use Rattle.shape.specs.declared.Scan.{Scan}

@@ -1,14 +1,14 @@
 -- The parts of a program: how each scans, and how a list of them does.
 use mathlib.Core.Option.{Option}
-use mathlib.Core.List.{List, [], _∷_}
+use mathlib.Core.List.{List}
 use Prim.Native.Nat.{ℕ, zero, suc}
 use lib.ListN.{getElem?}
-use Rattle.rules.specs.Syntax.{Ty, HeaderTy, Global, Callable, Key, Numeral, Table}
-use Rattle.rules.specs.Reading.{Reader, _>>=_, pure, number, between, standsFor, listOf, deepest, callableKinds, typeOf}
-use Rattle.rules.specs.Reading.{readHeader, readGlobal, readParameter, readReturns, readCallable, readNumeral, readKey, readTable, readStmt}
+use Rattle.rules.specs.Syntax.{Ty, Numeral}
+use Rattle.rules.specs.Reading.{Reader, _>>=_, between, standsFor, listOf, callableKinds, typeOf}
+use Rattle.rules.specs.Reading.{readHeader, readGlobal, readParameter, readReturns, readCallable, readNumeral, readKey, readTable}
 use Rattle.shape.specs.Scans.{scanOf, onScan, valueOf, onValue}
 use Rattle.shape.specs.declared.Scan.{Scan}
-use Rattle.shape.specs.declared.Scan.the-variants.{Past, Fault}
+use Rattle.shape.specs.declared.Scan.the-variants.{Past}
 use Rattle.shape.specs.declared.Item.{Item}
 use Rattle.shape.specs.declared.Item.the-variants.{WidthItem, TypeItem, ParameterItem, KeyItem, NumeralItem}
 use Rattle.shape.specs.declared.Part.{Part}

@@ -4,7 +4,7 @@ use mathlib.Core.List.{List}
 use Prim.Native.Nat.{ℕ, suc, _+_, _<_, _^_}
 use mathlib.Core.Path.{_≡_}
 use lib.ListN.{drop, getElem?}
-use Rattle.rules.specs.Reading.{Got, got, bad, Reader, _>>=_, number, between, standsFor, repeat, tooDeep}
+use Rattle.rules.specs.Reading.{Got, got, bad, Reader, _>>=_, number, between, standsFor, repeat}
 use Rattle.rules.specs.Reading.{PlaceTag, tagLocal, tagParameter, tagGlobal, tagField, ExprTag, tagBool, tagBits, tagPlace, tagValid, tagNot, tagComplement, tagBinary, tagCast, tagSlice, tagConcatenation, tagCall}
 use Rattle.rules.specs.Reading.{StmtTag, tagEmpty, tagAssign, tagIf, tagBlock, tagCallStmt, tagApply, tagReturnValue, tagReturn, tagExit, tagSetValid, tagSetInvalid}
 use Rattle.rules.specs.Reading.{operators, exprTags, placeTagOf, stmtTags, readExpr, readTarget, readStmt}

@@ -2,71 +2,69 @@
 ghost use mathlib.Core.Path.{_≡_};
 ghost use Prim.Native.Nat.{ℕ, _+_, _<_, _≤_};
 ghost use lib.ListN.{length, getElem?};
-ghost use Rattle.rules.specs.Reading.{number, between, standsFor, repeat, tooDeep, operators, readExpr, readTarget, readStmt};
+ghost use Rattle.rules.specs.Reading.{number, between, standsFor, repeat, tooDeep, deepest, operators, readExpr, readTarget, readStmt};
 ghost use Rattle.rules.specs.Reading.{directions, keyKinds, typeOf, readParameter, readKey, readNumeral, readHeader, readGlobal, readCallable, readTable, readAfterVersion, readProgram};
 ghost use Rattle.shape.specs.Directory.{Walked, WalkedList, Lays, readDeclared, layDeclared, readDefined, layDefined, layBody, directoryOf, ScansProgram};
 ghost use Rattle.shape.specs.Parts.{itemScan, repeatScan, listScan, readReturning, readFrame, readChoices, readDefault, partScan};
 ghost use Rattle.shape.specs.Scans.{scanOf, readLiteral, valueOf, leadBy, argumentsLead, callLead, blockLead, exprForm, exprLead, LeadsExpr};
 ghost use Rattle.shape.specs.Scans.{placeForm, placeScan, stmtForm, stmtLead, LeadsStmt};
 
+// The latest version, which is also the first.
+const LATEST: u64 = 1;
+// The deepest level; bodies and keys are level 1.
+const DEEPEST: usize = 32;
 // The widest bit string.
 const WIDEST: u64 = 64;
 // The highest bound of a slice.
 const HIGHEST_BOUND: u64 = 63;
-// The last operator's number.
+// The last operator.
 const LAST_OPERATOR: u64 = 13;
-// The longest list of arguments.
+// The last direction of a parameter.
+const LAST_DIRECTION: u64 = 3;
+// The last kind of callable.
+const LAST_CALLABLE_KIND: u64 = 1;
+// The last kind of key.
+const LAST_KEY_KIND: u64 = 2;
+// The first header type among the types of globals.
+const FIRST_HEADER_TYPE: u64 = 128;
+// The last header type among the types of globals.
+const LAST_HEADER_TYPE: u64 = 135;
+// The most header types.
+const MOST_HEADERS: u64 = 8;
+// The most fields of a header type.
+const MOST_FIELDS: u64 = 16;
+// The most globals.
+const MOST_GLOBALS: u64 = 32;
+// The most callables.
+const MOST_CALLABLES: u64 = 16;
+// The most parameters of a callable.
+const MOST_PARAMETERS: u64 = 8;
+// The most locals of a callable.
+const MOST_LOCALS: u64 = 8;
+// The most tables.
+const MOST_TABLES: u64 = 8;
+// The most keys of a table.
+const MOST_KEYS: u64 = 4;
+// The most actions of a table.
+const MOST_ACTIONS: u64 = 8;
+// The most arguments of a call or of a default.
 const MOST_ARGUMENTS: u64 = 8;
-
-// The longest block.
+// The most members of a block.
 const MOST_MEMBERS: u64 = 64;
 
-// The deepest level: bodies and keys are level 1.
-const DEEPEST: usize = 32;
-// The last kind of callable, of key, and the last direction.
-const LAST_CALLABLE_KIND: u64 = 1;
-
-const LAST_KEY_KIND: u64 = 2;
-
-const LAST_DIRECTION: u64 = 3;
-// The numbers that stand for header types among the types of globals.
-const FIRST_HEADER_TYPE: u64 = 128;
-
-const LAST_HEADER_TYPE: u64 = 135;
-// The longest lists in a header type, a callable and a table.
-const MOST_FIELDS: u64 = 16;
-
-const MOST_PARAMETERS: u64 = 8;
-
-const MOST_LOCALS: u64 = 8;
-
-const MOST_KEYS: u64 = 4;
-
-const MOST_ACTIONS: u64 = 8;
-
-// The latest version, which is also the first.
-const LATEST: u64 = 1;
-// The longest lists of a program.
-const MOST_HEADERS: u64 = 8;
-
-const MOST_GLOBALS: u64 = 32;
-
-const MOST_CALLABLES: u64 = 16;
-
-const MOST_TABLES: u64 = 8;
-// The directory: each list has a slot for its count, then one for each member; then the apply body's, and the end's.
+// The directory's slot for the count of header types; each one's beginning follows.
 pub const HEADERS: usize = 0;
-
+// The same of globals.
 pub const GLOBALS: usize = 9;
-
+// The same of callables.
 pub const CALLABLES: usize = 42;
-
+// The same of tables.
 pub const TABLES: usize = 59;
-
+// The slot for the beginning of the apply body.
 pub const BODY: usize = 68;
-
+// The slot for the end of the program.
 pub const END: usize = 69;
-
+// How many slots the directory has.
 pub const SLOTS: usize = 70;
 
 // What reading at an index finds: the index after what was read; or the fault, 5 or 4, and the index of the number at fault.
@@ -310,7 +308,7 @@ fn expr_form(version: u64, tag: u64) -> ExprForm
 }
 
 // The lead of an expression of that form whose tag is at `at`.
-fn form_lead(nums: &[u64], version: u64, form: ExprForm, at: usize) -> Lead
+fn expr_form_lead(nums: &[u64], version: u64, form: ExprForm, at: usize) -> Lead
     requires { ⌜ at < length (now nums) ⌝ }
     ensures { λ r. ⌜ r ≡ exprLead version form (now (nums .entry)) at ⌝ }
 {
@@ -338,7 +336,7 @@ fn expr_lead(nums: &[u64], version: u64, at: usize) -> Lead
 {
     if at < nums.len() {
         let tag = nums[at];
-        form_lead(nums, version, expr_form(version, tag), at)
+        expr_form_lead(nums, version, expr_form(version, tag), at)
     } else {
         Lead::Off {
             number: 4,
@@ -364,7 +362,7 @@ fn too_deep(nums: &[u64], at: usize) -> Scan
     }
 }
 
-// The end of the expression at `at`, with so many levels allowed.
+// The end of the expression at `at`, with `depth` levels allowed, or its first fault. Whoever walks a program that reads skips with it.
 pub fn scan_expr(nums: &[u64], version: u64, depth: usize, at: usize) -> Scan
     ensures { λ r. ⌜ r ≡ scanOf (readExpr version depth) (now (nums .entry)) at ⌝ }
 {
@@ -514,7 +512,7 @@ fn stmt_lead(nums: &[u64], version: u64, depth: usize, at: usize) -> Lead
     }
 }
 
-// The end of the statement at `at`, with so many levels allowed.
+// The end of the statement at `at`, with `depth` levels allowed, or its first fault. Whoever walks a program that reads skips with it.
 pub fn scan_stmt(nums: &[u64], version: u64, depth: usize, at: usize) -> Scan
     ensures { λ r. ⌜ r ≡ scanOf (readStmt version depth) (now (nums .entry)) at ⌝ }
 {
@@ -860,7 +858,7 @@ fn defined_at(nums: &[u64], version: u64, at: usize, directory: &mut [u64; SLOTS
 
 // The apply body, and the program's end.
 fn body_at(nums: &[u64], version: u64, at: usize, directory: &mut [u64; SLOTS]) -> Scan
-    ensures { λ r. ⌜ Lays (readStmt version 32) layBody (now (nums .entry)) at (now (directory .entry)) (now (directory .exit)) r ⌝ }
+    ensures { λ r. ⌜ Lays (readStmt version deepest) layBody (now (nums .entry)) at (now (directory .entry)) (now (directory .exit)) r ⌝ }
 {
     let body = scan_stmt(nums, version, DEEPEST, at);
     match body {

@@ -13,8 +13,8 @@ shared-slice-read-tag c = search (exprs, needs)
 expr-form-requires : tie.Need-expr-form-requires
 expr-form-requires c κs = search (exprs, needs)
 
-form-lead-requires : tie.Need-form-lead-requires
-form-lead-requires c κs = search (exprs, needs)
+expr-form-lead-requires : tie.Need-expr-form-lead-requires
+expr-form-lead-requires c κs = search (exprs, needs)
 
 returns : tie.Need-returns
 returns c = search (exprs, needs)
@@ -29,6 +29,6 @@ expr-lead-spec =
     mul-tag
     shared-slice-read-tag
     expr-form-requires
-    form-lead-requires
+    expr-form-lead-requires
     returns
     returns-2)

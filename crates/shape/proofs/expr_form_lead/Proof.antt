@@ -1,8 +1,8 @@
 -- What carries it: the lead of each form.
 use Rattle.shape.proofs.Exprs.{exprLeads}
 use borrow.Author.Needs.{needs}
-use Rattle.shape.proofs.form_lead.Statement.{statement}
-use Rattle.shape.proofs.form_lead.Tie as tie
+use Rattle.shape.proofs.expr_form_lead.Statement.{statement}
+use Rattle.shape.proofs.expr_form_lead.Tie as tie
 
 add-next : tie.Need-add-next
 add-next c = search (exprLeads, needs)
@@ -112,8 +112,8 @@ returns-9 c = search (exprLeads, needs)
 returns-10 : tie.Need-returns-10
 returns-10 c = search (exprLeads, needs)
 
-pub form-lead-spec : {M : Type 1} → statement M
-form-lead-spec =
+pub expr-form-lead-spec : {M : Type 1} → statement M
+expr-form-lead-spec =
     tie.close
     (tie.spec
     add-next

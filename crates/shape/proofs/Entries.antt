@@ -1,0 +1,188 @@
+-- What each slot of the directory holds, for whoever reads it: the counts and the beginnings that the tree carries.
+use mathlib.Core.Path.{_≡_, refl, _∙_}
+use mathlib.Core.List.{List, [], _∷_, map}
+use Prim.Native.Nat.{ℕ, zero, suc, _+_, _≤_, _<_}
+use native.Mathlib.Omega.{arith}
+use native.Mathlib.Nat.{add-zero, add-suc, suc-add}
+use lib.ListN.{length, getD, set, length-set, length-map}
+use lib.Seq.{sets, length-sets, getD-set-same, getD-set-other}
+use Rattle.rules.specs.Syntax.{Program}
+use Rattle.rules.specs.Reading.{got, readProgram, readAfterVersion}
+use Rattle.rules.proofs.Readers.{Given, Gives, gives-then, gives-with, gives-pure, gives-list}
+use Rattle.shape.specs.Directory.{stmtAt, listed, declared, defined, directoryOf}
+
+-- stores one after the other leave what is below them, and put each value in its slot
+sets-below : (vs l : List ℕ) (i j : ℕ) → j < i → getD (sets l i vs) j 0 ≡ getD l j 0
+sets-below [] l i j h = refl
+sets-below (v ∷ vs) l i j h = sets-below vs (set l i v) (suc i) j (omega arith) ∙ getD-set-other l i j v 0 (omega arith)
+
+sets-in : (vs l : List ℕ) (i k : ℕ) → k < length vs → i + length vs ≤ length l → getD (sets l i vs) (i + k) 0 ≡ getD vs k 0
+sets-in [] l i k h b = absurd (omega arith)
+sets-in (v ∷ vs) l i zero h b =
+    rw (add-zero i) (sets-below vs (set l i v) (suc i) i (omega arith) ∙ getD-set-same l i v 0 (omega arith))
+sets-in (v ∷ vs) l i (suc k) h b =
+    rw (add-suc i k, ← suc-add i k) (sets-in vs (set l i v) (suc i) k (omega arith) (rw (length-set l i v) (omega arith)))
+
+-- a list in the directory: its count, its members, and what is below it
+module _ (slots : List ℕ) (slot : ℕ) (begins : List ℕ) where
+  listed-length : length (listed slots slot begins) ≡ length slots
+  unfolding listed
+  listed-length = length-sets slots slot (length begins ∷ begins)
+
+  listed-below : (j : ℕ) → j < slot → getD (listed slots slot begins) j 0 ≡ getD slots j 0
+  unfolding listed
+  listed-below j h = sets-below (length begins ∷ begins) slots slot j h
+
+  listed-count : slot + suc (length begins) ≤ length slots → getD (listed slots slot begins) slot 0 ≡ length begins
+  unfolding listed
+  listed-count b = rw add-zero at (sets-in (length begins ∷ begins) slots slot 0 (omega arith) b)
+
+  listed-member : (i : ℕ) → slot + suc (length begins) ≤ length slots → i < length begins
+      → getD (listed slots slot begins) (slot + suc i) 0 ≡ getD begins i 0
+  unfolding listed
+  listed-member i b h = sets-in (length begins ∷ begins) slots slot (suc i) (omega arith) b
+
+-- a program's lists are no longer than the directory has room for
+record Bounded (p : Program) : Type 0 where
+  pub headers : length (p .headers) ≤ 8
+  pub globals : length (p .globals) ≤ 32
+  pub callables : length (p .callables) ≤ 16
+  pub tables : length (p .tables) ≤ 8
+
+gives-bounded : Gives Bounded readProgram
+unfolding readProgram readAfterVersion
+gives-bounded = gives-then _ λ version. gives-with (gives-list 0 8 _) λ hs h. gives-with (gives-list 0 32 _) λ gs g.
+    gives-with (gives-list 0 16 _) λ cs c. gives-with (gives-list 0 8 _) λ ts t. gives-then _ λ body.
+    gives-pure _ _ (record { headers = h; globals = g; callables = c; tables = t })
+
+-- the directory of a program
+pub record Entries (p : Program) (end : ℕ) (slots : List ℕ) : Type 0 where
+  pub headers : getD slots 0 0 ≡ length (p .headers)
+  pub header : (i : ℕ) → i < length (p .headers) → getD slots (1 + i) 0 ≡ getD (map (λ h. h .at) (p .headers)) i 0
+  pub globals : getD slots 9 0 ≡ length (p .globals)
+  pub global : (i : ℕ) → i < length (p .globals) → getD slots (10 + i) 0 ≡ getD (map (λ g. g .at) (p .globals)) i 0
+  pub callables : getD slots 42 0 ≡ length (p .callables)
+  pub callable : (i : ℕ) → i < length (p .callables) → getD slots (43 + i) 0 ≡ getD (map (λ c. c .at) (p .callables)) i 0
+  pub tables : getD slots 59 0 ≡ length (p .tables)
+  pub table : (i : ℕ) → i < length (p .tables) → getD slots (60 + i) 0 ≡ getD (map (λ t. t .at) (p .tables)) i 0
+  pub body : getD slots 68 0 ≡ stmtAt (p .body)
+  pub ending : getD slots 69 0 ≡ end
+
+-- list by list: each is left alone by those laid after it, in higher slots
+module _ (p : Program) (end : ℕ) (slots : List ℕ) (room : length slots ≡ 70) (few : Bounded p) where
+  abbrev hs : List ℕ
+  hs = map (λ h. h .at) (p .headers)
+
+  abbrev gs : List ℕ
+  gs = map (λ g. g .at) (p .globals)
+
+  abbrev cs : List ℕ
+  cs = map (λ c. c .at) (p .callables)
+
+  abbrev ts : List ℕ
+  ts = map (λ t. t .at) (p .tables)
+
+  h : length hs ≤ 8
+  h = rw (length-map (p .headers) (λ h. h .at)) (few .headers)
+
+  g : length gs ≤ 32
+  g = rw (length-map (p .globals) (λ g. g .at)) (few .globals)
+
+  c : length cs ≤ 16
+  c = rw (length-map (p .callables) (λ c. c .at)) (few .callables)
+
+  t : length ts ≤ 8
+  t = rw (length-map (p .tables) (λ t. t .at)) (few .tables)
+
+  abbrev s₁ : List ℕ
+  s₁ = listed slots 0 hs
+
+  abbrev s₂ : List ℕ
+  s₂ = listed s₁ 9 gs
+
+  abbrev s₃ : List ℕ
+  s₃ = listed s₂ 42 cs
+
+  abbrev s₄ : List ℕ
+  s₄ = listed s₃ 59 ts
+
+  abbrev all : List ℕ
+  all = sets s₄ 68 (stmtAt (p .body) ∷ end ∷ [])
+
+  room₁ : length s₁ ≡ 70
+  room₁ = listed-length slots 0 hs ∙ room
+
+  room₂ : length s₂ ≡ 70
+  room₂ = listed-length s₁ 9 gs ∙ room₁
+
+  room₃ : length s₃ ≡ 70
+  room₃ = listed-length s₂ 42 cs ∙ room₂
+
+  room₄ : length s₄ ≡ 70
+  room₄ = listed-length s₃ 59 ts ∙ room₃
+
+  kept₄ : (j : ℕ) → j < 68 → getD all j 0 ≡ getD s₄ j 0
+  kept₄ j l = sets-below (stmtAt (p .body) ∷ end ∷ []) s₄ 68 j l
+
+  kept₃ : (j : ℕ) → j < 59 → getD all j 0 ≡ getD s₃ j 0
+  kept₃ j l = kept₄ j (omega arith) ∙ listed-below s₃ 59 ts j l
+
+  kept₂ : (j : ℕ) → j < 42 → getD all j 0 ≡ getD s₂ j 0
+  kept₂ j l = kept₃ j (omega arith) ∙ listed-below s₂ 42 cs j l
+
+  kept₁ : (j : ℕ) → j < 9 → getD all j 0 ≡ getD s₁ j 0
+  kept₁ j l = kept₂ j (omega arith) ∙ listed-below s₁ 9 gs j l
+
+  headers-count : getD all 0 0 ≡ length hs
+  headers-count = kept₁ 0 (omega arith) ∙ listed-count slots 0 hs (rw room (omega (arith, h)))
+
+  header-at : (i : ℕ) → i < length hs → getD all (1 + i) 0 ≡ getD hs i 0
+  header-at i l = let e : 1 + i ≡ 0 + suc i = omega arith in
+      kept₁ (1 + i) (omega (arith, h)) ∙ rw e (listed-member slots 0 hs i (rw room (omega (arith, h))) l)
+
+  globals-count : getD all 9 0 ≡ length gs
+  globals-count = kept₂ 9 (omega arith) ∙ listed-count s₁ 9 gs (rw room₁ (omega (arith, g)))
+
+  global-at : (i : ℕ) → i < length gs → getD all (10 + i) 0 ≡ getD gs i 0
+  global-at i l = let e : 10 + i ≡ 9 + suc i = omega arith in
+      kept₂ (10 + i) (omega (arith, g)) ∙ rw e (listed-member s₁ 9 gs i (rw room₁ (omega (arith, g))) l)
+
+  callables-count : getD all 42 0 ≡ length cs
+  callables-count = kept₃ 42 (omega arith) ∙ listed-count s₂ 42 cs (rw room₂ (omega (arith, c)))
+
+  callable-at : (i : ℕ) → i < length cs → getD all (43 + i) 0 ≡ getD cs i 0
+  callable-at i l = let e : 43 + i ≡ 42 + suc i = omega arith in
+      kept₃ (43 + i) (omega (arith, c)) ∙ rw e (listed-member s₂ 42 cs i (rw room₂ (omega (arith, c))) l)
+
+  tables-count : getD all 59 0 ≡ length ts
+  tables-count = kept₄ 59 (omega arith) ∙ listed-count s₃ 59 ts (rw room₃ (omega (arith, t)))
+
+  table-at : (i : ℕ) → i < length ts → getD all (60 + i) 0 ≡ getD ts i 0
+  table-at i l = let e : 60 + i ≡ 59 + suc i = omega arith in
+      kept₄ (60 + i) (omega (arith, t)) ∙ rw e (listed-member s₃ 59 ts i (rw room₃ (omega (arith, t))) l)
+
+  body-is : getD all 68 0 ≡ stmtAt (p .body)
+  body-is = sets-in (stmtAt (p .body) ∷ end ∷ []) s₄ 68 0 (omega arith) (rw room₄ (omega arith))
+
+  end-is : getD all 69 0 ≡ end
+  end-is = sets-in (stmtAt (p .body) ∷ end ∷ []) s₄ 68 1 (omega arith) (rw room₄ (omega arith))
+
+  laid-entries : Entries p end all
+  laid-entries = record {
+    headers = headers-count ∙ length-map (p .headers) (λ h. h .at);
+    header = λ i l. header-at i (rw (length-map (p .headers) (λ h. h .at)) l);
+    globals = globals-count ∙ length-map (p .globals) (λ g. g .at);
+    global = λ i l. global-at i (rw (length-map (p .globals) (λ g. g .at)) l);
+    callables = callables-count ∙ length-map (p .callables) (λ c. c .at);
+    callable = λ i l. callable-at i (rw (length-map (p .callables) (λ c. c .at)) l);
+    tables = tables-count ∙ length-map (p .tables) (λ t. t .at);
+    table = λ i l. table-at i (rw (length-map (p .tables) (λ t. t .at)) l);
+    body = body-is;
+    ending = end-is;
+  }
+
+-- the directory that a program that reads leaves
+pub entries : (nums left slots : List ℕ) (p : Program) (end : ℕ) → readProgram nums 0 ≡ got p left end → length slots ≡ 70
+    → Entries p end (directoryOf p end slots)
+unfolding Given directoryOf declared defined
+entries nums left slots p end e room = laid-entries p end slots room (rw e at (gives-bounded .given nums 0))
