@@ -43,7 +43,9 @@ unfoldable pub defined : List Callable → List Table → List ℕ → List ℕ
 defined callables tables slots = listed (listed slots 42 (map (λ c. c .at) callables)) 59 (map (λ t. t .at) tables)
 
 unfoldable pub directoryOf : Program → ℕ → List ℕ → List ℕ
-directoryOf p end slots = sets (defined (p .callables) (p .tables) (declared (p .headers) (p .globals) slots)) 68 (stmtAt (p .body) ∷ end ∷ [])
+directoryOf p end slots =
+    sets (defined (p .callables) (p .tables) (declared (p .headers) (p .globals) slots)) 68
+    (stmtAt (p .body) ∷ end ∷ [])
 
 -- and what they are left with: a fault leaves them as found
 unfoldable pub directoryLeft : Got Program → List ℕ → List ℕ
@@ -69,7 +71,8 @@ unfoldable pub laidList : (ℕ → Scan) → ℕ → List ℕ → Value → List
 laidList one slot found (Of count next) = sets found slot (count ∷ starts one count next)
 laidList one slot found (Unread number index) = found
 
-pub record WalkedList (one : ℕ → Scan) (most : ℕ) (nums : List ℕ) (at slot : ℕ) (found filled : List ℕ) (r : Scan) : Type 0 where
+pub record WalkedList (one : ℕ → Scan) (most : ℕ) (nums : List ℕ) (at slot : ℕ) (found filled : List ℕ)
+    (r : Scan) : Type 0 where
   pub scan : r ≡ listScan one 0 most nums at
   pub laid : filled ≡ laidList one slot found (valueOf 0 most nums at)
 
@@ -78,19 +81,24 @@ unfoldable pub Laid : {A : Type 0} → Got A → (A → ℕ → List ℕ → Lis
 Laid (got a left next) lay found filled = filled ≡ lay a next found
 Laid (bad number index) lay found filled = Unit
 
-pub record Lays {A : Type 0} (read : Reader A) (lay : A → ℕ → List ℕ → List ℕ) (nums : List ℕ) (at : ℕ) (found filled : List ℕ) (r : Scan) : Type 0 where
+pub record Lays {A : Type 0} (read : Reader A) (lay : A → ℕ → List ℕ → List ℕ) (nums : List ℕ) (at : ℕ)
+    (found filled : List ℕ) (r : Scan) : Type 0 where
   pub scan : r ≡ scanOf read nums at
   pub laid : Laid (read (drop at nums) at) lay found filled
 
 -- the header types and globals; the callables and tables; the apply body
 unfoldable pub readDeclared : ℕ → Reader (List HeaderTy × List Global)
-readDeclared version = listOf 0 8 (readHeader version) >>= λ headers. listOf 0 32 (readGlobal version) >>= λ globals. pure (headers, globals)
+readDeclared version =
+    listOf 0 8 (readHeader version) >>= λ headers. listOf 0 32 (readGlobal version) >>= λ globals. pure
+    (headers, globals)
 
 unfoldable pub layDeclared : List HeaderTy × List Global → ℕ → List ℕ → List ℕ
 layDeclared p next slots = declared (p .0) (p .1) slots
 
 unfoldable pub readDefined : ℕ → Reader (List Callable × List Table)
-readDefined version = listOf 0 16 (readCallable version) >>= λ callables. listOf 0 8 (readTable version) >>= λ tables. pure (callables, tables)
+readDefined version =
+    listOf 0 16 (readCallable version) >>= λ callables. listOf 0 8 (readTable version) >>= λ tables. pure
+    (callables, tables)
 
 unfoldable pub layDefined : List Callable × List Table → ℕ → List ℕ → List ℕ
 layDefined p next slots = defined (p .0) (p .1) slots

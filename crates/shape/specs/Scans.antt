@@ -165,5 +165,6 @@ stmtLead version depth NoStmt nums at = Off 4 at
 -- the lead of a statement at an index, with so many levels allowed below it: with its operands and statements it is the statement
 pub record LeadsStmt (version depth : ℕ) (nums : List ℕ) (at : ℕ) (lead : Lead) : Type 0 where
   pub stmt : scanOf (readStmt version (suc depth)) nums at ≡ onLead lead (λ next operands statements.
-      onScan (scanOf (repeat operands (readExpr version depth)) nums next) (scanOf (repeat statements (readStmt version depth)) nums))
+      onScan (scanOf (repeat operands (readExpr version depth)) nums next)
+      (scanOf (repeat statements (readStmt version depth)) nums))
   pub counts : Counts lead
