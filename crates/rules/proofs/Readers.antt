@@ -1,5 +1,5 @@
--- Readers over the numbers from an index on: a reader that starts at `drop at nums` sees the number at `at`, and what it leaves is
--- `drop next nums` for the index `next` that it gives. So positions in one list can stand for lists of numbers left.
+-- Readers over the numbers from an index on: a reader that starts at `drop at nums` sees the number at `at`, and what
+-- it leaves is `drop next nums` for the index `next` that it gives. So indices into one list can stand for what is left.
 use mathlib.Core.Bool.{Bool, true, false}
 use mathlib.Core.Option.{Option, none, some}
 use mathlib.Core.Path.{_≡_, refl, ap}

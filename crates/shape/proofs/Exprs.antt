@@ -12,7 +12,8 @@ use Rattle.rules.specs.Reading.{Reader, _>>=_, number, standsFor, between, repe
 use Rattle.rules.specs.Reading.{tagLocal, tagParameter, tagGlobal, tagField, ExprTag, tagBool, tagBits, tagPlace, tagValid, tagNot, tagComplement, tagBinary, tagCast, tagSlice, tagConcatenation, tagCall}
 use Rattle.rules.specs.Reading.{operators, exprTags, readPlace, readExprAs, readExpr}
 use Rattle.rules.proofs.Readers.{Keeps, keeps-number, keeps-stands, keeps-between, keeps-list, keeps-place, keeps-expr}
-use Rattle.shape.specs.Scans.{scanOf, onScan, readLiteral, valueOf, onValue, leadBy, onLead, argumentsLead, callLead, formOf, exprForm, exprLead, Counts, LeadsExpr}
+use Rattle.shape.specs.Scans.{scanOf}
+use Rattle.shape.specs.Leads.{onScan, readLiteral, valueOf, onValue, leadBy, onLead, argumentsLead, callLead, formOf, exprForm, exprLead, Counts, LeadsExpr}
 use Rattle.shape.specs.declared.Scan.{Scan}
 use Rattle.shape.specs.declared.Scan.the-variants.{Past, Fault}
 use Rattle.shape.specs.declared.Value.{Value}

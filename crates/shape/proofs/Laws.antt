@@ -11,7 +11,8 @@ use lib.Dec.{ltb, leb, leb·zero, leb·suc-suc}
 use borrow.Author.Tests.{lt-ltb, le-ltb, le-leb, lt-leb, ltb-true, ltb-false}
 use Rattle.rules.specs.Reading.{Got, got, bad, Reader, andThen, _>>=_, pure, here, number, meaning, lookedUp, standsFor, between, within, repeat, listOf, tooDeep}
 use Rattle.rules.proofs.Readers.{Kept, Keeps, keeps-pure, keeps-repeat, keeps-between, looked-in, looked-out, number-in, number-out, deep-in, deep-out}
-use Rattle.shape.specs.Scans.{forget, scanOf, onScan, valued, valueOf, onValue}
+use Rattle.shape.specs.Scans.{forget, scanOf}
+use Rattle.shape.specs.Leads.{onScan, valued, valueOf, onValue}
 use Rattle.shape.specs.declared.Scan.{Scan}
 use Rattle.shape.specs.declared.Scan.the-variants.{Past, Fault}
 use Rattle.shape.specs.declared.Value.{Value}

@@ -14,7 +14,8 @@ use Rattle.rules.specs.Reading.{Reader, _>>=_, pure, number, within, between, s
 use Rattle.rules.specs.Reading.{kindAction, kindFunction, directions, keyKinds, callableKinds, bitsOf, typeOf, orHeader, globalTypeOf}
 use Rattle.rules.specs.Reading.{readExpr, readStmt, readHeader, readGlobal, readParameter, readReturns, readCallable, readNumeral, readKey, readTable}
 use Rattle.rules.proofs.Readers.{Keeps, keeps-then, keeps-number, keeps-stands, keeps-between, keeps-list, keeps-expr, keeps-stmt, keeps-parameter, keeps-returns, keeps-numeral, keeps-key}
-use Rattle.shape.specs.Scans.{scanOf, onScan, valueOf, onValue}
+use Rattle.shape.specs.Scans.{scanOf}
+use Rattle.shape.specs.Leads.{onScan, valueOf, onValue}
 use Rattle.shape.specs.Parts.{repeatScan, listScan, itemScan, readReturning, readFrame, readChoices, readDefault, partScan}
 use Rattle.shape.specs.declared.Scan.{Scan}
 use Rattle.shape.specs.declared.Scan.the-variants.{Past, Fault}
@@ -160,7 +161,8 @@ module _ (version : ℕ) (nums : List ℕ) where
   behind-head : ℕ → Option Ty → Reader Callable
   behind-head i returns =
       listOf 0 8 (readParameter version) >>= λ parameters. listOf 0 8 (standsFor (typeOf version)) >>= λ locals.
-      readStmt version deepest >>= λ body. pure (record { at = i; returns = returns; parameters = parameters; locals = locals; body = body })
+      readStmt version deepest >>= λ body.
+      pure (record { at = i; returns = returns; parameters = parameters; locals = locals; body = body })
 
   scans-behind : (i : ℕ) (returns : Option Ty) → Scans (behind-head i returns) nums
       (λ n. onScan (scanOf (readFrame version) nums n) (scanOf (readStmt version deepest) nums))
@@ -445,7 +447,8 @@ module _ (one : ℕ → Scan) (count at : ℕ) where
       → Fault f i ≡ repeatScan one count at
   items-fault f i a x q p = seq-fault _ _ _ (items-more x) a q f i p
 
-module _ (one : ℕ → Scan) (least most : ℕ) (nums : List ℕ) (at : ℕ) (v : Value) (q : v ≡ valueOf least most nums at) where
+module _ (one : ℕ → Scan) (least most : ℕ) (nums : List ℕ) (at : ℕ) (v : Value)
+    (q : v ≡ valueOf least most nums at) where
   pub list-of : (n next : ℕ) (r : Scan) → v ≡ Of n next → r ≡ repeatScan one n next
       → r ≡ listScan one least most nums at
   unfolding listScan onValue

@@ -11,10 +11,13 @@ use Rattle.rules.specs.Reading.{Got, got, bad, Reader, andThen, _>>=_, pure, be
 use Rattle.rules.specs.Reading.{StmtTag, tagEmpty, tagAssign, tagIf, tagBlock, tagCallStmt, tagApply, tagReturnValue, tagReturn, tagExit, tagSetValid, tagSetInvalid}
 use Rattle.rules.specs.Reading.{readStmtAs, readStmt, readHeader, readGlobal, readCallable, readTable, readAfterVersion, versionOf, readProgram}
 use Rattle.rules.proofs.Readers.{Kept, Keeps, keeps-then, keeps-pure, keeps-between, keeps-list, keeps-header, keeps-global, keeps-callable, keeps-table, Given, Gives, gives-then, gives-pure, Starts, starts-here, starts-deep, starts-header, starts-global, starts-callable, starts-table}
-use Rattle.shape.specs.Scans.{forget, scanOf, valued, valueOf}
+use Rattle.shape.specs.Scans.{forget, scanOf}
+use Rattle.shape.specs.Leads.{valued, valueOf}
 use Rattle.shape.specs.Parts.{listScan, partScan}
-use Rattle.shape.specs.Directory.{stmtAt, listed, declared, defined, directoryOf, directoryLeft, startsAfter, starts, Walked, laidList, WalkedList, Laid, Lays}
-use Rattle.shape.specs.Directory.{readDeclared, layDeclared, readDefined, layDefined, layBody, ScansProgram}
+use Rattle.shape.specs.Directory.{stmtAt, listed, declared, defined, directoryOf, directoryLeft}
+use Rattle.shape.specs.Walks.{startsAfter, starts, Walked, laidList, WalkedList, Laid, Lays}
+use Rattle.shape.specs.Walks.{readDeclared, layDeclared, readDefined, layDefined, layBody}
+use Rattle.shape.specs.Directory.{ScansProgram}
 use Rattle.shape.specs.declared.Scan.{Scan}
 use Rattle.shape.specs.declared.Scan.the-variants.{Past, Fault}
 use Rattle.shape.specs.declared.Value.{Value}
@@ -56,7 +59,8 @@ room-after slot count h x = omega arith
 pub ruleset walks = (walked-none, walked-past, walked-fault, room-after, count-falls)
 
 -- a list of parts
-module _ (one : ℕ → Scan) (most : ℕ) (nums : List ℕ) (at slot : ℕ) (found : List ℕ) (v : Value) (q : v ≡ valueOf 0 most nums at) where
+module _ (one : ℕ → Scan) (most : ℕ) (nums : List ℕ) (at slot : ℕ) (found : List ℕ) (v : Value)
+    (q : v ≡ valueOf 0 most nums at) where
   pub list-walked : (n next : ℕ) (r : Scan) (filled : List ℕ) → v ≡ Of n next
       → Walked one n next (slot + 1) (set found slot n) filled r
       → WalkedList one most nums at slot found filled r
@@ -136,7 +140,8 @@ record Done {A : Type 0} (read : Reader A) (lay : A → ℕ → List ℕ → Lis
   pub gave : read (drop at nums) at ≡ got a (drop next nums) next
   pub laid : filled ≡ lay a next found
 
-module _ {A : Type 0} {read : Reader A} {lay : A → ℕ → List ℕ → List ℕ} {nums : List ℕ} {at : ℕ} {found filled : List ℕ} {x : Scan} where
+module _ {A : Type 0} {read : Reader A} {lay : A → ℕ → List ℕ → List ℕ} {nums : List ℕ} {at : ℕ}
+    {found filled : List ℕ} {x : Scan} where
   lays-done : Keeps read → Lays read lay nums at found filled x → (n : ℕ) → x ≡ Past n
       → (a : A) × Done read lay nums at found filled n a
   unfolding scanOf forget Laid Kept
@@ -292,7 +297,8 @@ unfolding readStmt
 starts-stmt version zero = starts-deep stmtAt
 starts-stmt version (suc depth) = starts-here λ at. gives-then _ λ tag. gives-stmt version tag at _ _ _
 
-module _ (version : ℕ) (nums : List ℕ) (at : ℕ) (found : List ℕ) (a : Scan) (q : a ≡ scanOf (readStmt version deepest) nums at) where
+module _ (version : ℕ) (nums : List ℕ) (at : ℕ) (found : List ℕ) (a : Scan) (q : a ≡ scanOf
+    (readStmt version deepest) nums at) where
   pub body-past : (end : ℕ) → a ≡ Past end
       → Lays (readStmt version deepest) layBody nums at found (set (set found 68 at) 69 end) (Past end)
   unfolding scanOf forget Laid Given layBody
@@ -464,7 +470,8 @@ module _ (nums : List ℕ) (f i : ℕ) (found filled : List ℕ) (v : Value) (q 
           record { scan = rw (e, u, o); laid = rw e tt }
       go (got m left after) e c = let z : _≡_ {A = ℕ} 0 1 = cc in absurd (omega arith)
 
-module _ (nums : List ℕ) (f i end : ℕ) (found filled : List ℕ) (a : Scan) (w : Lays readProgram directoryOf nums 0 found filled a) where
+module _ (nums : List ℕ) (f i end : ℕ) (found filled : List ℕ) (a : Scan)
+    (w : Lays readProgram directoryOf nums 0 found filled a) where
   pub program-past : a ≡ Past end → ScansProgram nums found filled (Past end)
   unfolding scanOf forget Laid directoryLeft
   program-past p =

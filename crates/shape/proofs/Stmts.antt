@@ -13,7 +13,8 @@ use Rattle.rules.specs.Reading.{PlaceTag, tagLocal, tagParameter, tagGlobal, ta
 use Rattle.rules.specs.Reading.{StmtTag, tagEmpty, tagAssign, tagIf, tagBlock, tagCallStmt, tagApply, tagReturnValue, tagReturn, tagExit, tagSetValid, tagSetInvalid}
 use Rattle.rules.specs.Reading.{exprTags, placeTagOf, stmtTags, readPlace, readExpr, readTarget, readStmtAs, readStmt}
 use Rattle.rules.proofs.Readers.{Keeps, keeps-number, keeps-list, keeps-place, keeps-expr, keeps-target, keeps-stmt}
-use Rattle.shape.specs.Scans.{forget, scanOf, onScan, valueOf, onValue, leadBy, onLead, callLead, blockLead, Counts, placeFormOf, placeForm, placeScan, stmtFormOf, stmtForm, stmtLead, LeadsStmt}
+use Rattle.shape.specs.Scans.{forget, scanOf}
+use Rattle.shape.specs.Leads.{onScan, valueOf, onValue, leadBy, onLead, callLead, blockLead, Counts, placeFormOf, placeForm, placeScan, stmtFormOf, stmtForm, stmtLead, LeadsStmt}
 use Rattle.shape.specs.declared.Scan.{Scan}
 use Rattle.shape.specs.declared.Scan.the-variants.{Past, Fault}
 use Rattle.shape.specs.declared.Value.{Value}
