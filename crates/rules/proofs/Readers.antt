@@ -1,5 +1,5 @@
--- Readers over the numbers from an index on: a reader that starts at `drop at nums` sees the number at `at`, and what it leaves is
--- `drop next nums` for the index `next` that it gives. So positions in one list can stand for lists of numbers left.
+-- Readers over the numbers from an index on: a reader that starts at `drop at nums` sees the number at `at`, and what
+-- it leaves is `drop next nums` for the index `next` that it gives. So indices into one list can stand for what is left.
 use mathlib.Core.Bool.{Bool, true, false}
 use mathlib.Core.Option.{Option, none, some}
 use mathlib.Core.Path.{_≡_, refl, ap}
@@ -28,7 +28,8 @@ pub looked-out : {A : Type 0} (fault : ℕ) (what : ℕ → Option A) (nums : Li
 unfolding lookedUp
 looked-out fault what nums at h = rw (drop-of-length-le nums h)
 
-pub number-in : (nums : List ℕ) (at : ℕ) → at < length nums → number (drop at nums) at ≡ got (getD nums at 0) (drop (suc at) nums) (suc at)
+pub number-in : (nums : List ℕ) (at : ℕ) → at < length nums
+    → number (drop at nums) at ≡ got (getD nums at 0) (drop (suc at) nums) (suc at)
 unfolding number
 number-in nums at h = rw (drop-cons nums at 0 h)
 
@@ -59,19 +60,23 @@ pub record Keeps {A : Type 0} (read : Reader A) : Type 0 where
   pub kept : (nums : List ℕ) (at : ℕ) → Kept nums at (read (drop at nums) at)
 
 -- a step later
-kept-later : {A : Type 0} (nums : List ℕ) (at next : ℕ) (x : Got A) → at ≤ next → (at ≤ length nums → next ≤ length nums)
+kept-later : {A : Type 0} (nums : List ℕ) (at next : ℕ) (x : Got A) → at ≤ next
+    → (at ≤ length nums → next ≤ length nums)
     → Kept nums next x → Kept nums at x
 unfolding Kept
 kept-later nums at next (got a left last) h i k =
     record { rest = k .rest; later = omega (arith, k .later); inside = λ l. k .inside (i l) }
 kept-later nums at next (bad number index) h i k = tt
 
-pub keeps-then : {A B : Type 0} {read : Reader A} {k : A → Reader B} → Keeps read → ((a : A) → Keeps (k a)) → Keeps (read >>= k)
+pub keeps-then : {A B : Type 0} {read : Reader A} {k : A → Reader B} → Keeps read → ((a : A) → Keeps (k a))
+    → Keeps (read >>= k)
 unfolding _>>=_ andThen Kept
 keeps-then {A} {B} {read} {k} h g = record { kept = λ nums at. go nums at (read (drop at nums) at) (h .kept nums at) }
   where
     go : (nums : List ℕ) (at : ℕ) (x : Got A) → Kept nums at x → Kept nums at (andThen x k)
-    go nums at (got a left next) l = rw (l .rest) (kept-later nums at next (k a (drop next nums) next) (l .later) (l .inside) (g a .kept nums next))
+    go nums at (got a left next) l =
+        rw (l .rest) (kept-later nums at next (k a (drop next nums) next) (l .later) (l .inside)
+        (g a .kept nums next))
     go nums at (bad number index) l = tt
 
 pub keeps-pure : {A : Type 0} (a : A) → Keeps (pure a)
@@ -140,7 +145,8 @@ module _ (version : ℕ) where
   keeps-place tagGlobal = keeps-then keeps-number λ g. keeps-pure _
   keeps-place tagField = keeps-then keeps-number λ g. keeps-then keeps-number λ f. keeps-pure _
 
-  keeps-expr-as : (tag : ExprTag) (at : ℕ) {operand : Reader Expr} → Keeps operand → Keeps (readExprAs version tag at operand)
+  keeps-expr-as : (tag : ExprTag) (at : ℕ) {operand : Reader Expr} → Keeps operand
+      → Keeps (readExprAs version tag at operand)
   unfolding readExprAs
   keeps-expr-as tagBool at k = keeps-then keeps-number λ n. keeps-pure _
   keeps-expr-as tagBits at k = keeps-then (keeps-between 1 64) λ w. keeps-then keeps-number λ n. keeps-pure _
@@ -150,19 +156,22 @@ module _ (version : ℕ) where
   keeps-expr-as tagComplement at k = keeps-then k λ a. keeps-pure _
   keeps-expr-as tagBinary at k = keeps-then (keeps-stands _) λ o. keeps-then k λ a. keeps-then k λ b. keeps-pure _
   keeps-expr-as tagCast at k = keeps-then (keeps-between 1 64) λ w. keeps-then k λ a. keeps-pure _
-  keeps-expr-as tagSlice at k = keeps-then (keeps-between 0 63) λ h. keeps-then (keeps-between 0 63) λ l. keeps-then k λ a. keeps-pure _
+  keeps-expr-as tagSlice at k =
+      keeps-then (keeps-between 0 63) λ h. keeps-then (keeps-between 0 63) λ l. keeps-then k λ a. keeps-pure _
   keeps-expr-as tagConcatenation at k = keeps-then k λ a. keeps-then k λ b. keeps-pure _
   keeps-expr-as tagCall at k = keeps-then keeps-number λ f. keeps-then (keeps-list 0 8 k) λ xs. keeps-pure _
 
   pub keeps-expr : (depth : ℕ) → Keeps (readExpr version depth)
   unfolding readExpr
   keeps-expr zero = keeps-deep
-  keeps-expr (suc depth) = keeps-then keeps-here λ at. keeps-then (keeps-stands _) λ tag. keeps-expr-as tag at (keeps-expr depth)
+  keeps-expr (suc depth) =
+      keeps-then keeps-here λ at. keeps-then (keeps-stands _) λ tag. keeps-expr-as tag at (keeps-expr depth)
 
   pub keeps-target : (depth : ℕ) → Keeps (readTarget version depth)
   unfolding readTarget
   keeps-target zero = keeps-deep
-  keeps-target (suc depth) = keeps-then keeps-here λ at. keeps-then (keeps-stands _) λ tag. keeps-then (keeps-place tag) λ p. keeps-pure _
+  keeps-target (suc depth) =
+      keeps-then keeps-here λ at. keeps-then (keeps-stands _) λ tag. keeps-then (keeps-place tag) λ p. keeps-pure _
 
   keeps-stmt-as : (tag : StmtTag) (at : ℕ) {operand : Reader Expr} {target : Reader (ℕ × Place)} {inner : Reader Stmt}
       → Keeps operand → Keeps target → Keeps inner → Keeps (readStmtAs version tag at operand target inner)
@@ -204,7 +213,8 @@ module _ (version : ℕ) where
 
   pub keeps-callable : Keeps (readCallable version)
   unfolding readCallable
-  keeps-callable = keeps-then keeps-here λ at. keeps-then (keeps-stands _) λ kind. keeps-then (keeps-returns kind) λ returns.
+  keeps-callable =
+      keeps-then keeps-here λ at. keeps-then (keeps-stands _) λ kind. keeps-then (keeps-returns kind) λ returns.
       keeps-then (keeps-list 0 8 keeps-parameter) λ ps. keeps-then (keeps-list 0 8 (keeps-stands _)) λ ls.
       keeps-then (keeps-stmt deepest) λ body. keeps-pure _
 
@@ -214,12 +224,17 @@ module _ (version : ℕ) where
 
   pub keeps-key : Keeps (readKey version)
   unfolding readKey
-  keeps-key = keeps-then keeps-here λ at. keeps-then (keeps-stands _) λ kind. keeps-then (keeps-expr deepest) λ e. keeps-pure _
+  keeps-key =
+      keeps-then keeps-here λ at. keeps-then (keeps-stands _) λ kind. keeps-then (keeps-expr deepest)
+      λ e. keeps-pure _
 
   pub keeps-table : Keeps (readTable version)
   unfolding readTable
-  keeps-table = keeps-then keeps-here λ at. keeps-then (keeps-list 1 4 keeps-key) λ ks. keeps-then (keeps-list 1 8 keeps-numeral) λ ns.
-      keeps-then keeps-numeral λ d. keeps-then keeps-here λ n. keeps-then (keeps-list 0 8 keeps-numeral) λ xs. keeps-pure _
+  keeps-table =
+      keeps-then keeps-here λ at. keeps-then (keeps-list 1 4 keeps-key) λ ks. keeps-then
+      (keeps-list 1 8 keeps-numeral) λ ns.
+      keeps-then keeps-numeral λ d. keeps-then keeps-here λ n. keeps-then (keeps-list 0 8 keeps-numeral)
+      λ xs. keeps-pure _
 
   pub keeps-after-version : Keeps (readAfterVersion version)
   unfolding readAfterVersion
@@ -239,7 +254,8 @@ Given P (bad number index) = Unit
 pub record Gives {A : Type 0} (P : A → Type 0) (read : Reader A) : Type 0 where
   pub given : (left : List ℕ) (at : ℕ) → Given P (read left at)
 
-pub gives-then : {A B : Type 0} {P : B → Type 0} (read : Reader A) {k : A → Reader B} → ((a : A) → Gives P (k a)) → Gives P (read >>= k)
+pub gives-then : {A B : Type 0} {P : B → Type 0} (read : Reader A) {k : A → Reader B} → ((a : A) → Gives P (k a))
+    → Gives P (read >>= k)
 unfolding _>>=_ andThen Given
 gives-then {A} {B} {P} read {k} g = record { given = λ left at. go (read left at) }
   where
@@ -255,7 +271,8 @@ gives-pure P a p = record { given = λ left at. p }
 pub record Starts {A : Type 0} (start : A → ℕ) (read : Reader A) : Type 0 where
   pub started : (left : List ℕ) (at : ℕ) → Given (λ a. start a ≡ at) (read left at)
 
-pub starts-here : {A : Type 0} {start : A → ℕ} {k : ℕ → Reader A} → ((at : ℕ) → Gives (λ a. start a ≡ at) (k at)) → Starts start (here >>= k)
+pub starts-here : {A : Type 0} {start : A → ℕ} {k : ℕ → Reader A} → ((at : ℕ) → Gives (λ a. start a ≡ at) (k at))
+    → Starts start (here >>= k)
 unfolding here _>>=_ andThen
 starts-here g = record { started = λ left at. g at .given left at }
 
@@ -278,11 +295,15 @@ module _ (version : ℕ) where
 
   pub starts-callable : Starts (λ (c : Callable). c .at) (readCallable version)
   unfolding readCallable
-  starts-callable = starts-here λ at. gives-then _ λ kind. gives-then _ λ returns. gives-then _ λ ps. gives-then _ λ ls. gives-then _ λ body. gives-pure _ _ refl
+  starts-callable =
+      starts-here λ at. gives-then _ λ kind. gives-then _ λ returns. gives-then _ λ ps. gives-then _
+      λ ls. gives-then _ λ body. gives-pure _ _ refl
 
   pub starts-table : Starts (λ (t : Table). t .at) (readTable version)
   unfolding readTable
-  starts-table = starts-here λ at. gives-then _ λ ks. gives-then _ λ ns. gives-then _ λ d. gives-then _ λ n. gives-then _ λ xs. gives-pure _ _ refl
+  starts-table =
+      starts-here λ at. gives-then _ λ ks. gives-then _ λ ns. gives-then _ λ d. gives-then _ λ n. gives-then _
+      λ xs. gives-pure _ _ refl
 
 pub gives-as : {A : Type 0} {P Q : A → Type 0} {read : Reader A} → ((a : A) → P a → Q a) → Gives P read → Gives Q read
 unfolding Given
@@ -319,7 +340,8 @@ gives-between least most = record { given = go }
 pub gives-repeat : {A : Type 0} (n : ℕ) (one : Reader A) → Gives (λ xs. length xs ≡ n) (repeat n one)
 unfolding repeat
 gives-repeat zero one = gives-pure _ [] refl
-gives-repeat (suc n) one = gives-then one λ a. gives-with (gives-repeat n one) λ rest e. gives-pure _ (a ∷ rest) (ap suc e)
+gives-repeat (suc n) one =
+    gives-then one λ a. gives-with (gives-repeat n one) λ rest e. gives-pure _ (a ∷ rest) (ap suc e)
 
 pub gives-list : {A : Type 0} (least most : ℕ) (one : Reader A) → Gives (λ xs. length xs ≤ most) (listOf least most one)
 unfolding listOf

@@ -16,12 +16,14 @@ sets-below : (vs l : List ℕ) (i j : ℕ) → j < i → getD (sets l i vs) j 0 
 sets-below [] l i j h = refl
 sets-below (v ∷ vs) l i j h = sets-below vs (set l i v) (suc i) j (omega arith) ∙ getD-set-other l i j v 0 (omega arith)
 
-sets-in : (vs l : List ℕ) (i k : ℕ) → k < length vs → i + length vs ≤ length l → getD (sets l i vs) (i + k) 0 ≡ getD vs k 0
+sets-in : (vs l : List ℕ) (i k : ℕ) → k < length vs → i + length vs ≤ length l
+    → getD (sets l i vs) (i + k) 0 ≡ getD vs k 0
 sets-in [] l i k h b = absurd (omega arith)
 sets-in (v ∷ vs) l i zero h b =
     rw (add-zero i) (sets-below vs (set l i v) (suc i) i (omega arith) ∙ getD-set-same l i v 0 (omega arith))
 sets-in (v ∷ vs) l i (suc k) h b =
-    rw (add-suc i k, ← suc-add i k) (sets-in vs (set l i v) (suc i) k (omega arith) (rw (length-set l i v) (omega arith)))
+    rw (add-suc i k, ← suc-add i k) (sets-in vs (set l i v) (suc i) k (omega arith)
+    (rw (length-set l i v) (omega arith)))
 
 -- a list in the directory: its count, its members, and what is below it
 module _ (slots : List ℕ) (slot : ℕ) (begins : List ℕ) where
@@ -62,7 +64,8 @@ pub record Entries (p : Program) (end : ℕ) (slots : List ℕ) : Type 0 where
   pub globals : getD slots 9 0 ≡ length (p .globals)
   pub global : (i : ℕ) → i < length (p .globals) → getD slots (10 + i) 0 ≡ getD (map (λ g. g .at) (p .globals)) i 0
   pub callables : getD slots 42 0 ≡ length (p .callables)
-  pub callable : (i : ℕ) → i < length (p .callables) → getD slots (43 + i) 0 ≡ getD (map (λ c. c .at) (p .callables)) i 0
+  pub callable : (i : ℕ) → i < length (p .callables)
+      → getD slots (43 + i) 0 ≡ getD (map (λ c. c .at) (p .callables)) i 0
   pub tables : getD slots 59 0 ≡ length (p .tables)
   pub table : (i : ℕ) → i < length (p .tables) → getD slots (60 + i) 0 ≡ getD (map (λ t. t .at) (p .tables)) i 0
   pub body : getD slots 68 0 ≡ stmtAt (p .body)
@@ -182,7 +185,8 @@ module _ (p : Program) (end : ℕ) (slots : List ℕ) (room : length slots ≡ 7
   }
 
 -- the directory that a program that reads leaves
-pub entries : (nums left slots : List ℕ) (p : Program) (end : ℕ) → readProgram nums 0 ≡ got p left end → length slots ≡ 70
+pub entries : (nums left slots : List ℕ) (p : Program) (end : ℕ) → readProgram nums 0 ≡ got p left end
+    → length slots ≡ 70
     → Entries p end (directoryOf p end slots)
 unfolding Given directoryOf declared defined
 entries nums left slots p end e room = laid-entries p end slots room (rw e at (gives-bounded .given nums 0))

@@ -11,7 +11,8 @@ use lib.Dec.{ltb, leb, leb·zero, leb·suc-suc}
 use borrow.Author.Tests.{lt-ltb, le-ltb, le-leb, lt-leb, ltb-true, ltb-false}
 use Rattle.rules.specs.Reading.{Got, got, bad, Reader, andThen, _>>=_, pure, here, number, meaning, lookedUp, standsFor, between, within, repeat, listOf, tooDeep}
 use Rattle.rules.proofs.Readers.{Kept, Keeps, keeps-pure, keeps-repeat, keeps-between, looked-in, looked-out, number-in, number-out, deep-in, deep-out}
-use Rattle.shape.specs.Scans.{forget, scanOf, onScan, valued, valueOf, onValue}
+use Rattle.shape.specs.Scans.{forget, scanOf}
+use Rattle.shape.specs.Leads.{onScan, valued, valueOf, onValue}
 use Rattle.shape.specs.declared.Scan.{Scan}
 use Rattle.shape.specs.declared.Scan.the-variants.{Past, Fault}
 use Rattle.shape.specs.declared.Value.{Value}
@@ -39,27 +40,34 @@ within-high : (least most n : ℕ) → least ≤ n → most < n → within least
 unfolding within
 within-high least most n h k = rw (within, le-leb least n h, lt-leb n most k)
 
-pub value-is : (least most : ℕ) (nums : List ℕ) (at : ℕ) → at < length nums → least ≤ getD nums at 0 → getD nums at 0 ≤ most
+pub value-is : (least most : ℕ) (nums : List ℕ) (at : ℕ) → at < length nums → least ≤ getD nums at 0
+    → getD nums at 0 ≤ most
     → Of (getD nums at 0) (at + 1) ≡ valueOf least most nums at
 unfolding valueOf valued between standsFor meaning
-value-is least most nums at h l m = rw (looked-in 4 (within least most) nums at h, within-is least most (getD nums at 0) l m, add-one at)
+value-is least most nums at h l m =
+    rw (looked-in 4 (within least most) nums at h, within-is least most (getD nums at 0) l m, add-one at)
 
 pub value-low : (least most : ℕ) (nums : List ℕ) (at : ℕ) → at < length nums → getD nums at 0 < least
     → Unread 4 at ≡ valueOf least most nums at
 unfolding valueOf valued between standsFor meaning
-value-low least most nums at h l = rw (looked-in 4 (within least most) nums at h, within-low least most (getD nums at 0) l)
+value-low least most nums at h l =
+    rw (looked-in 4 (within least most) nums at h, within-low least most (getD nums at 0) l)
 
-pub value-high : (least most : ℕ) (nums : List ℕ) (at : ℕ) → at < length nums → least ≤ getD nums at 0 → most < getD nums at 0
+pub value-high : (least most : ℕ) (nums : List ℕ) (at : ℕ) → at < length nums → least ≤ getD nums at 0
+    → most < getD nums at 0
     → Unread 4 at ≡ valueOf least most nums at
 unfolding valueOf valued between standsFor meaning
-value-high least most nums at h l m = rw (looked-in 4 (within least most) nums at h, within-high least most (getD nums at 0) l m)
+value-high least most nums at h l m =
+    rw (looked-in 4 (within least most) nums at h, within-high least most (getD nums at 0) l m)
 
-pub value-missing : (least most : ℕ) (nums : List ℕ) (at : ℕ) → length nums ≤ at → Unread 4 at ≡ valueOf least most nums at
+pub value-missing : (least most : ℕ) (nums : List ℕ) (at : ℕ) → length nums ≤ at
+    → Unread 4 at ≡ valueOf least most nums at
 unfolding valueOf valued between standsFor
 value-missing least most nums at h = rw (looked-out 4 (within least most) nums at h)
 
 -- with its value forgotten
-between-by : (least most : ℕ) (nums : List ℕ) (at : ℕ) → scanOf (between least most) nums at ≡ onValue (valueOf least most nums at) (λ n next. Past next)
+between-by : (least most : ℕ) (nums : List ℕ) (at : ℕ)
+    → scanOf (between least most) nums at ≡ onValue (valueOf least most nums at) (λ n next. Past next)
 unfolding scanOf forget valueOf valued onValue
 between-by least most nums at = go (between least most (drop at nums) at)
   where
@@ -67,12 +75,14 @@ between-by least most nums at = go (between least most (drop at nums) at)
     go (got n left next) = refl
     go (bad fault index) = refl
 
-pub between-past : (least most : ℕ) (nums : List ℕ) (at n next : ℕ) (v : Value) → v ≡ valueOf least most nums at → v ≡ Of n next
+pub between-past : (least most : ℕ) (nums : List ℕ) (at n next : ℕ) (v : Value) → v ≡ valueOf least most nums at
+    → v ≡ Of n next
     → Past next ≡ scanOf (between least most) nums at
 unfolding onValue
 between-past least most nums at n next v e p = sym (rw (← e, p) at (between-by least most nums at))
 
-pub between-fault : (least most : ℕ) (nums : List ℕ) (at fault index : ℕ) (v : Value) → v ≡ valueOf least most nums at → v ≡ Unread fault index
+pub between-fault : (least most : ℕ) (nums : List ℕ) (at fault index : ℕ) (v : Value) → v ≡ valueOf least most nums at
+    → v ≡ Unread fault index
     → Fault fault index ≡ scanOf (between least most) nums at
 unfolding onValue
 between-fault least most nums at fault index v e p = sym (rw (← e, p) at (between-by least most nums at))
@@ -86,7 +96,8 @@ pub deep-missing : (nums : List ℕ) (at : ℕ) → length nums ≤ at → Fault
 unfolding scanOf forget
 deep-missing nums at h = rw (deep-out {A = ℕ} nums at h)
 
-pub deep-same : (A : Type 0) (nums : List ℕ) (at : ℕ) → scanOf (tooDeep {A = ℕ}) nums at ≡ scanOf (tooDeep {A = A}) nums at
+pub deep-same : (A : Type 0) (nums : List ℕ) (at : ℕ)
+    → scanOf (tooDeep {A = ℕ}) nums at ≡ scanOf (tooDeep {A = A}) nums at
 unfolding scanOf forget tooDeep
 deep-same A nums at = go (drop at nums)
   where
@@ -94,7 +105,18 @@ deep-same A nums at = go (drop at nums)
     go [] = refl
     go (n ∷ left) = refl
 
-pub ruleset leaves = (number-is, number-missing, value-is, value-low, value-high, value-missing, between-past, between-fault, deep-is, deep-missing)
+pub ruleset leaves = (
+  number-is,
+  number-missing,
+  value-is,
+  value-low,
+  value-high,
+  value-missing,
+  between-past,
+  between-fault,
+  deep-is,
+  deep-missing,
+)
 
 -- one reader behind another
 pub on-past : (a r : Scan) (n : ℕ) (k : ℕ → Scan) → a ≡ Past n → r ≡ k n → r ≡ onScan a k
@@ -123,10 +145,12 @@ pub scans-self : {A : Type 0} (read : Reader A) (nums : List ℕ) → Scans read
 scans-self read nums = record { scan = λ at. refl }
 
 -- where what the second reads does not depend on what the first has read
-pub scans-then : {A B : Type 0} {read : Reader A} {k : A → Reader B} {nums : List ℕ} {s t : ℕ → Scan} → Keeps read → Scans read nums s
+pub scans-then : {A B : Type 0} {read : Reader A} {k : A → Reader B} {nums : List ℕ} {s t : ℕ → Scan} → Keeps read
+    → Scans read nums s
     → ((a : A) → Scans (k a) nums t) → Scans (read >>= k) nums (λ at. onScan (s at) t)
 unfolding scanOf forget _>>=_ andThen onScan Kept
-scans-then {A} {B} {read} {k} {nums} {s} {t} h f g = record { scan = λ at. rw (← f .scan at) (go at (read (drop at nums) at) (h .kept nums at)) }
+scans-then {A} {B} {read} {k} {nums} {s} {t} h f g =
+    record { scan = λ at. rw (← f .scan at) (go at (read (drop at nums) at) (h .kept nums at)) }
   where
     go : (at : ℕ) (x : Got A) → Kept nums at x → forget (andThen x k) ≡ onScan (forget x) t
     go at (got a left next) l = rw (l .rest) (g a .scan next)
@@ -136,21 +160,25 @@ pub scans-pure : {A : Type 0} (a : A) {nums : List ℕ} → Scans (pure a) nums 
 unfolding scanOf forget pure
 scans-pure a = record { scan = λ at. refl }
 
-pub scans-here : {A : Type 0} {k : ℕ → Reader A} {nums : List ℕ} {t : ℕ → Scan} → ((at : ℕ) → Scans (k at) nums t) → Scans (here >>= k) nums t
+pub scans-here : {A : Type 0} {k : ℕ → Reader A} {nums : List ℕ} {t : ℕ → Scan} → ((at : ℕ) → Scans (k at) nums t)
+    → Scans (here >>= k) nums t
 unfolding scanOf here _>>=_ andThen
 scans-here f = record { scan = λ at. f at .scan at }
 
-pub scan-here : {A : Type 0} (nums : List ℕ) (at : ℕ) (k : ℕ → Reader A) → scanOf (here >>= k) nums at ≡ scanOf (k at) nums at
+pub scan-here : {A : Type 0} (nums : List ℕ) (at : ℕ) (k : ℕ → Reader A)
+    → scanOf (here >>= k) nums at ≡ scanOf (k at) nums at
 unfolding scanOf here _>>=_ andThen
 scan-here nums at k = refl
 
 -- at the end of a construct the tree is made, and forgotten
-pub scans-last : {A B : Type 0} {read : Reader A} {k : A → Reader B} {nums : List ℕ} {s : ℕ → Scan} → Keeps read → Scans read nums s
+pub scans-last : {A B : Type 0} {read : Reader A} {k : A → Reader B} {nums : List ℕ} {s : ℕ → Scan} → Keeps read
+    → Scans read nums s
     → ((a : A) → Scans (k a) nums Past) → Scans (read >>= k) nums s
 scans-last {s = s} h f g = record { scan = λ at. scans-then h f g .scan at ∙ on-last (s at) }
 
 -- the same readers scan the same
-pub scans-as : {A B : Type 0} {read : Reader A} {other : Reader B} {nums : List ℕ} {t : ℕ → Scan} → Scans read nums t → Scans other nums t
+pub scans-as : {A B : Type 0} {read : Reader A} {other : Reader B} {nums : List ℕ} {t : ℕ → Scan} → Scans read nums t
+    → Scans other nums t
     → Scans read nums (scanOf other nums)
 scans-as f g = record { scan = λ at. f .scan at ∙ sym (g .scan at) }
 
@@ -170,29 +198,35 @@ module _ {A B : Type 0} (what : ℕ → Option A) (k : A → Reader B) (nums : L
   stands-out h = rw (looked-out 4 what nums at h)
 
 -- a list of members
-pub repeat-none : {A : Type 0} (one : Reader A) (nums : List ℕ) (k at : ℕ) → k ≡ 0 → Past at ≡ scanOf (repeat k one) nums at
+pub repeat-none : {A : Type 0} (one : Reader A) (nums : List ℕ) (k at : ℕ) → k ≡ 0
+    → Past at ≡ scanOf (repeat k one) nums at
 unfolding repeat
 repeat-none one nums k at e = rw e (sym (scans-pure [] .scan at))
 
 pub scans-repeat : {A : Type 0} {one : Reader A} {nums : List ℕ} {s : ℕ → Scan} (k : ℕ) → Keeps one → Scans one nums s
     → Scans (repeat (suc k) one) nums (λ at. onScan (s at) (scanOf (repeat k one) nums))
 unfolding repeat
-scans-repeat {A} {one} {nums} k h f = scans-then h f λ a. scans-last (keeps-repeat k h) (scans-self (repeat k one) nums) λ rest. scans-pure _
+scans-repeat {A} {one} {nums} k h f =
+    scans-then h f λ a. scans-last (keeps-repeat k h) (scans-self (repeat k one) nums) λ rest. scans-pure _
 
 pub repeat-more : {A : Type 0} (one : Reader A) (nums : List ℕ) (k at : ℕ) → Keeps one → (k ≡ 0 → ⊥)
     → scanOf (repeat k one) nums at ≡ onScan (scanOf one nums at) (scanOf (repeat (k - 1) one) nums)
 repeat-more one nums zero at h x = absurd (x refl)
 repeat-more one nums (suc k) at h x = rw (sub-one (suc k)) (scans-repeat k h (scans-self one nums) .scan at)
 
-pub repeat-past : {A : Type 0} (one : Reader A) → Keeps one → (nums : List ℕ) (at k n : ℕ) (a r : Scan) → (k ≡ 0 → ⊥) → a ≡ scanOf one nums at
+pub repeat-past : {A : Type 0} (one : Reader A) → Keeps one → (nums : List ℕ) (at k n : ℕ) (a r : Scan) → (k ≡ 0 → ⊥)
+    → a ≡ scanOf one nums at
     → a ≡ Past n → r ≡ scanOf (repeat (k - 1) one) nums n → r ≡ scanOf (repeat k one) nums at
 repeat-past one h nums at k n a r x e p q =
-    on-past (scanOf one nums at) r n (scanOf (repeat (k - 1) one) nums) (sym e ∙ p) q ∙ sym (repeat-more one nums k at h x)
+    on-past (scanOf one nums at) r n (scanOf (repeat (k - 1) one) nums) (sym e ∙ p) q
+    ∙ sym (repeat-more one nums k at h x)
 
-pub repeat-fault : {A : Type 0} (one : Reader A) → Keeps one → (nums : List ℕ) (at k fault index : ℕ) (a : Scan) → (k ≡ 0 → ⊥)
+pub repeat-fault : {A : Type 0} (one : Reader A) → Keeps one → (nums : List ℕ) (at k fault index : ℕ) (a : Scan)
+    → (k ≡ 0 → ⊥)
     → a ≡ scanOf one nums at → a ≡ Fault fault index → Fault fault index ≡ scanOf (repeat k one) nums at
 repeat-fault one h nums at k fault index a x e p =
-    on-fault (scanOf one nums at) fault index (scanOf (repeat (k - 1) one) nums) (sym e ∙ p) ∙ sym (repeat-more one nums k at h x)
+    on-fault (scanOf one nums at) fault index (scanOf (repeat (k - 1) one) nums) (sym e ∙ p)
+    ∙ sym (repeat-more one nums k at h x)
 
 -- a list of the page that has an entry just for the numbers of a range scans as the range does
 unfoldable pub isSome : {A : Type 0} → Option A → Bool
@@ -233,7 +267,8 @@ pub scan-like : {A B : Type 0} (what : ℕ → Option A) (like : ℕ → Option 
 unfolding scanOf forget standsFor
 scan-like what like nums at s = go (ltb at (length nums)) refl
   where
-    go : (b : Bool) → ltb at (length nums) ≡ b → forget (lookedUp 4 what (drop at nums) at) ≡ forget (lookedUp 4 like (drop at nums) at)
+    go : (b : Bool) → ltb at (length nums) ≡ b
+        → forget (lookedUp 4 what (drop at nums) at) ≡ forget (lookedUp 4 like (drop at nums) at)
     go true e =
         let h : at < length nums = ltb-true at (length nums) e in
         rw (looked-in 4 what nums at h, looked-in 4 like nums at h)
@@ -263,26 +298,32 @@ pub spans-list : {A : Type 0} (l : List A) (last : ℕ) → length l ≡ suc las
 spans-list l last e = record { span = λ n. some-at l n ∙ rw (e, leb·suc-suc n last, leb·zero n) }
 
 -- lists of no, one and two members, and of as many as a count says
-pub scans-none : {A B : Type 0} (one : Reader A) (b : B) {nums : List ℕ} → Scans (pure b) nums (scanOf (repeat 0 one) nums)
+pub scans-none : {A B : Type 0} (one : Reader A) (b : B) {nums : List ℕ}
+    → Scans (pure b) nums (scanOf (repeat 0 one) nums)
 unfolding repeat scanOf forget pure
 scans-none one b = record { scan = λ at. refl }
 
 pub scans-one : {A : Type 0} {one : Reader A} {nums : List ℕ} → Keeps one → Scans (repeat 1 one) nums (scanOf one nums)
 unfolding repeat
-scans-one {A} {one} {nums} h = scans-last h (scans-self one nums) λ a. scans-last (keeps-pure []) (scans-pure []) λ rest. scans-pure _
+scans-one {A} {one} {nums} h =
+    scans-last h (scans-self one nums) λ a. scans-last (keeps-pure []) (scans-pure []) λ rest. scans-pure _
 
 pub scans-two : {A : Type 0} {one : Reader A} {nums : List ℕ} → Keeps one
     → Scans (repeat 2 one) nums (λ at. onScan (scanOf one nums at) (scanOf one nums))
 unfolding repeat
-scans-two {A} {one} {nums} h = scans-then h (scans-self one nums) λ a. scans-last (keeps-repeat 1 h) (scans-one h) λ rest. scans-pure _
+scans-two {A} {one} {nums} h =
+    scans-then h (scans-self one nums) λ a. scans-last (keeps-repeat 1 h) (scans-one h) λ rest. scans-pure _
 
 pub list-scan : {A : Type 0} {one : Reader A} (least most : ℕ) (nums : List ℕ) (at : ℕ) → Keeps one
-    → scanOf (listOf least most one) nums at ≡ onValue (valueOf least most nums at) (λ n next. scanOf (repeat n one) nums next)
+    → scanOf (listOf least most one) nums at
+    ≡ onValue (valueOf least most nums at) (λ n next. scanOf (repeat n one) nums next)
 unfolding listOf scanOf forget _>>=_ andThen valueOf valued onValue Kept
-list-scan {A} {one} least most nums at h = go (between least most (drop at nums) at) (keeps-between least most .kept nums at)
+list-scan {A} {one} least most nums at h =
+    go (between least most (drop at nums) at) (keeps-between least most .kept nums at)
   where
     go : (x : Got ℕ) → Kept nums at x
-        → forget (andThen x (λ n. repeat n one)) ≡ onValue (valued x) (λ n next. forget (repeat n one (drop next nums) next))
+        → forget (andThen x (λ n. repeat n one))
+        ≡ onValue (valued x) (λ n next. forget (repeat n one (drop next nums) next))
     go (got n left next) l = rw (l .rest)
     go (bad fault index) l = refl
 
@@ -295,17 +336,20 @@ pub value-most : (least most : ℕ) (nums : List ℕ) (at : ℕ) → AtMost most
 unfolding AtMost
 value-most least most nums at = go (ltb at (length nums)) refl
   where
-    in-range : at < length nums → (b : Bool) → ltb (getD nums at 0) least ≡ b → (d : Bool) → ltb most (getD nums at 0) ≡ d
+    in-range : at < length nums → (b : Bool) → ltb (getD nums at 0) least ≡ b → (d : Bool)
+        → ltb most (getD nums at 0) ≡ d
         → AtMost most (valueOf least most nums at)
     in-range h true e d f = rw (← value-low least most nums at h (ltb-true (getD nums at 0) least e)) tt
     in-range h false e true f =
-        rw (← value-high least most nums at h (ltb-false (getD nums at 0) least e) (ltb-true most (getD nums at 0) f)) tt
+        rw (← value-high least most nums at h (ltb-false (getD nums at 0) least e) (ltb-true most (getD nums at 0) f))
+        tt
     in-range h false e false f =
         rw (← value-is least most nums at h (ltb-false (getD nums at 0) least e) (ltb-false most (getD nums at 0) f))
         (ltb-false most (getD nums at 0) f)
 
     go : (b : Bool) → ltb at (length nums) ≡ b → AtMost most (valueOf least most nums at)
-    go true e = in-range (ltb-true at (length nums) e) (ltb (getD nums at 0) least) refl (ltb most (getD nums at 0)) refl
+    go true e =
+        in-range (ltb-true at (length nums) e) (ltb (getD nums at 0) least) refl (ltb most (getD nums at 0)) refl
     go false e = rw (← value-missing least most nums at (ltb-false at (length nums) e)) tt
 
 -- what a value read tells of the number at its index
@@ -316,17 +360,20 @@ pub record IsValue (least most : ℕ) (nums : List ℕ) (at n next : ℕ) : Type
   pub low : least ≤ n
   pub high : n ≤ most
 
-pub value-inv : (least most : ℕ) (nums : List ℕ) (at n next : ℕ) → valueOf least most nums at ≡ Of n next → IsValue least most nums at n next
+pub value-inv : (least most : ℕ) (nums : List ℕ) (at n next : ℕ) → valueOf least most nums at ≡ Of n next
+    → IsValue least most nums at n next
 value-inv least most nums at n next p = go (ltb at (length nums)) refl
   where
     never : (f i : ℕ) → Unread f i ≡ valueOf least most nums at → IsValue least most nums at n next
     never f i q = let z : _≡_ {A = ℕ} 0 1 = cc in absurd (omega arith)
 
-    in-range : at < length nums → (b : Bool) → ltb (getD nums at 0) least ≡ b → (d : Bool) → ltb most (getD nums at 0) ≡ d
+    in-range : at < length nums → (b : Bool) → ltb (getD nums at 0) least ≡ b → (d : Bool)
+        → ltb most (getD nums at 0) ≡ d
         → IsValue least most nums at n next
     in-range h true e d f = never 4 at (value-low least most nums at h (ltb-true (getD nums at 0) least e))
     in-range h false e true f =
-        never 4 at (value-high least most nums at h (ltb-false (getD nums at 0) least e) (ltb-true most (getD nums at 0) f))
+        never 4 at (value-high least most nums at h (ltb-false (getD nums at 0) least e)
+        (ltb-true most (getD nums at 0) f))
     in-range h false e false f =
         let l : least ≤ getD nums at 0 = ltb-false (getD nums at 0) least e in
         let m : getD nums at 0 ≤ most = ltb-false most (getD nums at 0) f in
@@ -336,11 +383,13 @@ value-inv least most nums at n next p = go (ltb at (length nums)) refl
         record { inside = h; same = v; after = rw (← w) (sym (add-one at)); low = rw (← v) l; high = rw (← v) m }
 
     go : (b : Bool) → ltb at (length nums) ≡ b → IsValue least most nums at n next
-    go true e = in-range (ltb-true at (length nums) e) (ltb (getD nums at 0) least) refl (ltb most (getD nums at 0)) refl
+    go true e =
+        in-range (ltb-true at (length nums) e) (ltb (getD nums at 0) least) refl (ltb most (getD nums at 0)) refl
     go false e = never 4 at (value-missing least most nums at (ltb-false at (length nums) e))
 
 -- a fault of the first is the fault of the whole
-pub scan-fault : {A B : Type 0} (read : Reader A) (k : A → Reader B) (nums : List ℕ) (at f i : ℕ) → scanOf read nums at ≡ Fault f i
+pub scan-fault : {A B : Type 0} (read : Reader A) (k : A → Reader B) (nums : List ℕ) (at f i : ℕ)
+    → scanOf read nums at ≡ Fault f i
     → scanOf (read >>= k) nums at ≡ Fault f i
 unfolding scanOf forget _>>=_ andThen
 scan-fault {A} read k nums at f i e = go (read (drop at nums) at) e
@@ -355,7 +404,8 @@ on-assoc (Past n) k l = refl
 on-assoc (Fault fault index) k l = refl
 
 -- the same reader with its brackets moved
-pub scans-assoc : {A B C : Type 0} (read : Reader A) (k : A → Reader B) (l : B → Reader C) {nums : List ℕ} {t : ℕ → Scan}
+pub scans-assoc : {A B C : Type 0} (read : Reader A) (k : A → Reader B)
+    (l : B → Reader C) {nums : List ℕ} {t : ℕ → Scan}
     → Scans ((read >>= k) >>= l) nums t → Scans (read >>= λ a. k a >>= l) nums t
 unfolding scanOf _>>=_ andThen
 scans-assoc {A} {B} {C} read k l {nums} {t} f = record { scan = λ at. go (read (drop at nums) at) ∙ f .scan at }

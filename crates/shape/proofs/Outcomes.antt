@@ -7,15 +7,18 @@ use Rattle.shape.specs.Scans.{scanOf}
 use Rattle.shape.specs.Directory.{ScansProgram}
 use Rattle.shape.specs.declared.Scan.{Scan}
 
-pub one-scan-expr : (version depth : ℕ) (nums : List ℕ) (at : ℕ) (r s : Scan) → r ≡ scanOf (readExpr version depth) nums at
+pub one-scan-expr : (version depth : ℕ) (nums : List ℕ) (at : ℕ) (r s : Scan)
+    → r ≡ scanOf (readExpr version depth) nums at
     → s ≡ scanOf (readExpr version depth) nums at → r ≡ s
 one-scan-expr version depth nums at r s p q = p ∙ sym q
 
-pub one-scan-stmt : (version depth : ℕ) (nums : List ℕ) (at : ℕ) (r s : Scan) → r ≡ scanOf (readStmt version depth) nums at
+pub one-scan-stmt : (version depth : ℕ) (nums : List ℕ) (at : ℕ) (r s : Scan)
+    → r ≡ scanOf (readStmt version depth) nums at
     → s ≡ scanOf (readStmt version depth) nums at → r ≡ s
 one-scan-stmt version depth nums at r s p q = p ∙ sym q
 
 -- the answer and what the directory is left with
-pub one-scan-program : (nums found left other : List ℕ) (r s : Scan) → ScansProgram nums found left r → ScansProgram nums found other s
+pub one-scan-program : (nums found left other : List ℕ) (r s : Scan) → ScansProgram nums found left r
+    → ScansProgram nums found other s
     → (r ≡ s) × (left ≡ other)
 one-scan-program nums found left other r s p q = (p .answer ∙ sym (q .answer), p .directory ∙ sym (q .directory))

@@ -14,7 +14,8 @@ use Rattle.rules.specs.Reading.{Reader, _>>=_, pure, number, within, between, s
 use Rattle.rules.specs.Reading.{kindAction, kindFunction, directions, keyKinds, callableKinds, bitsOf, typeOf, orHeader, globalTypeOf}
 use Rattle.rules.specs.Reading.{readExpr, readStmt, readHeader, readGlobal, readParameter, readReturns, readCallable, readNumeral, readKey, readTable}
 use Rattle.rules.proofs.Readers.{Keeps, keeps-then, keeps-number, keeps-stands, keeps-between, keeps-list, keeps-expr, keeps-stmt, keeps-parameter, keeps-returns, keeps-numeral, keeps-key}
-use Rattle.shape.specs.Scans.{scanOf, onScan, valueOf, onValue}
+use Rattle.shape.specs.Scans.{scanOf}
+use Rattle.shape.specs.Leads.{onScan, valueOf, onValue}
 use Rattle.shape.specs.Parts.{repeatScan, listScan, itemScan, readReturning, readFrame, readChoices, readDefault, partScan}
 use Rattle.shape.specs.declared.Scan.{Scan}
 use Rattle.shape.specs.declared.Scan.the-variants.{Past, Fault}
@@ -34,10 +35,12 @@ unfolding repeatScan
 repeat-scan {one = one} {nums = nums} h f zero at = sym (repeat-none one nums 0 at refl)
 repeat-scan {s = s} h f (suc count) at = scans-repeat count h f .scan at ∙ on-same (s at) _ _ (repeat-scan h f count)
 
-pub scans-items : {A : Type 0} {one : Reader A} {nums : List ℕ} {s : ℕ → Scan} (least most : ℕ) → Keeps one → Scans one nums s
+pub scans-items : {A : Type 0} {one : Reader A} {nums : List ℕ} {s : ℕ → Scan} (least most : ℕ) → Keeps one
+    → Scans one nums s
     → Scans (listOf least most one) nums (listScan s least most nums)
 unfolding listScan onValue
-scans-items {A} {one} {nums} {s} least most h f = record { scan = λ at. list-scan least most nums at h ∙ go (valueOf least most nums at) }
+scans-items {A} {one} {nums} {s} least most h f =
+    record { scan = λ at. list-scan least most nums at h ∙ go (valueOf least most nums at) }
   where
     go : (v : Value) → onValue v (λ n next. scanOf (repeat n one) nums next) ≡ onValue v (repeatScan s)
     go (Of n next) = repeat-scan h f n next
@@ -63,9 +66,12 @@ spans-type version = record { span = go }
   where
     go : (n : ℕ) → isSome (typeOf version n) ≡ (leb 0 n && leb n 64)
     go zero = refl
-    go (suc n) = some-bits version (within 1 64 (suc n)) ∙ some-within 1 64 (suc n) ∙ rw (le-leb 1 (suc n) (omega arith), leb·zero (suc n))
+    go (suc n) =
+        some-bits version (within 1 64 (suc n)) ∙ some-within 1 64 (suc n)
+        ∙ rw (le-leb 1 (suc n) (omega arith), leb·zero (suc n))
 
-pub type-is : (version : ℕ) (nums : List ℕ) (at : ℕ) (r : Scan) → r ≡ scanOf (between 0 64) nums at → r ≡ scanOf (standsFor (typeOf version)) nums at
+pub type-is : (version : ℕ) (nums : List ℕ) (at : ℕ) (r : Scan) → r ≡ scanOf (between 0 64) nums at
+    → r ≡ scanOf (standsFor (typeOf version)) nums at
 type-is version nums at r e = e ∙ sym (spans-scan nums at (spans-type version))
 
 -- how each part scans
@@ -78,9 +84,12 @@ module _ (version : ℕ) (nums : List ℕ) where
   numeral-is at r e = e ∙ sym (scans-numeral .scan at)
 
   scans-parameter : Scans (readParameter version) nums
-      (λ at. onScan (scanOf (standsFor (getElem? (directions version))) nums at) (scanOf (standsFor (typeOf version)) nums))
+      (λ at. onScan (scanOf (standsFor (getElem? (directions version))) nums at)
+      (scanOf (standsFor (typeOf version)) nums))
   unfolding readParameter
-  scans-parameter = scans-then (keeps-stands _) (scans-self _ nums) λ d. scans-last (keeps-stands _) (scans-self _ nums) λ t. scans-pure _
+  scans-parameter =
+      scans-then (keeps-stands _) (scans-self _ nums) λ d. scans-last (keeps-stands _) (scans-self _ nums)
+      λ t. scans-pure _
 
   scans-key : Scans (readKey version) nums
       (λ at. onScan (scanOf (standsFor (getElem? (keyKinds version))) nums at) (scanOf (readExpr version deepest) nums))
@@ -90,16 +99,21 @@ module _ (version : ℕ) (nums : List ℕ) where
 
   scans-header : Scans (readHeader version) nums (listScan (itemScan version WidthItem nums) 1 16 nums)
   unfolding readHeader itemScan
-  scans-header = scans-here λ at. scans-last (keeps-list 1 16 (keeps-between 1 64)) (scans-items 1 16 (keeps-between 1 64) (scans-self _ nums)) λ ws. scans-pure _
+  scans-header =
+      scans-here λ at. scans-last (keeps-list 1 16 (keeps-between 1 64))
+      (scans-items 1 16 (keeps-between 1 64) (scans-self _ nums)) λ ws. scans-pure _
 
-  pub header-is : (at : ℕ) (r : Scan) → r ≡ listScan (itemScan version WidthItem nums) 1 16 nums at → r ≡ scanOf (readHeader version) nums at
+  pub header-is : (at : ℕ) (r : Scan) → r ≡ listScan (itemScan version WidthItem nums) 1 16 nums at
+      → r ≡ scanOf (readHeader version) nums at
   header-is at r e = e ∙ sym (scans-header .scan at)
 
-  scans-parameters : Scans (listOf 0 8 (readParameter version)) nums (listScan (itemScan version ParameterItem nums) 0 8 nums)
+  scans-parameters : Scans (listOf 0 8 (readParameter version)) nums
+      (listScan (itemScan version ParameterItem nums) 0 8 nums)
   unfolding itemScan
   scans-parameters = scans-items 0 8 (keeps-parameter version) (scans-self _ nums)
 
-  scans-locals : Scans (listOf 0 8 (standsFor (typeOf version))) nums (listScan (itemScan version TypeItem nums) 0 8 nums)
+  scans-locals : Scans (listOf 0 8 (standsFor (typeOf version))) nums
+      (listScan (itemScan version TypeItem nums) 0 8 nums)
   unfolding itemScan
   scans-locals = scans-items 0 8 (keeps-stands _) (scans-self _ nums)
 
@@ -107,7 +121,8 @@ module _ (version : ℕ) (nums : List ℕ) where
   unfolding itemScan
   scans-keys = scans-items 1 4 (keeps-key version) (scans-self _ nums)
 
-  scans-numerals : (least : ℕ) → Scans (listOf least 8 (readNumeral version)) nums (listScan (itemScan version NumeralItem nums) least 8 nums)
+  scans-numerals : (least : ℕ)
+      → Scans (listOf least 8 (readNumeral version)) nums (listScan (itemScan version NumeralItem nums) least 8 nums)
   unfolding itemScan
   scans-numerals least = scans-items least 8 (keeps-numeral version) (scans-self _ nums)
 
@@ -115,12 +130,14 @@ module _ (version : ℕ) (nums : List ℕ) where
   frame-keeps = keeps-list 0 8 (keeps-stands _)
 
   scans-frame : Scans (readFrame version) nums
-      (λ at. onScan (listScan (itemScan version ParameterItem nums) 0 8 nums at) (listScan (itemScan version TypeItem nums) 0 8 nums))
+      (λ at. onScan (listScan (itemScan version ParameterItem nums) 0 8 nums at)
+      (listScan (itemScan version TypeItem nums) 0 8 nums))
   unfolding readFrame
   scans-frame = scans-then (keeps-list 0 8 (keeps-parameter version)) scans-parameters λ ps. scans-locals
 
   scans-choices : Scans (readChoices version) nums
-      (λ at. onScan (listScan (itemScan version KeyItem nums) 1 4 nums at) (listScan (itemScan version NumeralItem nums) 1 8 nums))
+      (λ at. onScan (listScan (itemScan version KeyItem nums) 1 4 nums at)
+      (listScan (itemScan version NumeralItem nums) 1 8 nums))
   unfolding readChoices
   scans-choices = scans-then (keeps-list 1 4 (keeps-key version)) scans-keys λ ks. scans-numerals 1
 
@@ -129,26 +146,31 @@ module _ (version : ℕ) (nums : List ℕ) where
   unfolding readDefault
   scans-default = scans-then (keeps-numeral version) (scans-self _ nums) λ d. scans-numerals 0
 
-  scans-table : Scans (readTable version) nums (λ at. onScan (scanOf (readChoices version) nums at) (scanOf (readDefault version) nums))
+  scans-table : Scans (readTable version) nums
+      (λ at. onScan (scanOf (readChoices version) nums at) (scanOf (readDefault version) nums))
   unfolding readTable
   scans-table = record {
     scan = λ at. (scans-here λ i. scans-then (keeps-list 1 4 (keeps-key version)) scans-keys λ ks.
         scans-then (keeps-list 1 8 (keeps-numeral version)) (scans-numerals 1) λ ns.
         scans-as (scans-then (keeps-numeral version) (scans-self _ nums) λ d.
-        scans-here λ j. scans-last (keeps-list 0 8 (keeps-numeral version)) (scans-numerals 0) λ xs. scans-pure _) scans-default) .scan at
+        scans-here λ j. scans-last (keeps-list 0 8 (keeps-numeral version)) (scans-numerals 0)
+        λ xs. scans-pure _) scans-default) .scan at
         ∙ rw (scans-choices .scan at) (sym (on-assoc _ _ _));
   }
 
   behind-head : ℕ → Option Ty → Reader Callable
-  behind-head i returns = listOf 0 8 (readParameter version) >>= λ parameters. listOf 0 8 (standsFor (typeOf version)) >>= λ locals.
-      readStmt version deepest >>= λ body. pure (record { at = i; returns = returns; parameters = parameters; locals = locals; body = body })
+  behind-head i returns =
+      listOf 0 8 (readParameter version) >>= λ parameters. listOf 0 8 (standsFor (typeOf version)) >>= λ locals.
+      readStmt version deepest >>= λ body.
+      pure (record { at = i; returns = returns; parameters = parameters; locals = locals; body = body })
 
   scans-behind : (i : ℕ) (returns : Option Ty) → Scans (behind-head i returns) nums
       (λ n. onScan (scanOf (readFrame version) nums n) (scanOf (readStmt version deepest) nums))
   unfolding behind-head
   scans-behind i returns = record {
     scan = λ at. (scans-then (keeps-list 0 8 (keeps-parameter version)) scans-parameters λ ps.
-        scans-then frame-keeps scans-locals λ ls. scans-last (keeps-stmt version deepest) (scans-self _ nums) λ body. scans-pure _) .scan at
+        scans-then frame-keeps scans-locals λ ls. scans-last (keeps-stmt version deepest) (scans-self _ nums)
+        λ body. scans-pure _) .scan at
         ∙ rw (scans-frame .scan at) (sym (on-assoc _ _ _));
   }
 
@@ -157,9 +179,11 @@ module _ (version : ℕ) (nums : List ℕ) where
   keeps-returning = keeps-then (keeps-stands _) λ kind. keeps-returns version kind
 
   scans-callable : Scans (readCallable version) nums
-      (λ at. onScan (scanOf (readReturning version) nums at) (λ n. onScan (scanOf (readFrame version) nums n) (scanOf (readStmt version deepest) nums)))
+      (λ at. onScan (scanOf (readReturning version) nums at)
+      (λ n. onScan (scanOf (readFrame version) nums n) (scanOf (readStmt version deepest) nums)))
   unfolding readCallable readReturning behind-head
-  scans-callable = scans-here λ i. scans-assoc (standsFor (getElem? (callableKinds version))) (readReturns version) (behind-head i)
+  scans-callable =
+      scans-here λ i. scans-assoc (standsFor (getElem? (callableKinds version))) (readReturns version) (behind-head i)
       (scans-then keeps-returning (scans-self (readReturning version) nums) (scans-behind i))
 
 -- a callable's head
@@ -168,7 +192,8 @@ module _ (version : ℕ) (nums : List ℕ) (at n next : ℕ) (v : Value) (e : v 
   unfolding readReturning readReturns
   returning-action p z =
       let i : IsValue 0 1 nums at n next = value-inv 0 1 nums at n next (sym e ∙ p) in
-      rw (← i .after) (sym (stands-is (getElem? (callableKinds version)) (readReturns version) nums at kindAction (i .inside) (rw (i .same, z))
+      rw (← i .after) (sym (stands-is (getElem? (callableKinds version)) (readReturns version) nums at kindAction
+      (i .inside) (rw (i .same, z))
       ∙ scans-pure _ .scan (suc at)))
 
   pub returning-function : (r : Scan) → v ≡ Of n next → (n ≡ 0 → ⊥) → r ≡ scanOf (standsFor (typeOf version)) nums next
@@ -177,13 +202,16 @@ module _ (version : ℕ) (nums : List ℕ) (at n next : ℕ) (v : Value) (e : v 
   returning-function r p z q =
       let i : IsValue 0 1 nums at n next = value-inv 0 1 nums at n next (sym e ∙ p) in
       let o : n ≡ 1 = omega (arith, i .high) in
-      q ∙ rw (← i .after) (sym (stands-is (getElem? (callableKinds version)) (readReturns version) nums at kindFunction (i .inside) (rw (i .same, o))
+      q
+      ∙ rw (← i .after) (sym (stands-is (getElem? (callableKinds version))
+      (readReturns version) nums at kindFunction (i .inside) (rw (i .same, o))
       ∙ scans-last (keeps-stands _) (scans-self _ nums) (λ t. scans-pure _) .scan (suc at)))
 
 pub returning-fault : (version : ℕ) (nums : List ℕ) (at f i : ℕ) (v : Value) → v ≡ valueOf 0 1 nums at → v ≡ Unread f i
     → Fault f i ≡ scanOf (readReturning version) nums at
 unfolding readReturning
-returning-fault version nums at f i v e p = sym (scan-fault (standsFor (getElem? (callableKinds version))) (readReturns version) nums at f i
+returning-fault version nums at f i v e p =
+    sym (scan-fault (standsFor (getElem? (callableKinds version))) (readReturns version) nums at f i
     (spans-scan nums at (spans-list (callableKinds version) 1 refl) ∙ sym (between-fault 0 1 nums at f i v e p)))
 
 -- a global: the type of a value, or a header type's number
@@ -200,7 +228,8 @@ unfolding isSome orHeader
 some-global version n none e = let z : _≡_ {A = ℕ} 0 1 = cc in absurd (omega arith)
 some-global version n (some t) e = refl
 
-no-value : (version n : ℕ) (x : Option Ty) → isSome x ≡ false → isSome (orHeader version n x) ≡ isSome (orHeader version n none)
+no-value : (version n : ℕ) (x : Option Ty) → isSome x ≡ false
+    → isSome (orHeader version n x) ≡ isSome (orHeader version n none)
 unfolding isSome orHeader
 no-value version n none e = refl
 no-value version n (some t) e = let z : _≡_ {A = ℕ} 0 1 = cc in absurd (omega arith)
@@ -224,67 +253,94 @@ module _ (version : ℕ) (nums : List ℕ) (at : ℕ) where
       (λ h. no-value version (getD nums at 0) (typeOf version (getD nums at 0)) (f h)
       ∙ some-header version (getD nums at 0) ∙ sym (some-within 128 135 (getD nums at 0)))
 
-  pub global-past : (n : ℕ) (a : Scan) → a ≡ scanOf (between 0 64) nums at → a ≡ Past n → Past n ≡ scanOf (readGlobal version) nums at
-  global-past n a e p = sym p ∙ e ∙ sym (spans-scan nums at (spans-type version)) ∙ sym (global-value (λ h. stands-some (typeOf version) nums at h n (spans-scan nums at (spans-type version) ∙ sym e ∙ p))) ∙ sym (scans-global .scan at)
+  pub global-past : (n : ℕ) (a : Scan) → a ≡ scanOf (between 0 64) nums at → a ≡ Past n
+      → Past n ≡ scanOf (readGlobal version) nums at
+  global-past n a e p =
+      sym p ∙ e ∙ sym (spans-scan nums at (spans-type version))
+      ∙ sym (global-value (λ h. stands-some (typeOf version) nums at h n
+      (spans-scan nums at (spans-type version) ∙ sym e ∙ p)))
+      ∙ sym (scans-global .scan at)
 
-  pub global-else : (f i : ℕ) (a r : Scan) → a ≡ scanOf (between 0 64) nums at → a ≡ Fault f i → r ≡ scanOf (between 128 135) nums at
+  pub global-else : (f i : ℕ) (a r : Scan) → a ≡ scanOf (between 0 64) nums at → a ≡ Fault f i
+      → r ≡ scanOf (between 128 135) nums at
       → r ≡ scanOf (readGlobal version) nums at
-  global-else f i a r e p q = q ∙ sym (global-header (λ h. stands-lacks (typeOf version) nums at h f i (spans-scan nums at (spans-type version) ∙ sym e ∙ p))) ∙ sym (scans-global .scan at)
+  global-else f i a r e p q =
+      q
+      ∙ sym (global-header (λ h. stands-lacks (typeOf version) nums at h f i
+      (spans-scan nums at (spans-type version) ∙ sym e ∙ p)))
+      ∙ sym (scans-global .scan at)
 
 -- the steps of the parts' functions: a first thing past and then a second, or the first's fault
 module _ (version : ℕ) (nums : List ℕ) (at n f i : ℕ) (a r : Scan) where
-  pub parameter-past : a ≡ scanOf (standsFor (getElem? (directions version))) nums at → a ≡ Past n → r ≡ scanOf (standsFor (typeOf version)) nums n
+  pub parameter-past : a ≡ scanOf (standsFor (getElem? (directions version))) nums at → a ≡ Past n
+      → r ≡ scanOf (standsFor (typeOf version)) nums n
       → r ≡ scanOf (readParameter version) nums at
   parameter-past q p h = seq-past _ _ _ (scans-parameter version nums .scan at) a q n r p h
 
-  pub parameter-fault : a ≡ scanOf (standsFor (getElem? (directions version))) nums at → a ≡ Fault f i → Fault f i ≡ scanOf (readParameter version) nums at
+  pub parameter-fault : a ≡ scanOf (standsFor (getElem? (directions version))) nums at → a ≡ Fault f i
+      → Fault f i ≡ scanOf (readParameter version) nums at
   parameter-fault q p = seq-fault _ _ _ (scans-parameter version nums .scan at) a q f i p
 
-  pub key-past : a ≡ scanOf (standsFor (getElem? (keyKinds version))) nums at → a ≡ Past n → r ≡ scanOf (readExpr version deepest) nums n
+  pub key-past : a ≡ scanOf (standsFor (getElem? (keyKinds version))) nums at → a ≡ Past n
+      → r ≡ scanOf (readExpr version deepest) nums n
       → r ≡ scanOf (readKey version) nums at
   key-past q p h = seq-past _ _ _ (scans-key version nums .scan at) a q n r p h
 
-  pub key-fault : a ≡ scanOf (standsFor (getElem? (keyKinds version))) nums at → a ≡ Fault f i → Fault f i ≡ scanOf (readKey version) nums at
+  pub key-fault : a ≡ scanOf (standsFor (getElem? (keyKinds version))) nums at → a ≡ Fault f i
+      → Fault f i ≡ scanOf (readKey version) nums at
   key-fault q p = seq-fault _ _ _ (scans-key version nums .scan at) a q f i p
 
-  pub frame-past : a ≡ listScan (itemScan version ParameterItem nums) 0 8 nums at → a ≡ Past n → r ≡ listScan (itemScan version TypeItem nums) 0 8 nums n
+  pub frame-past : a ≡ listScan (itemScan version ParameterItem nums) 0 8 nums at → a ≡ Past n
+      → r ≡ listScan (itemScan version TypeItem nums) 0 8 nums n
       → r ≡ scanOf (readFrame version) nums at
   frame-past q p h = seq-past _ _ _ (scans-frame version nums .scan at) a q n r p h
 
-  pub frame-fault : a ≡ listScan (itemScan version ParameterItem nums) 0 8 nums at → a ≡ Fault f i → Fault f i ≡ scanOf (readFrame version) nums at
+  pub frame-fault : a ≡ listScan (itemScan version ParameterItem nums) 0 8 nums at → a ≡ Fault f i
+      → Fault f i ≡ scanOf (readFrame version) nums at
   frame-fault q p = seq-fault _ _ _ (scans-frame version nums .scan at) a q f i p
 
-  pub choices-past : a ≡ listScan (itemScan version KeyItem nums) 1 4 nums at → a ≡ Past n → r ≡ listScan (itemScan version NumeralItem nums) 1 8 nums n
+  pub choices-past : a ≡ listScan (itemScan version KeyItem nums) 1 4 nums at → a ≡ Past n
+      → r ≡ listScan (itemScan version NumeralItem nums) 1 8 nums n
       → r ≡ scanOf (readChoices version) nums at
   choices-past q p h = seq-past _ _ _ (scans-choices version nums .scan at) a q n r p h
 
-  pub choices-fault : a ≡ listScan (itemScan version KeyItem nums) 1 4 nums at → a ≡ Fault f i → Fault f i ≡ scanOf (readChoices version) nums at
+  pub choices-fault : a ≡ listScan (itemScan version KeyItem nums) 1 4 nums at → a ≡ Fault f i
+      → Fault f i ≡ scanOf (readChoices version) nums at
   choices-fault q p = seq-fault _ _ _ (scans-choices version nums .scan at) a q f i p
 
-  pub default-past : a ≡ scanOf (readNumeral version) nums at → a ≡ Past n → r ≡ listScan (itemScan version NumeralItem nums) 0 8 nums n
+  pub default-past : a ≡ scanOf (readNumeral version) nums at → a ≡ Past n
+      → r ≡ listScan (itemScan version NumeralItem nums) 0 8 nums n
       → r ≡ scanOf (readDefault version) nums at
   default-past q p h = seq-past _ _ _ (scans-default version nums .scan at) a q n r p h
 
-  pub default-fault : a ≡ scanOf (readNumeral version) nums at → a ≡ Fault f i → Fault f i ≡ scanOf (readDefault version) nums at
+  pub default-fault : a ≡ scanOf (readNumeral version) nums at → a ≡ Fault f i
+      → Fault f i ≡ scanOf (readDefault version) nums at
   default-fault q p = seq-fault _ _ _ (scans-default version nums .scan at) a q f i p
 
-  pub table-past : a ≡ scanOf (readChoices version) nums at → a ≡ Past n → r ≡ scanOf (readDefault version) nums n → r ≡ scanOf (readTable version) nums at
+  pub table-past : a ≡ scanOf (readChoices version) nums at → a ≡ Past n → r ≡ scanOf (readDefault version) nums n
+      → r ≡ scanOf (readTable version) nums at
   table-past q p h = seq-past _ _ _ (scans-table version nums .scan at) a q n r p h
 
-  pub table-fault : a ≡ scanOf (readChoices version) nums at → a ≡ Fault f i → Fault f i ≡ scanOf (readTable version) nums at
+  pub table-fault : a ≡ scanOf (readChoices version) nums at → a ≡ Fault f i
+      → Fault f i ≡ scanOf (readTable version) nums at
   table-fault q p = seq-fault _ _ _ (scans-table version nums .scan at) a q f i p
 
-  pub callable-past : (b : Scan) (body : ℕ) → a ≡ scanOf (readReturning version) nums at → a ≡ Past n → b ≡ scanOf (readFrame version) nums n → b ≡ Past body
+  pub callable-past : (b : Scan) (body : ℕ) → a ≡ scanOf (readReturning version) nums at → a ≡ Past n
+      → b ≡ scanOf (readFrame version) nums n → b ≡ Past body
       → r ≡ scanOf (readStmt version deepest) nums body → r ≡ scanOf (readCallable version) nums at
   callable-past b body q p e m h =
-      seq-past _ _ _ (scans-callable version nums .scan at) a q n r p (on-past (scanOf (readFrame version) nums n) r body _ (sym e ∙ m) h)
+      seq-past _ _ _ (scans-callable version nums .scan at) a q n r p
+      (on-past (scanOf (readFrame version) nums n) r body _ (sym e ∙ m) h)
 
-  pub callable-frame : (b : Scan) → a ≡ scanOf (readReturning version) nums at → a ≡ Past n → b ≡ scanOf (readFrame version) nums n → b ≡ Fault f i
+  pub callable-frame : (b : Scan) → a ≡ scanOf (readReturning version) nums at → a ≡ Past n
+      → b ≡ scanOf (readFrame version) nums n → b ≡ Fault f i
       → Fault f i ≡ scanOf (readCallable version) nums at
   callable-frame b q p e m =
-      seq-past _ _ _ (scans-callable version nums .scan at) a q n (Fault f i) p (on-fault (scanOf (readFrame version) nums n) f i _ (sym e ∙ m))
+      seq-past _ _ _ (scans-callable version nums .scan at) a q n (Fault f i) p
+      (on-fault (scanOf (readFrame version) nums n) f i _ (sym e ∙ m))
 
-  pub callable-fault : a ≡ scanOf (readReturning version) nums at → a ≡ Fault f i → Fault f i ≡ scanOf (readCallable version) nums at
+  pub callable-fault : a ≡ scanOf (readReturning version) nums at → a ≡ Fault f i
+      → Fault f i ≡ scanOf (readCallable version) nums at
   callable-fault q p = seq-fault _ _ _ (scans-callable version nums .scan at) a q f i p
 
 pub ruleset parts = (
@@ -322,11 +378,13 @@ module _ (version : ℕ) (nums : List ℕ) (at : ℕ) (r : Scan) where
     unfolding itemScan
     width-item e q = rw e q
 
-    pub type-item : item ≡ TypeItem → r ≡ scanOf (standsFor (typeOf version)) nums at → r ≡ itemScan version item nums at
+    pub type-item : item ≡ TypeItem → r ≡ scanOf (standsFor (typeOf version)) nums at
+        → r ≡ itemScan version item nums at
     unfolding itemScan
     type-item e q = rw e q
 
-    pub parameter-item : item ≡ ParameterItem → r ≡ scanOf (readParameter version) nums at → r ≡ itemScan version item nums at
+    pub parameter-item : item ≡ ParameterItem → r ≡ scanOf (readParameter version) nums at
+        → r ≡ itemScan version item nums at
     unfolding itemScan
     parameter-item e q = rw e q
 
@@ -347,7 +405,8 @@ module _ (version : ℕ) (nums : List ℕ) (at : ℕ) (r : Scan) where
     unfolding partScan
     global-part e q = rw e q
 
-    pub callable-part : part ≡ CallablePart → r ≡ scanOf (readCallable version) nums at → r ≡ partScan version part nums at
+    pub callable-part : part ≡ CallablePart → r ≡ scanOf (readCallable version) nums at
+        → r ≡ partScan version part nums at
     unfolding partScan
     callable-part e q = rw e q
 
@@ -355,7 +414,17 @@ module _ (version : ℕ) (nums : List ℕ) (at : ℕ) (r : Scan) where
     unfolding partScan
     table-part e q = rw e q
 
-pub ruleset kinds = (width-item, type-item, parameter-item, key-item, numeral-item, header-part, global-part, callable-part, table-part)
+pub ruleset kinds = (
+  width-item,
+  type-item,
+  parameter-item,
+  key-item,
+  numeral-item,
+  header-part,
+  global-part,
+  callable-part,
+  table-part,
+)
 
 module _ (one : ℕ → Scan) (count at : ℕ) where
   pub items-none : count ≡ 0 → Past at ≡ repeatScan one count at
@@ -370,14 +439,18 @@ module _ (one : ℕ → Scan) (count at : ℕ) where
       go zero x = absurd (x refl)
       go (suc k) x = rw (sub-one (suc k))
 
-  pub items-past : (n : ℕ) (a r : Scan) → (count ≡ 0 → ⊥) → a ≡ one at → a ≡ Past n → r ≡ repeatScan one (count - 1) n → r ≡ repeatScan one count at
+  pub items-past : (n : ℕ) (a r : Scan) → (count ≡ 0 → ⊥) → a ≡ one at → a ≡ Past n → r ≡ repeatScan one (count - 1) n
+      → r ≡ repeatScan one count at
   items-past n a r x q p h = seq-past _ _ _ (items-more x) a q n r p h
 
-  pub items-fault : (f i : ℕ) (a : Scan) → (count ≡ 0 → ⊥) → a ≡ one at → a ≡ Fault f i → Fault f i ≡ repeatScan one count at
+  pub items-fault : (f i : ℕ) (a : Scan) → (count ≡ 0 → ⊥) → a ≡ one at → a ≡ Fault f i
+      → Fault f i ≡ repeatScan one count at
   items-fault f i a x q p = seq-fault _ _ _ (items-more x) a q f i p
 
-module _ (one : ℕ → Scan) (least most : ℕ) (nums : List ℕ) (at : ℕ) (v : Value) (q : v ≡ valueOf least most nums at) where
-  pub list-of : (n next : ℕ) (r : Scan) → v ≡ Of n next → r ≡ repeatScan one n next → r ≡ listScan one least most nums at
+module _ (one : ℕ → Scan) (least most : ℕ) (nums : List ℕ) (at : ℕ) (v : Value)
+    (q : v ≡ valueOf least most nums at) where
+  pub list-of : (n next : ℕ) (r : Scan) → v ≡ Of n next → r ≡ repeatScan one n next
+      → r ≡ listScan one least most nums at
   unfolding listScan onValue
   list-of n next r p h = rw (← q, p) h
 

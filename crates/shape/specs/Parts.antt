@@ -6,7 +6,8 @@ use lib.ListN.{getElem?}
 use Rattle.rules.specs.Syntax.{Ty, Numeral}
 use Rattle.rules.specs.Reading.{Reader, _>>=_, between, standsFor, listOf, callableKinds, typeOf}
 use Rattle.rules.specs.Reading.{readHeader, readGlobal, readParameter, readReturns, readCallable, readNumeral, readKey, readTable}
-use Rattle.shape.specs.Scans.{scanOf, onScan, valueOf, onValue}
+use Rattle.shape.specs.Scans.{scanOf}
+use Rattle.shape.specs.Leads.{onScan, valueOf, onValue}
 use Rattle.shape.specs.declared.Scan.{Scan}
 use Rattle.shape.specs.declared.Scan.the-variants.{Past}
 use Rattle.shape.specs.declared.Item.{Item}

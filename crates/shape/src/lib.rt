@@ -1,13 +1,16 @@
-// The shape of a program: refusals 5 and 4 over the list of numbers. A reader descends into operands itself and builds no tree.
+// The shape of a program: refusals 5 and 4 over the list of numbers. The reader descends into operands itself and
+// builds no tree. Each number is looked at a fixed number of times, so the time is linear in their count.
 ghost use mathlib.Core.Path.{_≡_};
 ghost use Prim.Native.Nat.{ℕ, _+_, _<_, _≤_};
 ghost use lib.ListN.{length, getElem?};
 ghost use Rattle.rules.specs.Reading.{number, between, standsFor, repeat, tooDeep, deepest, operators, readExpr, readTarget, readStmt};
 ghost use Rattle.rules.specs.Reading.{directions, keyKinds, typeOf, readParameter, readKey, readNumeral, readHeader, readGlobal, readCallable, readTable, readAfterVersion, readProgram};
-ghost use Rattle.shape.specs.Directory.{Walked, WalkedList, Lays, readDeclared, layDeclared, readDefined, layDefined, layBody, directoryOf, ScansProgram};
+ghost use Rattle.shape.specs.Walks.{Walked, WalkedList, Lays, readDeclared, layDeclared, readDefined, layDefined, layBody};
+ghost use Rattle.shape.specs.Directory.{directoryOf, ScansProgram};
 ghost use Rattle.shape.specs.Parts.{itemScan, repeatScan, listScan, readReturning, readFrame, readChoices, readDefault, partScan};
-ghost use Rattle.shape.specs.Scans.{scanOf, readLiteral, valueOf, leadBy, argumentsLead, callLead, blockLead, exprForm, exprLead, LeadsExpr};
-ghost use Rattle.shape.specs.Scans.{placeForm, placeScan, stmtForm, stmtLead, LeadsStmt};
+ghost use Rattle.shape.specs.Scans.{scanOf};
+ghost use Rattle.shape.specs.Leads.{readLiteral, valueOf, leadBy, argumentsLead, callLead, blockLead, exprForm, exprLead, LeadsExpr};
+ghost use Rattle.shape.specs.Leads.{placeForm, placeScan, stmtForm, stmtLead, LeadsStmt};
 
 // The latest version, which is also the first.
 const LATEST: u64 = 1;
@@ -67,7 +70,8 @@ pub const END: usize = 69;
 // How many slots the directory has.
 pub const SLOTS: usize = 70;
 
-// What reading at an index finds: the index after what was read; or the fault, 5 or 4, and the index of the number at fault.
+// What scanning at an index finds: the index after what was read; or the fault, 5 or 4, and the index of the number at
+// fault, which is the count of numbers where they run out.
 pub enum Scan {
     Past(usize),
     Fault { number: u64, index: usize },
@@ -79,7 +83,7 @@ enum Value {
     Unread { number: u64, index: usize },
 }
 
-// An expression or a statement up to its operands: where they begin, how many there are, and how many statements follow them.
+// An expression or a statement up to its operands: where they begin, how many they are, how many statements follow.
 enum Lead {
     On {
         next: usize,
@@ -362,7 +366,7 @@ fn too_deep(nums: &[u64], at: usize) -> Scan
     }
 }
 
-// The end of the expression at `at`, with `depth` levels allowed, or its first fault. Whoever walks a program that reads skips with it.
+// The end of the expression at `at` with `depth` levels allowed, or its first fault. Later passes skip with it.
 pub fn scan_expr(nums: &[u64], version: u64, depth: usize, at: usize) -> Scan
     ensures { λ r. ⌜ r ≡ scanOf (readExpr version depth) (now (nums .entry)) at ⌝ }
 {
@@ -512,7 +516,7 @@ fn stmt_lead(nums: &[u64], version: u64, depth: usize, at: usize) -> Lead
     }
 }
 
-// The end of the statement at `at`, with `depth` levels allowed, or its first fault. Whoever walks a program that reads skips with it.
+// The end of the statement at `at` with `depth` levels allowed, or its first fault. Later passes skip with it.
 pub fn scan_stmt(nums: &[u64], version: u64, depth: usize, at: usize) -> Scan
     ensures { λ r. ⌜ r ≡ scanOf (readStmt version depth) (now (nums .entry)) at ⌝ }
 {
@@ -899,8 +903,8 @@ fn program_at(nums: &[u64], directory: &mut [u64; SLOTS]) -> Scan
     }
 }
 
-// The end of the program at the head of `nums`, or its first fault, 5 or 4. Where its parts begin goes into the directory; a fault
-// leaves that as found.
+// The end of the program at the head of `nums`, or its first fault. Where its parts begin goes into the directory; a
+// fault leaves that as found.
 pub fn scan_program(nums: &[u64], directory: &mut [u64; SLOTS]) -> Scan
     ensures { λ r. ⌜ ScansProgram (now (nums .entry)) (now (directory .entry)) (now (directory .exit)) r ⌝ }
 {

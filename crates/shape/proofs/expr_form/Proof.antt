@@ -1,5 +1,5 @@
 -- What carries it: the list of tags, number by number.
-use Rattle.shape.specs.Scans.{exprForm, formOf}
+use Rattle.shape.specs.Leads.{exprForm, formOf}
 use Rattle.shape.proofs.Exprs.{forms}
 use borrow.Author.Needs.{needs}
 use Rattle.shape.proofs.expr_form.Statement.{statement}

@@ -1,6 +1,6 @@
 -- What carries it: the list of tags, number by number.
 use Rattle.rules.specs.Reading.{placeTagOf}
-use Rattle.shape.specs.Scans.{placeForm, placeFormOf}
+use Rattle.shape.specs.Leads.{placeForm, placeFormOf}
 use Rattle.shape.proofs.Stmts.{placeForms}
 use borrow.Author.Needs.{needs}
 use Rattle.shape.proofs.place_form.Statement.{statement}

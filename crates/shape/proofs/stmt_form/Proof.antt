@@ -1,5 +1,5 @@
 -- What carries it: the list of tags, number by number.
-use Rattle.shape.specs.Scans.{stmtForm, stmtFormOf}
+use Rattle.shape.specs.Leads.{stmtForm, stmtFormOf}
 use Rattle.shape.proofs.Stmts.{stmtForms}
 use borrow.Author.Needs.{needs}
 use Rattle.shape.proofs.stmt_form.Statement.{statement}

@@ -1,0 +1,163 @@
+-- How an expression or a statement is scanned: its lead, which is its tag and the numbers behind it, then its operands,
+-- then its statements. What the functions below the public ones promise one another.
+use mathlib.Core.Option.{Option, none, some}
+use mathlib.Core.List.{List}
+use Prim.Native.Nat.{ℕ, suc, _+_, _<_, _^_}
+use mathlib.Core.Path.{_≡_}
+use lib.ListN.{drop, getElem?}
+use Rattle.rules.specs.Reading.{Got, got, bad, Reader, _>>=_, number, between, standsFor, repeat}
+use Rattle.rules.specs.Reading.{PlaceTag, tagLocal, tagParameter, tagGlobal, tagField, ExprTag, tagBool, tagBits, tagPlace, tagValid, tagNot, tagComplement, tagBinary, tagCast, tagSlice, tagConcatenation, tagCall}
+use Rattle.rules.specs.Reading.{StmtTag, tagEmpty, tagAssign, tagIf, tagBlock, tagCallStmt, tagApply, tagReturnValue, tagReturn, tagExit, tagSetValid, tagSetInvalid}
+use Rattle.rules.specs.Reading.{operators, exprTags, placeTagOf, stmtTags, readExpr, readTarget, readStmt}
+use Rattle.shape.specs.declared.Scan.{Scan}
+use Rattle.shape.specs.declared.Scan.the-variants.{Past, Fault}
+use Rattle.shape.specs.declared.Value.{Value}
+use Rattle.shape.specs.declared.Value.the-variants.{Of, Unread}
+use Rattle.shape.specs.declared.Lead.{Lead}
+use Rattle.shape.specs.declared.Lead.the-variants.{On, Off}
+use Rattle.shape.specs.declared.PlaceForm.{PlaceForm}
+use Rattle.shape.specs.declared.PlaceForm.the-variants.{OneNumber, TwoNumbers, NoPlace}
+use Rattle.shape.specs.declared.StmtForm.{StmtForm}
+use Rattle.shape.specs.declared.StmtForm.the-variants.{Bare, Assign, If, Block, CallStmt, Named, Returned, NoStmt}
+use Rattle.shape.specs.declared.ExprForm.{ExprForm}
+use Rattle.shape.specs.declared.ExprForm.the-variants.{Number, Field, Literal, Operand, Binary, Cast, Slice, Operands, Call, Unlisted}
+use Rattle.shape.specs.Scans.{scanOf}
+
+-- one thing behind another
+unfoldable pub onScan : Scan → (ℕ → Scan) → Scan
+onScan (Past next) k = k next
+onScan (Fault number index) k = Fault number index
+
+-- a literal's width and value
+unfoldable pub readLiteral : Reader ℕ
+readLiteral = between 1 64 >>= λ width. number
+
+-- a number from a least to a most, with its value
+unfoldable pub valued : Got ℕ → Value
+valued (got n left next) = Of n next
+valued (bad number index) = Unread number index
+
+unfoldable pub valueOf : ℕ → ℕ → List ℕ → ℕ → Value
+valueOf least most nums at = valued (between least most (drop at nums) at)
+
+unfoldable pub onValue : Value → (ℕ → ℕ → Scan) → Scan
+onValue (Of n next) k = k n next
+onValue (Unread number index) k = Fault number index
+
+-- a lead read so far, with the counts of what follows it
+unfoldable pub leadBy : Scan → ℕ → ℕ → Lead
+leadBy (Past next) operands statements = On next operands statements
+leadBy (Fault number index) operands statements = Off number index
+
+unfoldable pub onLead : Lead → (ℕ → ℕ → ℕ → Scan) → Scan
+onLead (On next operands statements) k = k next operands statements
+onLead (Off number index) k = Fault number index
+
+-- a call up to its arguments: the callable's number, then the count
+unfoldable pub argumentsLead : Value → Lead
+argumentsLead (Of count next) = On next count 0
+argumentsLead (Unread number index) = Off number index
+
+unfoldable pub callLead : List ℕ → Scan → Lead
+callLead nums (Past next) = argumentsLead (valueOf 0 8 nums next)
+callLead nums (Fault number index) = Off number index
+
+-- what stands behind an expression's tag
+unfoldable pub formOf : Option ExprTag → ExprForm
+formOf none = Unlisted
+formOf (some tagBool) = Number
+formOf (some tagBits) = Literal
+formOf (some (tagPlace tagLocal)) = Number
+formOf (some (tagPlace tagParameter)) = Number
+formOf (some (tagPlace tagGlobal)) = Number
+formOf (some (tagPlace tagField)) = Field
+formOf (some tagValid) = Number
+formOf (some tagNot) = Operand
+formOf (some tagComplement) = Operand
+formOf (some tagBinary) = Binary
+formOf (some tagCast) = Cast
+formOf (some tagSlice) = Slice
+formOf (some tagConcatenation) = Operands
+formOf (some tagCall) = Call
+
+unfoldable pub exprForm : ℕ → ℕ → ExprForm
+exprForm version n = formOf (getElem? (exprTags version) n)
+
+unfoldable pub exprLead : ℕ → ExprForm → List ℕ → ℕ → Lead
+exprLead version Number nums at = leadBy (scanOf number nums (at + 1)) 0 0
+exprLead version Field nums at = leadBy (scanOf (repeat 2 number) nums (at + 1)) 0 0
+exprLead version Literal nums at = leadBy (scanOf readLiteral nums (at + 1)) 0 0
+exprLead version Operand nums at = leadBy (Past (at + 1)) 1 0
+exprLead version Binary nums at = leadBy (scanOf (standsFor (getElem? (operators version))) nums (at + 1)) 2 0
+exprLead version Cast nums at = leadBy (scanOf (between 1 64) nums (at + 1)) 1 0
+exprLead version Slice nums at = leadBy (scanOf (repeat 2 (between 0 63)) nums (at + 1)) 1 0
+exprLead version Operands nums at = leadBy (Past (at + 1)) 2 0
+exprLead version Call nums at = callLead nums (scanOf number nums (at + 1))
+exprLead version Unlisted nums at = Off 4 at
+
+-- so many numbers as a machine can count
+unfoldable pub Counts : Lead → Type 0
+Counts (On next operands statements) = (operands < 2 ^ 64) × (statements < 2 ^ 64)
+Counts (Off number index) = Unit
+
+-- the lead of an expression at an index: with its operands it is the expression, at whatever depth
+pub record LeadsExpr (version : ℕ) (nums : List ℕ) (at : ℕ) (lead : Lead) : Type 0 where
+  pub expr : (depth : ℕ) → scanOf (readExpr version (suc depth)) nums at
+      ≡ onLead lead (λ next operands statements. scanOf (repeat operands (readExpr version depth)) nums next)
+  pub counts : Counts lead
+
+-- what stands behind the tag of an assignment's target
+unfoldable pub placeFormOf : Option PlaceTag → PlaceForm
+placeFormOf none = NoPlace
+placeFormOf (some tagLocal) = OneNumber
+placeFormOf (some tagParameter) = OneNumber
+placeFormOf (some tagGlobal) = OneNumber
+placeFormOf (some tagField) = TwoNumbers
+
+unfoldable pub placeForm : ℕ → ℕ → PlaceForm
+placeForm version n = placeFormOf (placeTagOf version (getElem? (exprTags version) n))
+
+unfoldable pub placeScan : PlaceForm → List ℕ → ℕ → Scan
+placeScan OneNumber nums at = scanOf number nums (at + 1)
+placeScan TwoNumbers nums at = scanOf (repeat 2 number) nums (at + 1)
+placeScan NoPlace nums at = Fault 4 at
+
+-- what stands behind a statement's tag
+unfoldable pub stmtFormOf : Option StmtTag → StmtForm
+stmtFormOf none = NoStmt
+stmtFormOf (some tagEmpty) = Bare
+stmtFormOf (some tagAssign) = Assign
+stmtFormOf (some tagIf) = If
+stmtFormOf (some tagBlock) = Block
+stmtFormOf (some tagCallStmt) = CallStmt
+stmtFormOf (some tagApply) = Named
+stmtFormOf (some tagReturnValue) = Returned
+stmtFormOf (some tagReturn) = Bare
+stmtFormOf (some tagExit) = Bare
+stmtFormOf (some tagSetValid) = Named
+stmtFormOf (some tagSetInvalid) = Named
+
+unfoldable pub stmtForm : ℕ → ℕ → StmtForm
+stmtForm version n = stmtFormOf (getElem? (stmtTags version) n)
+
+-- a block up to its members
+unfoldable pub blockLead : Value → Lead
+blockLead (Of count next) = On next 0 count
+blockLead (Unread number index) = Off number index
+
+unfoldable pub stmtLead : ℕ → ℕ → StmtForm → List ℕ → ℕ → Lead
+stmtLead version depth Bare nums at = leadBy (Past (at + 1)) 0 0
+stmtLead version depth Assign nums at = leadBy (scanOf (readTarget version depth) nums (at + 1)) 1 0
+stmtLead version depth If nums at = leadBy (Past (at + 1)) 1 2
+stmtLead version depth Block nums at = blockLead (valueOf 0 64 nums (at + 1))
+stmtLead version depth CallStmt nums at = callLead nums (scanOf number nums (at + 1))
+stmtLead version depth Named nums at = leadBy (scanOf number nums (at + 1)) 0 0
+stmtLead version depth Returned nums at = leadBy (Past (at + 1)) 1 0
+stmtLead version depth NoStmt nums at = Off 4 at
+
+-- the lead of a statement at an index, with so many levels allowed below it: with what follows it is the statement
+pub record LeadsStmt (version depth : ℕ) (nums : List ℕ) (at : ℕ) (lead : Lead) : Type 0 where
+  pub stmt : scanOf (readStmt version (suc depth)) nums at ≡ onLead lead (λ next operands statements.
+      onScan (scanOf (repeat operands (readExpr version depth)) nums next)
+      (scanOf (repeat statements (readStmt version depth)) nums))
+  pub counts : Counts lead

@@ -1,0 +1,73 @@
+-- How the directory is filled: the parts of a program are scanned one after the other, and where each begins is laid
+-- into the slots. What the functions below the public ones promise one another.
+use mathlib.Core.Path.{_≡_}
+use mathlib.Core.List.{List, [], _∷_}
+use Prim.Native.Nat.{ℕ, zero, suc}
+use lib.ListN.{drop}
+use lib.Seq.{sets}
+use Rattle.rules.specs.Syntax.{HeaderTy, Global, Callable, Table}
+use Rattle.rules.specs.Syntax.{Stmt}
+use Rattle.rules.specs.Reading.{Got, got, bad, Reader, _>>=_, pure, listOf}
+use Rattle.rules.specs.Reading.{readHeader, readGlobal, readCallable, readTable}
+use Rattle.shape.specs.Scans.{scanOf}
+use Rattle.shape.specs.Leads.{valueOf}
+use Rattle.shape.specs.Parts.{repeatScan, listScan}
+use Rattle.shape.specs.declared.Scan.{Scan}
+use Rattle.shape.specs.declared.Scan.the-variants.{Past, Fault}
+use Rattle.shape.specs.declared.Value.{Value}
+use Rattle.shape.specs.declared.Value.the-variants.{Of, Unread}
+use Rattle.shape.specs.Directory.{stmtAt, declared, defined}
+
+-- where so many members begin, one after the other, up to the first that does not read
+unfoldable pub startsAfter : Scan → (ℕ → List ℕ) → List ℕ
+startsAfter (Past next) k = k next
+startsAfter (Fault number index) k = []
+
+unfoldable pub starts : (ℕ → Scan) → ℕ → ℕ → List ℕ
+starts one zero at = []
+starts one (suc count) at = at ∷ startsAfter (one at) (starts one count)
+
+-- so many members are scanned, and their beginnings laid into the slots from one on
+pub record Walked (one : ℕ → Scan) (count at slot : ℕ) (found filled : List ℕ) (r : Scan) : Type 0 where
+  pub scan : r ≡ repeatScan one count at
+  pub laid : filled ≡ sets found slot (starts one count at)
+
+-- a list of at most so many is scanned, and its count and beginnings laid
+unfoldable pub laidList : (ℕ → Scan) → ℕ → List ℕ → Value → List ℕ
+laidList one slot found (Of count next) = sets found slot (count ∷ starts one count next)
+laidList one slot found (Unread number index) = found
+
+pub record WalkedList (one : ℕ → Scan) (most : ℕ) (nums : List ℕ) (at slot : ℕ) (found filled : List ℕ)
+    (r : Scan) : Type 0 where
+  pub scan : r ≡ listScan one 0 most nums at
+  pub laid : filled ≡ laidList one slot found (valueOf 0 most nums at)
+
+-- a reader's scan, with the slots that its tree fills where it reads
+unfoldable pub Laid : {A : Type 0} → Got A → (A → ℕ → List ℕ → List ℕ) → List ℕ → List ℕ → Type 0
+Laid (got a left next) lay found filled = filled ≡ lay a next found
+Laid (bad number index) lay found filled = Unit
+
+pub record Lays {A : Type 0} (read : Reader A) (lay : A → ℕ → List ℕ → List ℕ) (nums : List ℕ) (at : ℕ)
+    (found filled : List ℕ) (r : Scan) : Type 0 where
+  pub scan : r ≡ scanOf read nums at
+  pub laid : Laid (read (drop at nums) at) lay found filled
+
+-- the header types and globals; the callables and tables; the apply body
+unfoldable pub readDeclared : ℕ → Reader (List HeaderTy × List Global)
+readDeclared version =
+    listOf 0 8 (readHeader version) >>= λ headers. listOf 0 32 (readGlobal version) >>= λ globals. pure
+    (headers, globals)
+
+unfoldable pub layDeclared : List HeaderTy × List Global → ℕ → List ℕ → List ℕ
+layDeclared p next slots = declared (p .0) (p .1) slots
+
+unfoldable pub readDefined : ℕ → Reader (List Callable × List Table)
+readDefined version =
+    listOf 0 16 (readCallable version) >>= λ callables. listOf 0 8 (readTable version) >>= λ tables. pure
+    (callables, tables)
+
+unfoldable pub layDefined : List Callable × List Table → ℕ → List ℕ → List ℕ
+layDefined p next slots = defined (p .0) (p .1) slots
+
+unfoldable pub layBody : Stmt → ℕ → List ℕ → List ℕ
+layBody body end slots = sets slots 68 (stmtAt body ∷ end ∷ [])
