@@ -12,7 +12,7 @@ use lib.Pow.{pow-pos}
 use borrow.Author.Tests.{eqb-true, ltb-true, lt-ltb, eq-eqb}
 use Rattle.rules.specs.Words.{fitsWidth, sum, difference, product, complementOf, shiftedLeft, shiftedRight, castTo, sliceFits, sliceWidth, sliceOf, joinFits, joined}
 use Rattle.rules.specs.Syntax.{Ty, bool, bits, Value, value, Global, Parameter, Program, Arithmetic, plus, minus, times, and, or, xor, Order, Shift, shiftLeft, shiftRight, Equality, Place, local, parameter, global, field}
-use Rattle.rules.specs.Form.{Res, ok, fault, _>>=_, named, need, andLook, onlyIf, sameTy, fits, Shape, aVariable, aHeader, shapeIn, globalAt, seesGlobals, Scope, judgeVariable, judgeField, judgeHeader, judgePlace, judgeHeaderAt, needTy, widthAt}
+use Rattle.rules.specs.Form.{Res, ok, fault, _>>=_, named, need, andLook, onlyIf, sameTy, fits, Shape, aVariable, aHeader, shapeIn, globalAt, seesGlobals, Scope, judgeVariable, judgeField, judgeHeader, judgeGlobal, judgePlace, judgeHeaderAt, needTy, widthAt}
 use Rattle.rules.specs.Lists.{Cell, variableCell, headerCell, markOf, slotsOfCell, slotsOf}
 use Rattle.rules.specs.Running.{State, change, numberOf, truth, variableTy, fieldTy, headerOnly, shapeFor, declared, variableIn, fieldIn, validIn, held, setVariable, setField, zeroed, makeValid, makeInvalid, withStore, withParameters, withLocals, changeStore, put}
 use Rattle.rules.specs.Running.{calculate, compare, shiftBy, agree, arithmeticOn, orderOn, shiftOn, equalityOn, notOn, complementOn, castOn, sliceOn, concatenationOn, aBool}
@@ -235,28 +235,39 @@ module _ (Γ : Scope) where
   field-ok at f (aVariable t) = isFault
   field-ok at f (aHeader widths) = ok-then (ok-found (suc (suc at)) (getElem? widths f)) λ w e. isOk (rw e)
 
+  -- a global that is judged is seen, and what is asked of its shape holds
+  global-ok : {A : Type 0} {R : Shape → A → Type 0} (at g : ℕ) {asked : Shape → Res A}
+      → ((shape : Shape) → IfOk (R shape) (asked shape))
+      → IfOk (λ a. SomeOf (λ shape. R shape a × (globalAt (Γ .program) g ≡ some shape)) (shapeFor Γ g)) (judgeGlobal Γ at g asked)
+  unfolding judgeGlobal shapeFor onlyIf
+  global-ok at g h = ok-then (ok-found (suc at) (globalAt (Γ .program) g)) λ shape e. ok-then (h shape) λ a r.
+      ok-then (ok-need 8 at (seesGlobals (Γ .body))) λ _ b. isOk (rw (b, e) (isSome (r, refl)))
+
+  look-is : {A B : Type 0} {b : B} {o : Option A} {k : A → Option B} → SomeOf (λ a. k a ≡ some b) o → andLook o k ≡ some b
+  unfolding andLook
+  look-is (isSome e) = e
+
+  some-map : {A : Type 0} {P Q : A → Type 0} {o : Option A} → SomeOf P o → ((a : A) → P a → Q a) → SomeOf Q o
+  some-map (isSome p) h = isSome (h _ p)
+
   pub declared-ok : (at : ℕ) (p : Place) → IfOk (λ t. declared Γ p ≡ some t) (judgePlace Γ at p)
-  unfolding judgePlace declared shapeFor andLook onlyIf
+  unfolding judgePlace declared andLook
   declared-ok at (local i) = ok-found (suc at) (getElem? (Γ .locals) i)
   declared-ok at (parameter i) = ok-then (ok-found (suc at) (getElem? (Γ .parameters) i)) λ p e. isOk (rw e)
-  declared-ok at (global g) = ok-then (ok-found (suc at) (globalAt (Γ .program) g)) λ shape e.
-      ok-then (variable-ok at shape) λ t q.
-      ok-then (ok-need 8 at (seesGlobals (Γ .body))) λ _ b. isOk (rw (b, e) q)
-  declared-ok at (field g f) = ok-then (ok-found (suc at) (globalAt (Γ .program) g)) λ shape e.
-      ok-then (field-ok at f shape) λ t q.
-      ok-then (ok-need 8 at (seesGlobals (Γ .body))) λ _ b. isOk (rw (b, e) q)
+  declared-ok at (global g) = ok-map (global-ok at g (variable-ok at)) λ t h. look-is (some-map h λ shape r. r .0)
+  declared-ok at (field g f) = ok-map (global-ok at g (field-ok at f)) λ t h. look-is (some-map h λ shape r. r .0)
 
-  header-ok : (at : ℕ) (shape : Shape) → IfOk (λ _. SomeOf (λ widths.
-      some shape ≡ some (aHeader widths)) (headerOnly shape)) (judgeHeader at shape)
+  header-ok : (at : ℕ) (shape : Shape)
+      → IfOk (λ _. SomeOf (λ widths. some shape ≡ some (aHeader widths)) (headerOnly shape)) (judgeHeader at shape)
   unfolding judgeHeader headerOnly
   header-ok at (aVariable t) = isFault
   header-ok at (aHeader widths) = isOk (isSome refl)
 
-  pub header-at : (at g : ℕ) → IfOk (λ _. SomeOf (λ widths.
-      globalAt (Γ .program) g ≡ some (aHeader widths)) (andLook (shapeFor Γ g) headerOnly)) (judgeHeaderAt Γ at g)
-  unfolding judgeHeaderAt shapeFor onlyIf andLook
-  header-at at g = ok-then (ok-found (suc at) (globalAt (Γ .program) g)) λ shape e. ok-then (header-ok at shape) λ _ h.
-      ok-map (ok-need 8 at (seesGlobals (Γ .body))) λ _ b. rw (b, e) h
+  pub header-at : (at g : ℕ)
+      → IfOk (λ _. SomeOf (λ widths. globalAt (Γ .program) g ≡ some (aHeader widths)) (andLook (shapeFor Γ g) headerOnly))
+      (judgeHeaderAt Γ at g)
+  unfolding judgeHeaderAt
+  header-at at g = ok-map (global-ok at g (header-ok at)) λ _ h. some-then h λ shape r. rw (r .1) (r .0)
 
 -- operators
 lt-fits : (w n : ℕ) → n < 2 ^ w → Fit (bits w) n

@@ -238,19 +238,22 @@ header-judged at (aVariable t) = faulty seven
 header-judged at (aHeader ws) = fine
 
 module _ (Γ : Scope) where
+  global-judged : {A : Type 0} (at g : ℕ) {asked : Shape → Res A} → ((shape : Shape) → Judging-ok (asked shape))
+      → Judging-ok (Form.judgeGlobal Γ at g asked)
+  unfolding Form.judgeGlobal
+  global-judged at g h = then-judges (names (suc at) _) λ shape. then-judges (h shape) λ a.
+      then-judges (needs 8 at eight _) λ _. fine
+
   place-judged : (at : ℕ) (p : Place) → Judging-ok (Form.judgePlace Γ at p)
   unfolding Form.judgePlace
   place-judged at (local i) = names (suc at) _
   place-judged at (parameter i) = then-judges (names (suc at) _) λ p. fine
-  place-judged at (global g) = then-judges (names (suc at) _) λ shape. then-judges (variable-judged at shape) λ t.
-      then-judges (needs 8 at eight _) λ _. fine
-  place-judged at (field g f) = then-judges (names (suc at) _) λ shape. then-judges (field-judged at f shape) λ t.
-      then-judges (needs 8 at eight _) λ _. fine
+  place-judged at (global g) = global-judged at g (variable-judged at)
+  place-judged at (field g f) = global-judged at g (field-judged at f)
 
   header-at-judged : (at g : ℕ) → Judging-ok (Form.judgeHeaderAt Γ at g)
   unfolding Form.judgeHeaderAt
-  header-at-judged at g = then-judges (names (suc at) _) λ shape. then-judges (header-judged at shape) λ _.
-      needs 8 at eight _
+  header-at-judged at g = global-judged at g (header-judged at)
 
 operator-judged : (at : ℕ) (o : Operator) (t u : Ty) → Judging-ok (Form.judgeOperator at o t u)
 unfolding Form.judgeOperator

@@ -8,7 +8,7 @@ use mathlib.Core.List.{List, [], _∷_, map}
 use lib.Dec.{ltb, eqb}
 use lib.ListN.{getElem?, length}
 use borrow.Author.Tests.{eqb-true, lt-ltb}
-use Rattle.rules.specs.Syntax.{Ty, bool, bits, Value, value, Parameter, Callable, Numeral, Key, Table, Program, atOf}
+use Rattle.rules.specs.Syntax.{Ty, bool, bits, Value, value, Parameter, Callable, Numeral, Key, Table, Program}
 use Rattle.rules.specs.Form.{Res, ok, fault, _>>=_, named, need, andLook, onlyIf, fits, callableBelow, inApply, Scope, isFunction, applyScope, widthAt, judgeExpr, judgeActions, judgeKeys, keysAreBits, literalsFit, oneLpm, listable, judgeListed, judgeTable}
 use Rattle.rules.specs.Ceiling.{ceilingExpr, ceilingKeys, largestOf, ceilingTable}
 use Rattle.rules.specs.Lists.{Pattern, Entry, widthOf, keyWidth, actionAt}
@@ -190,7 +190,7 @@ module _ (P : Program) (used : ℕ) (calls : Calls) (callee : ℕ
   keys-ok [] = isOk λ _. runs-pure at-most _ refl
   keys-ok (k ∷ ks) = ok-then (ok-and (ok-self (judgeExpr (applyScope P) (k .expr))) (sound-expr
       (applyScope P) used calls callee calls-ok (k .expr))) λ t h. ok-then (keys-ok ks) λ ts hk. isOk λ e.
-      let b = bits-then (atOf (k .expr)) t (keysAreBits ks ts) e in
+      let b = bits-then (suc (k .at)) t (keysAreBits ks ts) e in
       runs-le (omega arith) (runs-then at-most (h .1) λ v hv.
       runs-then at-most (runs-some at-most (worked-ok (rw (b .1) at hv))) λ w hw.
       runs-then at-most (hk (b .2)) λ ws hws. runs-pure at-most (w ∷ ws) (cc (width-is P k t (b .0) (h .0) (b .1))))

@@ -12,7 +12,7 @@ use Rattle.rules.specs.Syntax.{Ty, bool, bits, GlobalTy, variable, heade
 use Rattle.rules.specs.Syntax.{Operator, arithmetic, order, shift, equality, logic, Place, local, parameter, global, field}
 use Rattle.rules.specs.Syntax.{Expr, boolLiteral, bitsLiteral, readOf, validOf, negation, complement, binary, cast, slice, concatenation, callExpr, Args, noArgs, arg}
 use Rattle.rules.specs.Syntax.{Stmt, empty, assign, ifElse, block, callStmt, apply, returnValue, return, exit, setValid, setInvalid, Stmts, noStmts, stmt}
-use Rattle.rules.specs.Syntax.{Global, Parameter, Callable, Numeral, Key, Table, Program, atOf, placeIn}
+use Rattle.rules.specs.Syntax.{Global, Parameter, Callable, Numeral, Key, Table, Program, placeIn}
 
 infixl 20 _>>=_
 -- fine, with what is known; or a fault and its index
@@ -148,26 +148,23 @@ unfoldable pub judgeHeader : ℕ → Shape → Res (Unit {0})
 judgeHeader at (aVariable t) = fault 7 at
 judgeHeader at (aHeader widths) = ok tt
 
+-- a global: its name, what is asked of its shape, and that it is seen
+unfoldable pub judgeGlobal : {A : Type 0} → Scope → ℕ → ℕ → (Shape → Res A) → Res A
+judgeGlobal Γ at g asked = do
+  shape ← named (suc at) (globalAt (Γ .program) g)
+  a ← asked shape
+  seen ← need 8 at (seesGlobals (Γ .body))
+  ok a
+
 unfoldable pub judgePlace : Scope → ℕ → Place → Res Ty
 judgePlace Γ at (local i) = named (suc at) (getElem? (Γ .locals) i)
 judgePlace Γ at (parameter i) = named (suc at) (getElem? (Γ .parameters) i) >>= λ p. ok (p .ty)
-judgePlace Γ at (global g) = do
-  shape ← named (suc at) (globalAt (Γ .program) g)
-  t ← judgeVariable at shape
-  seen ← need 8 at (seesGlobals (Γ .body))
-  ok t
-judgePlace Γ at (field g f) = do
-  shape ← named (suc at) (globalAt (Γ .program) g)
-  t ← judgeField at f shape
-  seen ← need 8 at (seesGlobals (Γ .body))
-  ok t
+judgePlace Γ at (global g) = judgeGlobal Γ at g (judgeVariable at)
+judgePlace Γ at (field g f) = judgeGlobal Γ at g (judgeField at f)
 
 -- a header by its name, for tag 6 and statements 9 and 10
 unfoldable pub judgeHeaderAt : Scope → ℕ → ℕ → Res (Unit {0})
-judgeHeaderAt Γ at g = do
-  shape ← named (suc at) (globalAt (Γ .program) g)
-  isHeader ← judgeHeader at shape
-  need 8 at (seesGlobals (Γ .body))
+judgeHeaderAt Γ at g = judgeGlobal Γ at g (judgeHeader at)
 
 unfoldable pub widthAt : ℕ → Ty → Res ℕ
 widthAt at bool = fault 7 at
@@ -353,10 +350,11 @@ unfoldable pub judgeKeys : Scope → List Key → Res (List Ty)
 judgeKeys Γ [] = ok []
 judgeKeys Γ (k ∷ ks) = judgeExpr Γ (k .expr) >>= λ t. judgeKeys Γ ks >>= λ ts. ok (t ∷ ts)
 
+-- a key's expression stands behind its kind
 unfoldable pub keysAreBits : List Key → List Ty → Res (Unit {0})
 keysAreBits [] ts = ok tt
 keysAreBits (k ∷ ks) [] = ok tt
-keysAreBits (k ∷ ks) (t ∷ ts) = widthAt (atOf (k .expr)) t >>= λ _. keysAreBits ks ts
+keysAreBits (k ∷ ks) (t ∷ ts) = widthAt (suc (k .at)) t >>= λ _. keysAreBits ks ts
 
 unfoldable pub literalsFit : List Parameter → List Numeral → Res (Unit {0})
 literalsFit [] ns = ok tt

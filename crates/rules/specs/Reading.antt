@@ -234,10 +234,7 @@ module _ (version : ℕ) where
   -- with so many levels allowed
   unfoldable pub readExpr : ℕ → Reader Expr
   readExpr zero = tooDeep
-  readExpr (suc depth) = do
-    at ← here
-    tag ← standsFor (getElem? exprTags)
-    readExprAs tag at (readExpr depth)
+  readExpr (suc depth) = do at ← here; tag ← standsFor (getElem? exprTags); readExprAs tag at (readExpr depth)
 
   -- an assignment's target, with its own tag's index
   unfoldable pub readTarget : ℕ → Reader (ℕ × Place)
@@ -271,16 +268,10 @@ module _ (version : ℕ) where
     readStmtAs tag at (readExpr depth) (readTarget depth) (readStmt depth)
 
   unfoldable pub readHeader : Reader HeaderTy
-  readHeader = do
-    at ← here
-    widths ← listOf 1 mostFields fieldWidth
-    pure (record { at = at; widths = widths })
+  readHeader = do at ← here; widths ← listOf 1 mostFields fieldWidth; pure (record { at = at; widths = widths })
 
   unfoldable pub readGlobal : Reader Global
-  readGlobal = do
-    at ← here
-    ty ← standsFor globalTypeOf
-    pure (record { at = at; ty = ty })
+  readGlobal = do at ← here; ty ← standsFor globalTypeOf; pure (record { at = at; ty = ty })
 
   unfoldable pub readParameter : Reader Parameter
   readParameter = do
@@ -304,10 +295,7 @@ module _ (version : ℕ) where
     pure (record { at = at; returns = returns; parameters = parameters; locals = locals; body = body })
 
   unfoldable pub readNumeral : Reader Numeral
-  readNumeral = do
-    at ← here
-    n ← number
-    pure (record { at = at; number = n })
+  readNumeral = do at ← here; n ← number; pure (record { at = at; number = n })
 
   unfoldable pub readKey : Reader Key
   readKey = do

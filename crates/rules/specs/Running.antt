@@ -181,16 +181,10 @@ put (field g f) n s = changeStore (setField f n) g s
 
 -- reading and writing: a place holds its declared type, and takes no other
 unfoldable pub readAt : Scope → Place → M State Value
-readAt Γ p = do
-  t ← orStuck (declared Γ p)
-  n ← gets (held p)
-  pure (value t n)
+readAt Γ p = do t ← orStuck (declared Γ p); n ← gets (held p); pure (value t n)
 
 unfoldable pub writeAt : Scope → Place → Value → M State (Unit {0})
-writeAt Γ p v = do
-  t ← orStuck (onlyIf (writable Γ p) (declared Γ p))
-  n ← orStuck (numberOf t v)
-  puts (put p n)
+writeAt Γ p v = do t ← orStuck (onlyIf (writable Γ p) (declared Γ p)); n ← orStuck (numberOf t v); puts (put p n)
 
 unfoldable pub changeHeader : Scope → ℕ → (Cell → Option Cell) → M State (Unit {0})
 changeHeader Γ g f = orStuck (andLook (shapeFor Γ g) headerOnly) >>= λ _. puts (changeStore f g)
@@ -369,9 +363,7 @@ afterBody exited back = pure exited
 module _ (Γ : Scope) (used : ℕ) (calls : Calls) where
   -- a call whose arguments are worked out
   unfoldable pub runCall : ℕ → Args → List Parameter → List ℕ → M State Ending
-  runCall f xs ps ns = do
-    r ← onStore (calls used f ns)
-    afterBody (r .0) (comeBack Γ xs ps (r .1))
+  runCall f xs ps ns = do r ← onStore (calls used f ns); afterBody (r .0) (comeBack Γ xs ps (r .1))
 
   unfoldable mutual
     pub runExpr : Expr → M State Value
@@ -396,10 +388,7 @@ module _ (Γ : Scope) (used : ℕ) (calls : Calls) where
     runArgs noArgs [] = pure []
     runArgs noArgs (p ∷ ps) = nowhere
     runArgs (arg e xs) [] = nowhere
-    runArgs (arg e xs) (p ∷ ps) = do
-      n ← goIn Γ p (placeIn e) (runExpr e)
-      ns ← runArgs xs ps
-      pure (n ∷ ns)
+    runArgs (arg e xs) (p ∷ ps) = do n ← goIn Γ p (placeIn e) (runExpr e); ns ← runArgs xs ps; pure (n ∷ ns)
 
 -- return: a value of its type in a function; without one, as exit, elsewhere
 unfoldable pub returnedFrom : Body → Value → Option Ending

@@ -137,20 +137,6 @@ pub record Program : Type 0 where
   pub tables : List Table
   pub body : Stmt
 
--- an expression's own tag
-unfoldable pub atOf : Expr → ℕ
-atOf (boolLiteral at n) = at
-atOf (bitsLiteral at width n) = at
-atOf (readOf at p) = at
-atOf (validOf at g) = at
-atOf (negation at a) = at
-atOf (complement at a) = at
-atOf (binary at o a b) = at
-atOf (cast at width a) = at
-atOf (slice at high low a) = at
-atOf (concatenation at a b) = at
-atOf (callExpr at f xs) = at
-
 -- the place that an expression names, if it names one
 unfoldable pub placeIn : Expr → Option Place
 placeIn (boolLiteral at n) = none
