@@ -20,20 +20,11 @@ use Rattle.rules.specs.Lists.{Pattern, exactly, prefixed, masked, Entry,
 use Rattle.rules.specs.Running.{State, Ending, Out, done, stuck, full, callsBelow, argumentsFit, argumentsGiven, patternFits, patternsFit, runTable, finish, started, runStmt, runProgram}
 use Rattle.rules.specs.Answers.{Bench, checked, judging, Judged, accepted, refused, placed, judgedStream, judged, outcomeOf, runBench, fileOutcome, toldWith, numbersOf, ofSignal, workingSlots, marked}
 use Rattle.rules.proofs.Refusals.{program-reads, Judging-ok, fine, faulty, program-judged, place-within, Stream-ok, whole, breaks, stream-ok}
-use Rattle.rules.proofs.Predicates.{JudgeGives, if-any, and-both, both-true, All2, nil, cons, All, none-left, also, IfOk, isOk, isFault, IfSome, ifNone, ifSome, IfGot, isGot, isBad, SomeOf, isSome, ok-then, ok-map, ok-self, ok-need, from-ok, from-some, if-then, if-map, if-self, Reads, reads-then, reads-pure, reads-looked-up, reads-repeat, Good, good, isFull, Runs}
+use Rattle.rules.proofs.Predicates.{JudgeGives, gives, if-any, and-both, both-true, All2, nil, cons, All, none-left, also, IfOk, isOk, isFault, IfSome, ifNone, ifSome, IfGot, isGot, isBad, SomeOf, isSome, ok-then, ok-map, ok-self, ok-need, from-ok, from-some, if-then, if-map, if-self, Reads, reads-then, reads-pure, reads-looked-up, reads-repeat, Good, good, isFull, Runs}
 use Rattle.rules.proofs.Fits.{Fit, FitWidth, CellFits, variableFits, validFits, invalidFits, GlobalFits, globalFits, StoreFits, StateFits}
 use Rattle.rules.proofs.Sound.{EndOk, CallsOk, AppliesOk, sound-stmt}
 use Rattle.rules.proofs.Callables.{judged-all, calls-below}
 use Rattle.rules.proofs.Tables.{EntryOk, table-ok}
-
-ten : JudgeGives 10
-ten = (omega arith, omega arith)
-
-eleven : JudgeGives 11
-eleven = (omega arith, omega arith)
-
-twelve : JudgeGives 12
-twelve = (omega arith, omega arith)
 
 -- numbers that pass a test
 only-if : (b : Bool) {A : Type 0} (a : A) → IfSome (λ x. (x ≡ a) × (b ≡ true)) (onlyIf b (some a))
@@ -47,12 +38,12 @@ reads-passing number q test = reads-looked-up number q λ n. if-map (only-if (te
 
 reads-asked : (P : Program) (test : ℕ → Bool) → Reads (λ n. test n ≡ true) (passing 10 (asked true P test))
 unfolding asked
-reads-asked P test = reads-passing 10 ten test
+reads-asked P test = reads-passing 10 (gives 10 refl) test
 
 reads-numbered : {A : Type 0} (what : ℕ → Option A) → Reads (λ x.
     what (x .0) ≡ some (x .1)) (Rattle.rules.specs.Reading.lookedUp 10 (numbered what))
 unfolding numbered
-reads-numbered what = reads-looked-up 10 ten λ n. if-then (if-self (what n)) λ a e. ifSome e
+reads-numbered what = reads-looked-up 10 (gives 10 refl) λ n. if-then (if-self (what n)) λ a e. ifSome e
 
 -- entries
 module _ (P : Program) where
@@ -87,7 +78,7 @@ module _ (P : Program) where
 
   pub entries-read : Reads (All (EntryOk P)) (readEntries true P)
   unfolding readEntries
-  entries-read = reads-then (reads-looked-up 10 ten λ n. if-any (within 0 mostEntries n)) λ n _.
+  entries-read = reads-then (reads-looked-up 10 (gives 10 refl) λ n. if-any (within 0 mostEntries n)) λ n _.
       reads-repeat n entry-reads
 
 -- the store
@@ -101,7 +92,8 @@ zero-only false n h e = eqb-true n 0 h
 fields-read : (valid : Bool) (widths : List ℕ) → Reads (FieldsFit valid widths) (readFields valid widths)
 unfolding readFields
 fields-read valid [] = reads-pure _ (λ _. nil, λ _. nil)
-fields-read valid (w ∷ widths) = reads-then (reads-passing 11 eleven λ n. fitsWidth w n && (valid || eqb n 0)) λ n h.
+fields-read valid (w ∷ widths) = reads-then (reads-passing 11 (gives 11 refl) λ n.
+    fitsWidth w n && (valid || eqb n 0)) λ n h.
     reads-then (fields-read valid widths) λ ns hs.
     let both = and-both (fitsWidth w n) (valid || eqb n 0) h in
     reads-pure _ (λ e. cons (both .0) (hs .0 e), λ e. cons (zero-only valid n (both .1) e) (hs .1 e))
@@ -113,9 +105,9 @@ header-fits false h = invalidFits (h .1 refl)
 
 shape-reads : (shape : Shape) → Reads (CellFits shape) (readShape shape)
 unfolding readShape
-shape-reads (aVariable t) = reads-then (reads-passing 11 eleven (fits t)) λ n h.
+shape-reads (aVariable t) = reads-then (reads-passing 11 (gives 11 refl) (fits t)) λ n h.
     reads-pure (variableCell n) (variableFits h)
-shape-reads (aHeader widths) = reads-then (reads-passing 11 eleven (fits bool)) λ mark _.
+shape-reads (aHeader widths) = reads-then (reads-passing 11 (gives 11 refl) (fits bool)) λ mark _.
     reads-then (fields-read (eqb mark 1) widths) λ ns h.
     reads-pure (headerCell (eqb mark 1) ns) (header-fits (eqb mark 1) h)
 
@@ -126,7 +118,7 @@ got-some (isBad q) = isBad q
 
 cell-reads : (o : Option Shape) → Reads (λ c. SomeOf (λ shape. CellFits shape c) o) (readCell o)
 unfolding readCell
-cell-reads none = record { reads = λ left at. isBad eleven }
+cell-reads none = record { reads = λ left at. isBad (gives 11 refl) }
 cell-reads (some shape) = record { reads = λ left at. got-some (shape-reads shape .reads left at) }
 
 shape-found : (P : Program) (g : Global) (c : Cell) {o : Option Shape} → shapeIn P (g .ty) ≡ o → SomeOf (λ shape.
@@ -158,12 +150,12 @@ reads-checked (faulty q) = record { reads = λ left at. isBad q }
 left-at : (left : List ℕ) (at : ℕ) → IfGot (λ _. Unit {0}) (nothingLeft left at)
 unfolding nothingLeft
 left-at [] at = isGot tt
-left-at (n ∷ left) at = isBad twelve
+left-at (n ∷ left) at = isBad (gives 12 refl)
 
 bounded-ok : (b : Bool) → Judging-ok (need 9 0 b)
 unfolding need
 bounded-ok true = fine
-bounded-ok false = faulty {number = 9} (omega arith, omega arith)
+bounded-ok false = faulty (gives 9 refl)
 
 needed : (number at : ℕ) (b : Bool) {a : Unit {0}} → need number at b ≡ ok a → b ≡ true
 unfolding need

@@ -6,7 +6,9 @@ use mathlib.Core.Option.{Option, none, some}
 use Prim.Native.Nat.{ℕ, zero, suc, _+_, _≤_}
 use native.Mathlib.Omega.{arith}
 use mathlib.Core.List.{List, [], _∷_}
+use lib.Dec.{leb}
 use lib.ListN.{getElem?}
+use borrow.Author.Tests.{leb-true}
 use Rattle.rules.specs.Reading.{Got, got, bad, Reader}
 use Rattle.rules.specs.Reading as Reading
 use Rattle.rules.specs.Form.{Res, ok, fault, _>>=_, named, need, andLook, onlyIf}
@@ -42,6 +44,9 @@ pub data IfSome {A : Type 0} (P : A → Type 0) : Option A → Type 0 where
 -- the numbers that the judge refuses with
 abbrev pub JudgeGives : ℕ → Type 0
 JudgeGives n = (1 ≤ n) × (n ≤ 12)
+
+pub gives : (n : ℕ) → (leb 1 n && leb n 12) ≡ true → JudgeGives n
+gives n e = let both = and-both (leb 1 n) (leb n 12) e in (leb-true 1 n (both .0), leb-true n 12 (both .1))
 
 pub data IfGot {A : Type 0} (P : A → Type 0) : Got A → Type 0 where
   isGot : {a : A} {left : List ℕ} {at : ℕ} → P a → IfGot P (got a left at)

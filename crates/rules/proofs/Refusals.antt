@@ -17,7 +17,7 @@ use Rattle.rules.specs.Reading.{StmtTag, tagEmpty, tagAssign, tagIf, tag
 use Rattle.rules.specs.Reading as Reading
 use Rattle.rules.specs.Form.{Res, ok, fault, _>>=_, named, need, Shape, aVariable, aHeader, Body, inFunction, inAction, inApply, Scope, Given}
 use Rattle.rules.specs.Form as Form
-use Rattle.rules.proofs.Predicates.{JudgeGives, IfGot, isGot, isBad, if-any, Reads, reads-then, reads-pure, reads-looked-up}
+use Rattle.rules.proofs.Predicates.{JudgeGives, gives, IfGot, isGot, isBad, if-any, Reads, reads-then, reads-pure, reads-looked-up}
 
 -- a reader whose faults the judge gives
 abbrev Answers : {A : Type 0} → Reader A → Type 0
@@ -38,15 +38,9 @@ looked-up : {A : Type 0} (number : ℕ) → JudgeGives number → (what : ℕ �
     → Answers (Reading.lookedUp number what)
 looked-up number q what = reads-looked-up number q λ n. if-any (what n)
 
-four : JudgeGives 4
-four = (omega arith, omega arith)
-
-five : JudgeGives 5
-five = (omega arith, omega arith)
-
 number-at : (left : List ℕ) (at : ℕ) → IfGot (λ _. Unit {0}) (Reading.number left at)
 unfolding Reading.number
-number-at [] at = isBad four
+number-at [] at = isBad (gives 4 refl)
 number-at (n ∷ left) at = isGot tt
 
 number-reads : Answers Reading.number
@@ -54,7 +48,7 @@ number-reads = record { reads = number-at }
 
 stands-for : {A : Type 0} (what : ℕ → Option A) → Answers (Reading.standsFor what)
 unfolding Reading.standsFor
-stands-for what = looked-up 4 four what
+stands-for what = looked-up 4 (gives 4 refl) what
 
 between-reads : (least most : ℕ) → Answers (Reading.between least most)
 unfolding Reading.between
@@ -71,8 +65,8 @@ list-reads least most h = then-reads (between-reads least most) λ n. repeat-rea
 
 deep-at : {A : Type 0} (left : List ℕ) (at : ℕ) → IfGot {A = A} (λ _. Unit {0}) (Reading.tooDeep left at)
 unfolding Reading.tooDeep
-deep-at [] at = isBad four
-deep-at (n ∷ left) at = isBad five
+deep-at [] at = isBad (gives 4 refl)
+deep-at (n ∷ left) at = isBad (gives 5 refl)
 
 deep-reads : {A : Type 0} → Answers {A = A} Reading.tooDeep
 deep-reads = record { reads = deep-at }
@@ -194,18 +188,9 @@ unfolding _>>=_
 then-judges fine h = h _
 then-judges (faulty q) h = faulty q
 
-six : JudgeGives 6
-six = (omega arith, omega arith)
-
-seven : JudgeGives 7
-seven = (omega arith, omega arith)
-
-eight : JudgeGives 8
-eight = (omega arith, omega arith)
-
 names : {A : Type 0} (at : ℕ) (o : Option A) → Judging-ok (named at o)
 unfolding named
-names at none = faulty six
+names at none = faulty (gives 6 refl)
 names at (some a) = fine
 
 needs : (number at : ℕ) → JudgeGives number → (b : Bool) → Judging-ok (need number at b)
@@ -215,26 +200,26 @@ needs number at q false = faulty q
 
 types : (at : ℕ) (t u : Ty) → Judging-ok (Form.needTy at t u)
 unfolding Form.needTy
-types at t u = needs 7 at seven _
+types at t u = needs 7 at (gives 7 refl) _
 
 widths : (at : ℕ) (t : Ty) → Judging-ok (Form.widthAt at t)
 unfolding Form.widthAt
-widths at bool = faulty seven
+widths at bool = faulty (gives 7 refl)
 widths at (bits w) = fine
 
 variable-judged : (at : ℕ) (shape : Shape) → Judging-ok (Form.judgeVariable at shape)
 unfolding Form.judgeVariable
 variable-judged at (aVariable t) = fine
-variable-judged at (aHeader ws) = faulty seven
+variable-judged at (aHeader ws) = faulty (gives 7 refl)
 
 field-judged : (at f : ℕ) (shape : Shape) → Judging-ok (Form.judgeField at f shape)
 unfolding Form.judgeField
-field-judged at f (aVariable t) = faulty seven
+field-judged at f (aVariable t) = faulty (gives 7 refl)
 field-judged at f (aHeader ws) = then-judges (names (suc (suc at)) (getElem? ws f)) λ w. fine
 
 header-judged : (at : ℕ) (shape : Shape) → Judging-ok (Form.judgeHeader at shape)
 unfolding Form.judgeHeader
-header-judged at (aVariable t) = faulty seven
+header-judged at (aVariable t) = faulty (gives 7 refl)
 header-judged at (aHeader ws) = fine
 
 module _ (Γ : Scope) where
@@ -242,7 +227,7 @@ module _ (Γ : Scope) where
       → Judging-ok (Form.judgeGlobal Γ at g asked)
   unfolding Form.judgeGlobal
   global-judged at g h = then-judges (names (suc at) _) λ shape. then-judges (h shape) λ a.
-      then-judges (needs 8 at eight _) λ _. fine
+      then-judges (needs 8 at (gives 8 refl) _) λ _. fine
 
   place-judged : (at : ℕ) (p : Place) → Judging-ok (Form.judgePlace Γ at p)
   unfolding Form.judgePlace
@@ -265,26 +250,26 @@ operator-judged at (logic o) t u = then-judges (types at bool t) λ _. then-judg
 
 given-judged : (at : ℕ) (ps : List Parameter) (gs : List Given) → Judging-ok (Form.judgeGiven at ps gs)
 unfolding Form.judgeGiven
-given-judged at ps gs = then-judges (needs 7 at seven _) λ _. needs 8 at eight _
+given-judged at ps gs = then-judges (needs 7 at (gives 7 refl) _) λ _. needs 8 at (gives 8 refl) _
 
 function-judged : (at : ℕ) (r : Option Ty) → Judging-ok (Form.functionTy at r)
 unfolding Form.functionTy
-function-judged at none = faulty eight
+function-judged at none = faulty (gives 8 refl)
 function-judged at (some t) = fine
 
 returned-judged : (at : ℕ) (b : Body) (t : Ty) → Judging-ok (Form.judgeReturned at b t)
 unfolding Form.judgeReturned
 returned-judged at (inFunction u) t = types at u t
-returned-judged at inAction t = faulty eight
-returned-judged at inApply t = faulty eight
+returned-judged at inAction t = faulty (gives 8 refl)
+returned-judged at inApply t = faulty (gives 8 refl)
 
 module _ (Γ : Scope) where
   mutual
     unfolding Form.judgeExpr
 
     expr-judged : (e : Expr) → Judging-ok (Form.judgeExpr Γ e)
-    expr-judged (boolLiteral at n) = then-judges (needs 7 at seven _) λ _. fine
-    expr-judged (bitsLiteral at w n) = then-judges (needs 7 at seven _) λ _. fine
+    expr-judged (boolLiteral at n) = then-judges (needs 7 at (gives 7 refl) _) λ _. fine
+    expr-judged (bitsLiteral at w n) = then-judges (needs 7 at (gives 7 refl) _) λ _. fine
     expr-judged (readOf at p) = place-judged Γ at p
     expr-judged (validOf at g) = then-judges (header-at-judged Γ at g) λ _. fine
     expr-judged (negation at a) = then-judges (expr-judged a) λ t. then-judges (types at bool t) λ _. fine
@@ -293,10 +278,10 @@ module _ (Γ : Scope) where
         operator-judged at o t u
     expr-judged (cast at w a) = then-judges (expr-judged a) λ t. then-judges (widths at t) λ _. fine
     expr-judged (slice at h l a) = then-judges (expr-judged a) λ t. then-judges (widths at t) λ w.
-        then-judges (needs 7 at seven _) λ _. fine
+        then-judges (needs 7 at (gives 7 refl) _) λ _. fine
     expr-judged (concatenation at a b) = then-judges (expr-judged a) λ t. then-judges (expr-judged b) λ u.
         then-judges (widths at t) λ v.
-        then-judges (widths at u) λ w. then-judges (needs 7 at seven _) λ _. fine
+        then-judges (widths at u) λ w. then-judges (needs 7 at (gives 7 refl) _) λ _. fine
     expr-judged (callExpr at f xs) = then-judges (names (suc at) _) λ c. then-judges (args-judged xs) λ gs.
         then-judges (given-judged at (c .parameters) gs) λ _.
         function-judged at (c .returns)
@@ -311,16 +296,16 @@ module _ (Γ : Scope) where
     stmt-judged : (s : Stmt) → Judging-ok (Form.judgeStmt Γ s)
     stmt-judged (empty at) = fine
     stmt-judged (assign at target p e) = then-judges (place-judged Γ target p) λ t. then-judges (expr-judged e) λ u.
-        then-judges (types at t u) λ _. needs 8 at eight _
+        then-judges (types at t u) λ _. needs 8 at (gives 8 refl) _
     stmt-judged (ifElse at c a b) = then-judges (expr-judged c) λ t. then-judges (stmt-judged a) λ _.
         then-judges (stmt-judged b) λ _. types at bool t
     stmt-judged (block at ss) = stmts-judged ss
     stmt-judged (callStmt at f xs) = then-judges (names (suc at) _) λ c. then-judges (args-judged xs) λ gs.
-        then-judges (given-judged at (c .parameters) gs) λ _. needs 8 at eight _
-    stmt-judged (apply at t) = then-judges (names (suc at) _) λ _. needs 8 at eight _
+        then-judges (given-judged at (c .parameters) gs) λ _. needs 8 at (gives 8 refl) _
+    stmt-judged (apply at t) = then-judges (names (suc at) _) λ _. needs 8 at (gives 8 refl) _
     stmt-judged (returnValue at e) = then-judges (expr-judged e) λ t. returned-judged at (Γ .body) t
-    stmt-judged (return at) = needs 8 at eight _
-    stmt-judged (exit at) = needs 8 at eight _
+    stmt-judged (return at) = needs 8 at (gives 8 refl) _
+    stmt-judged (exit at) = needs 8 at (gives 8 refl) _
     stmt-judged (setValid at g) = header-at-judged Γ at g
     stmt-judged (setInvalid at g) = header-at-judged Γ at g
 
@@ -338,7 +323,7 @@ module _ (P : Program) where
   unfolding Form.judgeCallables Form.judgeCallable
   callables-judged n [] = fine
   callables-judged n (c ∷ cs) = then-judges (then-judges (stmt-judged (Form.scopeOf P n c) (c .body)) λ _.
-      needs 8 (c .at) eight _) λ _. callables-judged (suc n) cs
+      needs 8 (c .at) (gives 8 refl) _) λ _. callables-judged (suc n) cs
 
   actions-judged : (ns : List Numeral) → Judging-ok (Form.judgeActions P ns)
   unfolding Form.judgeActions
@@ -360,24 +345,24 @@ module _ (P : Program) where
   unfolding Form.literalsFit
   literals-judged [] ns = fine
   literals-judged (p ∷ ps) [] = fine
-  literals-judged (p ∷ ps) (n ∷ ns) = then-judges (needs 7 (n .at) seven _) λ _. literals-judged ps ns
+  literals-judged (p ∷ ps) (n ∷ ns) = then-judges (needs 7 (n .at) (gives 7 refl) _) λ _. literals-judged ps ns
 
   lpm-judged : (seen : Bool) (ks : List Key) → Judging-ok (Form.oneLpm seen ks)
   unfolding Form.oneLpm
   lpm-judged seen [] = fine
-  lpm-judged seen (k ∷ ks) = then-judges (needs 8 (k .at) eight _) λ _. lpm-judged _ ks
+  lpm-judged seen (k ∷ ks) = then-judges (needs 8 (k .at) (gives 8 refl) _) λ _. lpm-judged _ ks
 
   listed-judged : (ns : List Numeral) (cs : List Callable) → Judging-ok (Form.judgeListed ns cs)
   unfolding Form.judgeListed
   listed-judged [] cs = fine
   listed-judged (a ∷ ns) [] = fine
-  listed-judged (a ∷ ns) (c ∷ cs) = then-judges (needs 8 (a .at) eight _) λ _. listed-judged ns cs
+  listed-judged (a ∷ ns) (c ∷ cs) = then-judges (needs 8 (a .at) (gives 8 refl) _) λ _. listed-judged ns cs
 
   table-judged : (T : Table) → Judging-ok (Form.judgeTable P T)
   unfolding Form.judgeTable
   table-judged T = then-judges (actions-judged (T .actions)) λ cs. then-judges (names (T .default .at) _) λ c.
       then-judges (keys-judged (Form.applyScope P) (T .keys)) λ ts.
-      then-judges (bits-judged (T .keys) ts) λ _. then-judges (needs 7 (T .countAt) seven _) λ _.
+      then-judges (bits-judged (T .keys) ts) λ _. then-judges (needs 7 (T .countAt) (gives 7 refl) _) λ _.
       then-judges (literals-judged (c .parameters) (T .arguments)) λ _.
       then-judges (lpm-judged false (T .keys)) λ _. listed-judged (T .actions) cs
 
@@ -414,19 +399,10 @@ unfolding withFirst
 first-ok n whole = whole
 first-ok n (breaks q p) = breaks q p
 
-one : JudgeGives 1
-one = (omega arith, omega arith)
-
-two : JudgeGives 2
-two = (omega arith, omega arith)
-
-three : JudgeGives 3
-three = (omega arith, omega arith)
-
 end-ok : (most place before : ℕ) → place ≤ most → Stream-ok most (endAt place before)
 unfolding endAt
 end-ok most place zero h = whole
-end-ok most place (suc before) h = breaks two h
+end-ok most place (suc before) h = breaks (gives 2 refl) h
 
 stream-from : (most : ℕ) (bytes : List ℕ) (place before value : ℕ) → place + (before + length bytes) ≤ most
     → Stream-ok most (streamFrom place before value bytes)
@@ -445,7 +421,7 @@ stream-from most (b ∷ bytes) place before value h = go (groupOf before b) (λ 
         ])
     go (more d) k r = k (value + d * 128 ^ before)
     go (last d) k r = first-ok (value + d * 128 ^ before) r
-    go wrong k r = breaks {place = place} three (omega arith)
+    go wrong k r = breaks {place = place} (gives 3 refl) (omega arith)
 
 pub stream-ok : (bytes : List ℕ) → Stream-ok (length bytes) (streamOf bytes)
 unfolding streamOf
@@ -454,5 +430,5 @@ stream-ok bytes = go (eqb (length bytes) 0 || ltb mostBytes (length bytes)) (str
   where
     go : (t : Bool) → Stream-ok (length bytes) (streamFrom 0 0 0 bytes)
         → Stream-ok (length bytes) (elim t [ true ↦ broken 1 0 | false ↦ streamFrom 0 0 0 bytes ])
-    go true h = breaks {place = 0} one (omega arith)
+    go true h = breaks {place = 0} (gives 1 refl) (omega arith)
     go false h = h
