@@ -1,8 +1,8 @@
 -- Soundness of files: what the judge accepts is well formed, its entries and its store fit, and it runs within its ceiling.
-use mathlib.Core.Path.{_≡_, refl, sym, ap, _∙_}
-use mathlib.Core.Bool.{Bool, true, false, not, _&&_, _||_, false≢true}
+use mathlib.Core.Path.{_≡_, refl, sym}
+use mathlib.Core.Bool.{Bool, true, false, _&&_, _||_, false≢true}
 use mathlib.Core.Option.{Option, none, some}
-use Prim.Native.Nat.{ℕ, zero, suc, _+_, _≤_}
+use Prim.Native.Nat.{ℕ, zero, suc, _≤_}
 use native.Mathlib.Omega.{arith}
 use mathlib.Core.List.{List, [], _∷_, map}
 use lib.Dec.{leb, eqb}
@@ -12,16 +12,16 @@ use Rattle.rules.specs.declared.Signal.{Signal}
 use Rattle.rules.specs.declared.Signal.the-variants.{Done, Exit}
 use Rattle.rules.specs.Numbers.{Stream, numbers, broken, streamOf}
 use Rattle.rules.specs.Words.{fitsWidth, prefixFits, maskFits}
-use Rattle.rules.specs.Syntax.{bool, KeyKind, exact, lpm, ternary, Global, Parameter, Callable, Key, Table, Program}
-use Rattle.rules.specs.Reading.{Got, got, bad, Reader, within}
-use Rattle.rules.specs.Form.{Res, ok, fault, need, onlyIf, fits, Shape, aVariable, aHeader, shapeIn, inApply, isApply, isFunction, applyScope, judgeCallables, judgeTable, judgeTables, judgeGlobals, judgeStmt, judgeProgram, andLook}
+use Rattle.rules.specs.Syntax.{bool, KeyKind, exact, lpm, ternary, Global, Parameter, Key, Table, Program}
+use Rattle.rules.specs.Reading.{Got, within}
+use Rattle.rules.specs.Form.{Res, ok, need, onlyIf, fits, Shape, aVariable, aHeader, shapeIn, inApply, applyScope, judgeTable, judgeTables, judgeGlobals, judgeStmt, judgeProgram}
 use Rattle.rules.specs.Ceiling.{mostSteps, calleeIn, ceilingsBelow, ceilingTable, ceilingWith, ceilingOf}
-use Rattle.rules.specs.Lists.{Pattern, exactly, prefixed, masked, Entry, mostEntries, nothingLeft, Cell, variableCell, headerCell, passing, keyWidth, actionAt, numbered, asked, readPattern, readPatterns, readArguments, readEntry, readEntries, readFields, readShape, readCell, readCells, readStore, slotsOf}
-use Rattle.rules.specs.Running.{State, Ending, Out, done, stuck, full, callsBelow, argumentsFit, argumentsGiven, patternFits, patternsFit, runTable, finish, started, runStmt, runProgram}
+use Rattle.rules.specs.Lists.{Entry, mostEntries, nothingLeft, Cell, variableCell, headerCell, passing, keyWidth, actionAt, numbered, asked, readPattern, readPatterns, readArguments, readEntry, readEntries, readFields, readShape, readCell, readCells, readStore, slotsOf}
+use Rattle.rules.specs.Running.{State, Ending, Out, done, full, callsBelow, argumentsFit, argumentsGiven, patternFits, patternsFit, runTable, finish, started, runProgram}
 use Rattle.rules.specs.Answers.{Bench, checked, judging, Judged, accepted, refused, placed, judgedStream, judged, outcomeOf, runBench, fileOutcome, toldWith, numbersOf, ofSignal, workingSlots, marked}
 use Rattle.rules.proofs.Refusals.{program-reads, Judging-ok, fine, faulty, program-judged, place-within, Stream-ok, whole, breaks, stream-ok}
-use Rattle.rules.proofs.Predicates.{JudgeGives, gives, if-any, and-both, both-true, All2, nil, cons, All, none-left, also, IfOk, isOk, isFault, IfSome, ifNone, ifSome, IfGot, isGot, isBad, SomeOf, isSome, ok-then, ok-map, ok-self, ok-need, from-ok, from-some, if-then, if-map, if-self, Reads, reads-then, reads-pure, reads-looked-up, reads-repeat, Good, good, isFull, Runs}
-use Rattle.rules.proofs.Fits.{Fit, FitWidth, CellFits, variableFits, validFits, invalidFits, GlobalFits, globalFits, StoreFits, StateFits}
+use Rattle.rules.proofs.Predicates.{JudgeGives, gives, if-any, and-both, both-true, All2, nil, cons, All, IfOk, isOk, IfSome, ifNone, ifSome, IfGot, isGot, isBad, SomeOf, isSome, ok-then, ok-map, ok-self, from-ok, if-then, if-map, if-self, Reads, reads-then, reads-pure, reads-looked-up, reads-repeat, Good, good, isFull, Runs}
+use Rattle.rules.proofs.Fits.{FitWidth, CellFits, variableFits, validFits, invalidFits, GlobalFits, globalFits, StoreFits, StateFits}
 use Rattle.rules.proofs.Sound.{EndOk, CallsOk, AppliesOk, sound-stmt}
 use Rattle.rules.proofs.Callables.{judged-all, calls-below}
 use Rattle.rules.proofs.Tables.{EntryOk, table-ok}

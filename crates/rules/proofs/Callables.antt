@@ -1,22 +1,21 @@
 -- The callables by their number: if all are well formed, a call of one below n runs within its ceiling, for every n.
-use mathlib.Core.Path.{_≡_, refl, sym, ap, _∙_}
+use mathlib.Core.Path.{_≡_, refl, ap, _∙_}
 use mathlib.Core.Bool.{Bool, true, false}
 use mathlib.Core.Option.{Option, none, some}
-use Prim.Native.Nat.{ℕ, zero, suc, _+_, _<_, _≤_}
+use Prim.Native.Nat.{ℕ, zero, suc, _+_, _<_}
 use native.Mathlib.Omega.{arith}
 use native.Mathlib.Nat.{add-zero, zero-add, add-suc, suc-add}
 use native.Mathlib.Numerals.{add-one}
-use mathlib.Core.List.{List, [], _∷_, _++_}
+use mathlib.Core.List.{List, [], _∷_}
 use lib.Dec.{ltb, eqb}
-use lib.ListN.{getElem?, getD, length, length-append, List·getD-append}
+use lib.ListN.{getElem?, length, length-append, List·getD-append}
 use lib.Seq.{getD-at}
 use borrow.Author.Tests.{eqb-true, eqb-false, ltb-true, ltb-false, lt-ltb, le-ltb}
 use Rattle.rules.specs.Syntax.{Callable, Program}
-use Rattle.rules.specs.Form.{Res, ok, fault, _>>=_, onlyIf, callableBelow, judgeCallable, judgeCallables}
-use Rattle.rules.specs.Ceiling.{ceilingStmt, calleeIn, noTable, ceilingAt, ceilingsBelow}
-use Rattle.rules.specs.Running.{Calls, runNumber, callsBelow}
-use Rattle.rules.proofs.Predicates.{IfOk, isOk, IfSome, ifNone, ifSome, ok-then, ok-map, ok-self, ok-and, from-ok, if-map, Runs}
-use Rattle.rules.proofs.Fits.{StoreFits}
+use Rattle.rules.specs.Form.{ok, onlyIf, callableBelow, judgeCallable, judgeCallables}
+use Rattle.rules.specs.Ceiling.{calleeIn, ceilingAt, ceilingsBelow}
+use Rattle.rules.specs.Running.{runNumber, callsBelow}
+use Rattle.rules.proofs.Predicates.{IfOk, isOk, IfSome, ifNone, ifSome, ok-then, ok-map, ok-self, from-ok, if-map}
 use Rattle.rules.proofs.Sound.{CallOk, CallsOk, callable-ok}
 
 -- every callable of the list is well formed, at its own number

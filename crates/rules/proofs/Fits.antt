@@ -1,20 +1,20 @@
 -- What fits: a value its type, a cell its global, a state its scope. Places that are declared are held, and can be written.
 use mathlib.Core.Path.{_≡_, refl, sym, ap, ap₂, subst, _∙_}
-use mathlib.Core.Bool.{Bool, true, false, not, _&&_, _||_, false≢true}
+use mathlib.Core.Bool.{Bool, true, false, false≢true}
 use mathlib.Core.Option.{Option, none, some}
-use Prim.Native.Nat.{ℕ, zero, suc, _+_, _-_, _*_, _/_, _^_, _%_, _<_, _≤_}
+use Prim.Native.Nat.{ℕ, suc, _+_, _-_, _^_, _<_}
 use native.Mathlib.Omega.{arith}
-use mathlib.Core.List.{List, [], _∷_, map}
-use lib.Dec.{ltb, leb, eqb}
+use mathlib.Core.List.{List}
+use lib.Dec.{eqb}
 use lib.Bits.{bitAnd, bitOr, bitXor, and-lt, or-lt, xor-lt}
 use lib.ListN.{getElem?, length, length-append}
 use lib.Pow.{pow-pos}
 use borrow.Author.Tests.{eqb-true, ltb-true, lt-ltb, eq-eqb}
 use Rattle.rules.specs.Words.{fitsWidth, sum, difference, product, complementOf, shiftedLeft, shiftedRight, castTo, sliceFits, sliceWidth, sliceOf, joinFits, joined}
 use Rattle.rules.specs.Syntax.{Ty, bool, bits, Value, value, Global, Parameter, Program, Arithmetic, plus, minus, times, and, or, xor, Order, Shift, shiftLeft, shiftRight, Equality, Place, local, parameter, global, field}
-use Rattle.rules.specs.Form.{Res, ok, fault, _>>=_, named, need, andLook, onlyIf, sameTy, fits, Shape, aVariable, aHeader, shapeIn, globalAt, seesGlobals, Scope, judgeVariable, judgeField, judgeHeader, judgeGlobal, judgePlace, judgeHeaderAt, needTy, widthAt}
+use Rattle.rules.specs.Form.{Res, andLook, onlyIf, sameTy, fits, Shape, aVariable, aHeader, shapeIn, globalAt, seesGlobals, Scope, judgeVariable, judgeField, judgeHeader, judgeGlobal, judgePlace, judgeHeaderAt, needTy, widthAt}
 use Rattle.rules.specs.Lists.{Cell, variableCell, headerCell, markOf, slotsOfCell, slotsOf}
-use Rattle.rules.specs.Running.{State, change, numberOf, truth, variableTy, fieldTy, headerOnly, shapeFor, declared, variableIn, fieldIn, validIn, held, setVariable, setField, zeroed, makeValid, makeInvalid, withStore, withParameters, withLocals, changeStore, put}
+use Rattle.rules.specs.Running.{State, change, numberOf, truth, variableTy, fieldTy, headerOnly, shapeFor, declared, variableIn, fieldIn, held, setVariable, setField, zeroed, makeValid, makeInvalid, withStore, withParameters, withLocals, changeStore, put}
 use Rattle.rules.specs.Running.{calculate, compare, shiftBy, agree, arithmeticOn, orderOn, shiftOn, equalityOn, notOn, complementOn, castOn, sliceOn, concatenationOn, aBool}
 use Rattle.rules.proofs.Fitting.{sum-fits, difference-fits, product-fits, complement-fits, left-fits, right-fits, cast-fits, slice-fits, joined-fits}
 use Rattle.rules.proofs.Predicates.{All2, nil, cons, IfOk, isOk, isFault, IfSome, ifNone, ifSome, SomeOf, isSome, ok-then, ok-map, ok-found, ok-need, some-then, if-then, if-only, if-map, if-self, from-some, look-fits, change-fits}

@@ -12,7 +12,7 @@ use borrow.Author.Tests.{leb-true}
 use Rattle.rules.specs.Reading.{Got, got, bad, Reader}
 use Rattle.rules.specs.Reading as Reading
 use Rattle.rules.specs.Form.{Res, ok, fault, _>>=_, named, need, andLook, onlyIf}
-use Rattle.rules.specs.Running.{Out, done, stuck, full, M, more, next, pure, tick, orStuck, must, gets, setTo, puts, change}
+use Rattle.rules.specs.Running.{Out, done, full, M, more, next, pure, tick, orStuck, must, gets, setTo, puts, change}
 use Rattle.rules.specs.Running as Running
 
 -- two tests that hold together
@@ -75,11 +75,6 @@ pub ok-and : {A : Type 0} {P Q : A → Type 0} {r : Res A} → IfOk P r → IfOk
 ok-and (isOk p) (isOk q) = isOk (p, q)
 ok-and isFault q = isFault
 
-pub ok-named : {A : Type 0} {P : A → Type 0} {o : Option A} (at : ℕ) → IfSome P o → IfOk P (named at o)
-unfolding named
-ok-named at ifNone = isFault
-ok-named at (ifSome p) = isOk p
-
 pub ok-found : {A : Type 0} (at : ℕ) (o : Option A) → IfOk (λ a. o ≡ some a) (named at o)
 unfolding named
 ok-found at none = isFault
@@ -124,9 +119,6 @@ if-self (some a) = ifSome refl
 
 pub from-some : {A : Type 0} {P : A → Type 0} {a : A} → IfSome P (some a) → P a
 from-some (ifSome p) = p
-
-pub some-is : {A : Type 0} {P : A → Type 0} {a : A} → SomeOf P (some a) → P a
-some-is (isSome p) = p
 
 -- looking into a list that fits another, and changing one member of it
 pub look-fits : {A B : Type 0} {R : A → B → Type 0} {xs : List A} {ys : List B} → All2 R xs ys → (i : ℕ) → IfSome (λ a.

@@ -1,6 +1,6 @@
 -- The refusals of the judge's parts have numbers from 1 to 12, and places lie within the file.
-use mathlib.Core.Path.{_≡_, refl, sym}
-use mathlib.Core.Bool.{Bool, true, false, not, _&&_, _||_}
+use mathlib.Core.Path.{refl}
+use mathlib.Core.Bool.{Bool, true, false, _||_}
 use mathlib.Core.Option.{Option, none, some}
 use Prim.Native.Nat.{ℕ, zero, suc, _+_, _*_, _^_, _≤_}
 use native.Mathlib.Omega.{arith}
@@ -12,7 +12,7 @@ use Rattle.rules.specs.Syntax.{Ty, bool, bits, Operator, arithmetic, ord
 use Rattle.rules.specs.Syntax.{Expr, boolLiteral, bitsLiteral, readOf, validOf, negation, complement, binary, cast, slice, concatenation, callExpr, Args, noArgs, arg}
 use Rattle.rules.specs.Syntax.{Stmt, empty, assign, ifElse, block, callStmt, apply, returnValue, return, exit, setValid, setInvalid, Stmts, noStmts, stmt}
 use Rattle.rules.specs.Syntax.{Global, Parameter, Callable, Numeral, Key, Table, Program}
-use Rattle.rules.specs.Reading.{Got, got, bad, Reader, PlaceTag, tagLocal, tagParameter, tagGlobal, tagField, ExprTag, tagBool, tagBits, tagPlace, tagValid, tagNot, tagComplement, tagBinary, tagCast, tagSlice, tagConcatenation, tagCall}
+use Rattle.rules.specs.Reading.{Reader, PlaceTag, tagLocal, tagParameter, tagGlobal, tagField, ExprTag, tagBool, tagBits, tagPlace, tagValid, tagNot, tagComplement, tagBinary, tagCast, tagSlice, tagConcatenation, tagCall}
 use Rattle.rules.specs.Reading.{StmtTag, tagEmpty, tagAssign, tagIf, tagBlock, tagCallStmt, tagApply, tagReturnValue, tagReturn, tagExit, tagSetValid, tagSetInvalid, CallableKind, kindAction, kindFunction}
 use Rattle.rules.specs.Reading as Reading
 use Rattle.rules.specs.Form.{Res, ok, fault, _>>=_, named, need, Shape, aVariable, aHeader, Body, inFunction, inAction, inApply, Scope, Given}

@@ -1,28 +1,27 @@
 -- Soundness of bodies: what is well formed runs, within its ceiling, and keeps every parameter, local and global within its type.
-use mathlib.Core.Path.{_≡_, refl, sym, ap, subst, _∙_}
+use mathlib.Core.Path.{_≡_, refl, sym, _∙_}
 use mathlib.Core.Bool.{Bool, true, false, not, _&&_, _||_, false≢true}
 use mathlib.Core.Option.{Option, none, some}
-use Prim.Native.Nat.{ℕ, zero, suc, _+_, _<_, _≤_, max}
+use Prim.Native.Nat.{ℕ, zero, suc, _+_, _≤_, max}
 use native.Mathlib.Omega.{arith}
-use mathlib.Core.List.{List, [], _∷_, _++_, map}
-use lib.Dec.{ltb, leb, eqb}
-use lib.ListN.{getElem?, getD, length}
-use borrow.Author.Tests.{eqb-true, eqb-false, ltb-true, ltb-false, lt-ltb, le-ltb}
+use mathlib.Core.List.{List, [], _∷_, map}
+use lib.Dec.{leb}
+use lib.ListN.{getElem?, length}
 use Rattle.rules.specs.Words.{sliceFits, joinFits}
 use Rattle.rules.specs.Syntax.{Ty, bool, bits, Value, value, Direction, byNone, byIn, byOut, byInout, Operator, arithmetic, order, shift, equality, logic, Logic, both, either, Place}
 use Rattle.rules.specs.Syntax.{Expr, boolLiteral, bitsLiteral, readOf, validOf, negation, complement, binary, cast, slice, concatenation, callExpr, Args, noArgs, arg}
 use Rattle.rules.specs.Syntax.{Stmt, empty, assign, ifElse, block, callStmt, apply, returnValue, return, exit, setValid, setInvalid, Stmts, noStmts, stmt}
 use Rattle.rules.specs.Syntax.{Parameter, Callable, Program, placeIn}
-use Rattle.rules.specs.Form.{Res, ok, fault, _>>=_, named, need, andLook, onlyIf, sameTy, fits, aHeader, globalAt, callableBelow, wantsPlace, goesIn, comesBack, Body, inFunction, inAction, inApply, Scope, writable, writableIn}
-use Rattle.rules.specs.Form.{judgePlace, judgeHeaderAt, judgeOperator, Given, typesAgree, placesAgree, judgeGiven, functionTy, mayCall, judgeExpr, judgeArgs, judgeReturned, isApply, isFunction, judgeStmt, judgeStmts, returnsOn, someReturns, bodyOf, scopeOf, judgeCallable, judgeCallables}
-use Rattle.rules.specs.Ceiling.{ceilingExpr, ceilingArgs, ceilingStmt, ceilingStmts, calleeIn, noTable, ceilingAt, ceilingsBelow}
+use Rattle.rules.specs.Form.{Res, ok, _>>=_, named, need, onlyIf, sameTy, fits, aHeader, callableBelow, wantsPlace, goesIn, comesBack, Body, inFunction, inAction, inApply, Scope, writable, writableIn}
+use Rattle.rules.specs.Form.{judgePlace, judgeHeaderAt, judgeOperator, Given, typesAgree, placesAgree, judgeGiven, functionTy, mayCall, judgeExpr, judgeArgs, judgeReturned, isApply, isFunction, judgeStmt, judgeStmts, returnsOn, someReturns, bodyOf, scopeOf, judgeCallable}
+use Rattle.rules.specs.Ceiling.{ceilingExpr, ceilingArgs, ceilingStmt, ceilingStmts, noTable}
 use Rattle.rules.specs.Lists.{Cell}
-use Rattle.rules.specs.Running.{State, Ending, onward, returned, returnedValue, exited, Out, done, stuck, full, M, pure, tick, orStuck, must, gets, puts, nowhere, held, put, declared, shapeFor, headerOnly, readAt, writeAt, changeHeader, validAt, validIn, numberOf, truth, withStore, changeStore, makeValid, makeInvalid}
-use Rattle.rules.specs.Running.{choose, logicWith, binaryWith, andThenRun, valueOf, afterCall, bodyEnded, Calls, enter, onStore, declaredAs, outPlace, takeIn, goIn, writeBack, comeBack, afterBody, runCall, runExpr, runArgs, returnedFrom, notInFunction, runStmt, runStmts, left, leave, fresh, runBody, runNumber, callsBelow}
+use Rattle.rules.specs.Running.{State, Ending, onward, returned, returnedValue, exited, Out, full, M, tick, orStuck, must, nowhere, declared, readAt, writeAt, changeHeader, validAt, validIn, changeStore, makeValid, makeInvalid}
+use Rattle.rules.specs.Running.{choose, logicWith, binaryWith, andThenRun, valueOf, afterCall, bodyEnded, Calls, enter, onStore, declaredAs, outPlace, takeIn, goIn, writeBack, comeBack, afterBody, runCall, runExpr, runArgs, returnedFrom, notInFunction, runStmt, runStmts, left, leave, fresh, runBody}
 use Rattle.rules.specs.Running as Running
-use Rattle.rules.proofs.Predicates.{and-both, All2, nil, cons, IfOk, isOk, isFault, IfSome, ifNone, ifSome, SomeOf, isSome, ok-then, ok-map, ok-self, ok-and, ok-named, ok-found, ok-need, from-ok, some-then, if-then, if-map, if-self, from-some, look-fits}
-use Rattle.rules.proofs.Predicates.{Counts, at-most, Good, good, isFull, Runs, runs-then, runs-tick, runs-pure, runs-some, runs-must, runs-gets, runs-puts, runs-map, runs-le, runs-holds}
-use Rattle.rules.proofs.Fits.{Fit, HasTy, has, FitParameter, CellFits, variableFits, validFits, invalidFits, StoreFits, StateFits, sameTy-true, sameTy-refl, ok-type, ok-bits, zero-fits, number-of, truth-has, make-valid, make-invalid, store-look, store-change, with-store, held-at, put-at, declared-ok, header-at}
+use Rattle.rules.proofs.Predicates.{and-both, All2, nil, cons, IfOk, isOk, isFault, IfSome, ifNone, ifSome, SomeOf, isSome, ok-then, ok-map, ok-self, ok-and, ok-found, ok-need, from-ok, some-then, from-some}
+use Rattle.rules.proofs.Predicates.{at-most, Good, good, isFull, Runs, runs-then, runs-tick, runs-pure, runs-some, runs-must, runs-gets, runs-puts, runs-map, runs-le, runs-holds}
+use Rattle.rules.proofs.Fits.{Fit, HasTy, has, FitParameter, CellFits, validFits, invalidFits, StoreFits, StateFits, sameTy-true, sameTy-refl, ok-type, ok-bits, zero-fits, number-of, truth-has, make-valid, make-invalid, store-look, store-change, with-store, held-at, put-at, declared-ok, header-at}
 use Rattle.rules.proofs.Fits.{arithmetic-ok, order-ok, shift-ok, equality-ok, not-ok, complement-ok, cast-ok, slice-ok, concatenation-ok, bool-ok}
 
 -- how a body may end: `must` says that it has to return a value

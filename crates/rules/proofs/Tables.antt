@@ -1,22 +1,22 @@
 -- Soundness of apply: a table that is well formed, with entries that fit it, runs within its ceiling.
-use mathlib.Core.Path.{_≡_, refl, sym, ap, _∙_}
-use mathlib.Core.Bool.{Bool, true, false, _&&_, _||_, false≢true}
+use mathlib.Core.Path.{_≡_, refl}
+use mathlib.Core.Bool.{Bool, true, false, _&&_, false≢true}
 use mathlib.Core.Option.{Option, none, some}
-use Prim.Native.Nat.{ℕ, zero, suc, _+_, _<_, _≤_, max}
+use Prim.Native.Nat.{ℕ, zero, suc, _<_, _≤_}
 use native.Mathlib.Omega.{arith}
 use mathlib.Core.List.{List, [], _∷_, map}
-use lib.Dec.{ltb, eqb}
+use lib.Dec.{eqb}
 use lib.ListN.{getElem?, length}
 use borrow.Author.Tests.{eqb-true, lt-ltb}
-use Rattle.rules.specs.Syntax.{Ty, bool, bits, Value, value, Parameter, Callable, Numeral, Key, Table, Program}
-use Rattle.rules.specs.Form.{Res, ok, fault, _>>=_, named, need, andLook, onlyIf, fits, callableBelow, inApply, Scope, isFunction, applyScope, widthAt, judgeExpr, judgeActions, judgeKeys, keysAreBits, literalsFit, oneLpm, listable, judgeListed, judgeTable}
-use Rattle.rules.specs.Ceiling.{ceilingExpr, ceilingKeys, largestOf, ceilingTable}
-use Rattle.rules.specs.Lists.{Pattern, Entry, widthOf, keyWidth, actionAt}
-use Rattle.rules.specs.Running.{State, Ending, Calls, argumentsFit, patternsFit, argumentsGiven, matchesAll, Found, found, nothing, better, lookUp, longestWins, entriesOf, Worked, worked, isFine, entriesFit, runKeys, runAction, runFound, runTable, afterCall, orStuck, must}
+use Rattle.rules.specs.Syntax.{Ty, bool, bits, Value, Parameter, Callable, Numeral, Key, Table, Program}
+use Rattle.rules.specs.Form.{Res, ok, fault, _>>=_, andLook, onlyIf, fits, callableBelow, inApply, isFunction, applyScope, widthAt, judgeExpr, judgeActions, judgeKeys, keysAreBits, literalsFit, oneLpm, listable, judgeListed, judgeTable}
+use Rattle.rules.specs.Ceiling.{ceilingKeys, largestOf, ceilingTable}
+use Rattle.rules.specs.Lists.{Entry, widthOf, keyWidth, actionAt}
+use Rattle.rules.specs.Running.{State, Calls, argumentsFit, patternsFit, argumentsGiven, matchesAll, Found, found, nothing, beats, better, lookUp, longestWins, entriesOf, Worked, worked, isFine, entriesFit, runKeys, runAction, runFound, runTable, afterCall, must}
 use Rattle.rules.specs.Running as Running
-use Rattle.rules.proofs.Predicates.{and-both, both-true, All2, nil, cons, All, none-left, also, IfOk, isOk, isFault, IfSome, ifNone, ifSome, SomeOf, isSome, ok-then, ok-map, ok-self, ok-and, ok-found, ok-need, from-ok, some-is, from-some, if-map, look-fits, Runs, at-most, runs-then, runs-pure, runs-some, runs-must, runs-le, runs-known, runs-holds}
-use Rattle.rules.proofs.Fits.{Fit, HasTy, has, FitParameter, StateFits, ok-bits}
-use Rattle.rules.proofs.Sound.{EndOk, okOnward, okExit, CallOk, CallsOk, on-store, after-call, sound-expr}
+use Rattle.rules.proofs.Predicates.{and-both, both-true, All2, nil, cons, All, none-left, also, IfOk, isOk, isFault, IfSome, ifNone, ifSome, SomeOf, isSome, ok-then, ok-map, ok-self, ok-and, ok-found, ok-need, from-some, if-map, look-fits, Runs, at-most, runs-then, runs-pure, runs-some, runs-must, runs-le, runs-known, runs-holds}
+use Rattle.rules.proofs.Fits.{HasTy, has, FitParameter, StateFits}
+use Rattle.rules.proofs.Sound.{EndOk, CallsOk, on-store, after-call, sound-expr}
 
 -- an entry that fits its table
 abbrev pub EntryOk : Program → Entry → Type 0
@@ -46,8 +46,7 @@ better-ok : (P : Program) (T : Table) (longest : Bool) {b : Found} → FoundOk P
     → argumentsGiven (actionAt P T (e .position)) (e .arguments) ≡ true → FoundOk P T (better longest b e)
 unfolding better
 better-ok P T longest nothingOk e h = foundOk h
-better-ok P T longest (foundOk {e = b} g) e h = go (longest && ltb (Running.prefixOf (b .patterns)) (Running.prefixOf
-    (e .patterns)))
+better-ok P T longest (foundOk {e = b} g) e h = go (beats longest e b)
   where
     go : (x : Bool) → FoundOk P T (elim x [ true ↦ found e | false ↦ found b ])
     go true = foundOk h

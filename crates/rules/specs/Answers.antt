@@ -2,7 +2,7 @@
 -- list of numbers: 0, a refusal's number and its place; or 1 (2 where a run ends by exit) and what is told. A stuck run
 -- would be 3, which is no answer. Answers depend on the bytes or numbers given and on how many slots are lent: what the
 -- slots held occurs only in what is left.
-use mathlib.Core.Bool.{Bool, true, false, _&&_}
+use mathlib.Core.Bool.{true, false, _&&_}
 use Prim.Native.Nat.{ℕ}
 use mathlib.Core.List.{List, [], _∷_, _++_}
 use lib.Dec.{leb}

@@ -29,7 +29,7 @@ unfoldable pub named : {A : Type 0} → ℕ → Option A → Res A
 named at none = fault 6 at
 named at (some a) = ok a
 
--- a rule, 7 or 8
+-- a rule, with the number of its refusal
 unfoldable pub need : ℕ → ℕ → Bool → Res (Unit {0})
 need number at true = ok tt
 need number at false = fault number at

@@ -1,6 +1,6 @@
 -- The bench file as numbers (document 01, "The bench file", first paragraph; refusals 1, 2 and 3; places). A number is
 -- written in groups of seven bits, the least significant first; each byte but the last has its top bit set.
-use mathlib.Core.Bool.{Bool, true, false, _&&_, _||_}
+use mathlib.Core.Bool.{true, false, _&&_, _||_}
 use Prim.Native.Nat.{ℕ, zero, suc, _+_, _-_, _*_, _/_, _%_, _^_}
 use mathlib.Core.List.{List, [], _∷_, _++_}
 use lib.Dec.{ltb, leb, eqb}

@@ -521,13 +521,13 @@ pub data Found : Type 0 where
   found : Entry → Found
   nothing : Found
 
--- the better of two, of which the first is the earlier
+-- whether an entry beats one that stands before it: ties go to the earlier
+unfoldable pub beats : Bool → Entry → Entry → Bool
+beats longest e earlier = longest && ltb (prefixOf (earlier .patterns)) (prefixOf (e .patterns))
+
 unfoldable pub better : Bool → Found → Entry → Found
 better longest nothing e = found e
-better longest (found b) e = elim (longest && ltb (prefixOf (b .patterns)) (prefixOf (e .patterns))) [
-  | true ↦ found e
-  | false ↦ found b
-]
+better longest (found b) e = elim (beats longest e b) [ true ↦ found e | false ↦ found b ]
 
 unfoldable pub lookUp : Bool → List Worked → Found → List Entry → Found
 lookUp longest ks best [] = best
