@@ -17,7 +17,7 @@ use Rattle.rules.specs.Form.{judgePlace, judgeHeaderAt, judgeOperator, G
 use Rattle.rules.specs.Ceiling.{ceilingExpr, ceilingArgs, ceilingStmt, ceilingStmts, noTable}
 use Rattle.rules.specs.Lists.{Cell}
 use Rattle.rules.specs.Running.{State, Ending, onward, returned, returnedValue, exited, Out, full, M, tick, orStuck, must, nowhere, declared, readAt, writeAt, changeHeader, validAt, validIn, changeStore, makeValid, makeInvalid}
-use Rattle.rules.specs.Running.{choose, logicWith, binaryWith, andThenRun, valueOf, afterCall, bodyEnded, Calls, enter, onStore, declaredAs, outPlace, takeIn, goIn, writeBack, comeBack, afterBody, runCall, runExpr, runArgs, returnedFrom, notInFunction, runStmt, runStmts, left, leave, fresh, runBody}
+use Rattle.rules.specs.Running.{choose, logicWith, binaryWith, andThenRun, valueOf, afterCall, bodyEnded, Calls, enter, onStore, declaredAs, outPlace, takeIn, goIn, writeBack, inTurn, comeBack, afterBody, runCall, runExpr, runArgs, returnedFrom, notInFunction, runStmt, runStmts, left, leave, fresh, runBody}
 use Rattle.rules.specs.Running as Running
 use Rattle.rules.proofs.Predicates.{and-both, All2, nil, cons, IfOk, isOk, isFault, IfSome, ifNone, ifSome, SomeOf, isSome, ok-then, ok-map, ok-self, ok-and, ok-found, ok-need, from-ok, some-then, from-some}
 use Rattle.rules.proofs.Predicates.{at-most, Good, good, isFull, Runs, runs-then, runs-tick, runs-pure, runs-some, runs-must, runs-gets, runs-puts, runs-map, runs-le, runs-holds}
@@ -276,6 +276,16 @@ module _ (Γ : Scope) where
     write-back d w b n hn = write-place place (either-true (wantsPlace d) (writableIn Γ place) w
         (back-place d b)) declares n hn
 
+  -- that writes run does not depend on their order
+  both-run : {a b : M State (Unit {0})} → Runs _≤_ Fine (λ _. Unit {0}) 0 a → Runs _≤_ Fine (λ _. Unit {0}) 0 b
+      → Runs _≤_ Fine (λ _. Unit {0}) 0 (Running._>>=_ a λ _. b)
+  both-run h k = runs-then at-most h λ _ _. k
+
+  in-turn : {a b : M State (Unit {0})} → Runs _≤_ Fine (λ _. Unit {0}) 0 a → Runs _≤_ Fine (λ _. Unit {0}) 0 b
+      → Runs _≤_ Fine (λ _. Unit {0}) 0 (inTurn a b)
+  unfolding inTurn
+  in-turn h k = search both-run
+
   abbrev Back : Args → List Parameter → Type 0
   Back xs ps = (ns : List ℕ) → All2 FitParameter ps ns → Runs _≤_ Fine (λ _. Unit {0}) 0 (comeBack Γ xs ps ns)
 
@@ -291,10 +301,10 @@ module _ (Γ : Scope) where
   back-cons e xs p ps h k _ (cons {b = n} {ys = ns} r rs) = go (comesBack (p .direction)) refl
     where
       go : (b : Bool) → comesBack (p .direction) ≡ b → Runs _≤_ {B = Unit {0}} Fine (λ _. Unit {0}) 0 (elim b [
-        | true ↦ Running._>>=_ (writeBack Γ (placeIn e) (value (p .ty) n)) (λ _. comeBack Γ xs ps ns)
+        | true ↦ inTurn (writeBack Γ (placeIn e) (value (p .ty) n)) (comeBack Γ xs ps ns)
         | false ↦ comeBack Γ xs ps ns
       ])
-      go true q = runs-then at-most (h q n r) λ _ _. k ns rs
+      go true q = in-turn (h q n r) (k ns rs)
       go false q = k ns rs
 
 -- the meaning of calls is given: expressions and arguments

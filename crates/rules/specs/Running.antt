@@ -340,6 +340,10 @@ unfoldable pub writeBack : Scope → Option Place → Value → M State (Unit {0
 writeBack Γ none v = nowhere
 writeBack Γ (some p) v = writeAt Γ p v
 
+-- one write, then the others
+unfoldable pub inTurn : {S : Type 0} → M S (Unit {0}) → M S (Unit {0}) → M S (Unit {0})
+inTurn first others = first >>= λ _. others
+
 -- what comes back, from left to right
 unfoldable pub comeBack : Scope → Args → List Parameter → List ℕ → M State (Unit {0})
 comeBack Γ noArgs [] [] = pure tt
@@ -348,7 +352,7 @@ comeBack Γ noArgs (p ∷ ps) ns = nowhere
 comeBack Γ (arg e xs) [] ns = nowhere
 comeBack Γ (arg e xs) (p ∷ ps) [] = nowhere
 comeBack Γ (arg e xs) (p ∷ ps) (n ∷ ns) = elim (comesBack (p .direction)) [
-  | true ↦ writeBack Γ (placeIn e) (value (p .ty) n) >>= λ _. comeBack Γ xs ps ns
+  | true ↦ inTurn (writeBack Γ (placeIn e) (value (p .ty) n)) (comeBack Γ xs ps ns)
   | false ↦ comeBack Γ xs ps ns
 ]
 
