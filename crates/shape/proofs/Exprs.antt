@@ -1,19 +1,20 @@
 -- Scanning an expression: what its lead is by its tag, and that lead and operands together are the expression.
 use mathlib.Core.Option.{Option, none, some}
 use mathlib.Core.Path.{_≡_, refl, sym, _∙_}
-use mathlib.Core.List.{List}
-use Prim.Native.Nat.{ℕ, suc, _+_, _-_, _≤_, _<_, _^_}
+use mathlib.Core.List.{List, [], _∷_}
+use Prim.Native.Nat.{ℕ, zero, suc, _+_, _-_, _*_, _≤_, _<_, _^_}
 use native.Mathlib.Omega.{arith}
 use native.Mathlib.Numerals.{add-one}
-use lib.ListN.{length, getD, getElem?}
-use lib.Dec.{lit<}
-use Rattle.rules.specs.Syntax.{Expr}
-use Rattle.rules.specs.Reading.{Reader, _>>=_, number, standsFor, between, repeat, listOf, tooDeep}
+use lib.ListN.{length, getD, drop, set, getElem?}
+use Rattle.rules.specs.Syntax.{Operator, Place, Expr, boolLiteral, bitsLiteral, readOf, validOf, negation, complement, binary, cast, slice, concatenation, callExpr}
+use Rattle.rules.specs.Reading.{Got, got, bad, Reader, andThen, _>>=_, pure, here, number, meaning, standsFor, between, repeat, listOf, tooDeep}
 use Rattle.rules.specs.Reading.{tagLocal, tagParameter, tagGlobal, tagField, ExprTag, tagBool, tagBits, tagPlace, tagValid, tagNot, tagComplement, tagBinary, tagCast, tagSlice, tagConcatenation, tagCall}
-use Rattle.rules.specs.Reading.{operators, exprTags, readPlace, readExprAs, readExpr}
-use Rattle.rules.proofs.Readers.{Keeps, keeps-number, keeps-stands, keeps-between, keeps-list, keeps-place, keeps-expr}
-use Rattle.shape.specs.Scans.{scanOf}
-use Rattle.shape.specs.Leads.{onScan, readLiteral, valueOf, onValue, leadBy, onLead, argumentsLead, callLead, formOf, exprForm, exprLead, Counts, LeadsExpr}
+use Rattle.rules.specs.Reading.{operators, exprTags, toArgs, readPlace, readExprAs, readExpr}
+use Rattle.rules.proofs.Readers.{Keeps, keeps-number, keeps-stands, keeps-between, keeps-list, keeps-place, keeps-expr, keeps-repeat, looked-in, Gives, gives-then, gives-pure, Starts, starts-here, starts-deep}
+use Rattle.shape.specs.Scans.{forget, scanOf}
+use Rattle.shape.specs.Ends.{mostNumbers, exprAt, argsAt, layExpr, layArgs, firstAt, layAll}
+use Rattle.shape.specs.Walks.{Laid, Lays}
+use Rattle.shape.specs.Leads.{onScan, readLiteral, valueOf, onValue, leadBy, onLead, argumentsLead, callLead, formOf, exprForm, exprLead, LeadsExpr, Agree, AgreeOn, Made, layExprs, readOperands, Tagged}
 use Rattle.shape.specs.declared.Scan.{Scan}
 use Rattle.shape.specs.declared.Scan.the-variants.{Past, Fault}
 use Rattle.shape.specs.declared.Value.{Value}
@@ -22,9 +23,10 @@ use Rattle.shape.specs.declared.Lead.{Lead}
 use Rattle.shape.specs.declared.Lead.the-variants.{On, Off}
 use Rattle.shape.specs.declared.ExprForm.{ExprForm}
 use Rattle.shape.specs.declared.ExprForm.the-variants.{Number, Field, Literal, Operand, Binary, Cast, Slice, Operands, Call, Unlisted}
-use Rattle.shape.proofs.Rank.{rank, to-list, to-member, to-rest}
 use Rattle.shape.proofs.Laws.{on-past, on-fault, Scans, scans-self, scans-then, scans-pure, scans-last, scans-as, scan-here, stands-is, stands-none, stands-out}
-use Rattle.shape.proofs.Laws.{none-past, deep-same, repeat-none, repeat-past, repeat-fault, scans-none, scans-one, scans-two, list-scan, spans-scan, spans-list, AtMost, value-most}
+use Rattle.shape.proofs.Laws.{none-past, scans-none, scans-one, scans-two, list-scan, spans-scan, spans-list}
+use Rattle.shape.proofs.Agrees.{alike-one, alike-two, alike-all, agree-lead, agree-two, agree-none, agree-call, behind-tag, tag-in}
+use Rattle.shape.proofs.Lays.{Done, lays-done, lays-none, lays-deep, all-none, all-past, all-fault, Pending, pending-first}
 
 -- the numbers behind a tag
 module _ (nums : List ℕ) (at n number₁ index : ℕ) (a r : Scan) where
@@ -350,33 +352,105 @@ module _ (version depth : ℕ) (nums : List ℕ) (at : ℕ) where
   expr-missing h = scan-here nums at behind
       ∙ stands-out (getElem? (exprTags version)) (λ tag. readExprAs version tag at (readExpr version depth)) nums at h
 
-pub counts-by : (s : Scan) (n m : ℕ) → n < 2 ^ 64 → m < 2 ^ 64 → Counts (leadBy s n m)
-unfolding leadBy Counts
-counts-by (Past next) n m h l = (h, l)
-counts-by (Fault fault index) n m h l = tt
+-- the slots of an expression are those of its operands and its own
+pub args-at : (version : ℕ) (xs : List Expr) (end : ℕ) → argsAt (toArgs version xs) end ≡ firstAt exprAt xs end
+unfolding argsAt toArgs firstAt
+args-at version [] end = refl
+args-at version (x ∷ xs) end = refl
 
-counts-arguments : (v : Value) → AtMost 8 v → Counts (argumentsLead v)
-unfolding argumentsLead Counts AtMost
-counts-arguments (Of n next) h = (omega arith, lit< tt)
-counts-arguments (Unread fault index) h = tt
+pub args-laid : (version : ℕ) (xs : List Expr) (end : ℕ) (slots : List ℕ)
+    → layArgs (toArgs version xs) end slots ≡ layExprs xs end slots
+unfolding layArgs toArgs layExprs layAll
+args-laid version [] end slots = refl
+args-laid version (x ∷ xs) end slots =
+    rw (args-at version xs end) (args-laid version xs end (layExpr x (firstAt exprAt xs end) slots))
 
-pub counts-call : (nums : List ℕ) (s : Scan) → Counts (callLead nums s)
-unfolding callLead Counts
-counts-call nums (Past next) = counts-arguments (valueOf 0 8 nums next) (value-most 0 8 nums next)
-counts-call nums (Fault fault index) = tt
+-- what holds of an expression and its operands, at each tag
+pub record ExprNodes (version at : ℕ) (P : Expr → List Expr → Type 0) : Type 0 where
+  pub bool-node : (n : ℕ) → P (boolLiteral at n) []
+  pub bits-node : (width n : ℕ) → P (bitsLiteral at width n) []
+  pub read-node : (p : Place) → P (readOf at p) []
+  pub valid-node : (g : ℕ) → P (validOf at g) []
+  pub not-node : (a : Expr) → P (negation at a) (a ∷ [])
+  pub complement-node : (a : Expr) → P (complement at a) (a ∷ [])
+  pub binary-node : (o : Operator) (a b : Expr) → P (binary at o a b) (a ∷ b ∷ [])
+  pub cast-node : (width : ℕ) (a : Expr) → P (cast at width a) (a ∷ [])
+  pub slice-node : (high low : ℕ) (a : Expr) → P (slice at high low a) (a ∷ [])
+  pub concatenation-node : (a b : Expr) → P (concatenation at a b) (a ∷ b ∷ [])
+  pub call-node : (f : ℕ) (xs : List Expr) → P (callExpr at f (toArgs version xs)) xs
 
-counts-expr : (version : ℕ) (f : ExprForm) (nums : List ℕ) (at : ℕ) → Counts (exprLead version f nums at)
-unfolding exprLead Counts
-counts-expr version Number nums at = counts-by _ 0 0 (lit< tt) (lit< tt)
-counts-expr version Field nums at = counts-by _ 0 0 (lit< tt) (lit< tt)
-counts-expr version Literal nums at = counts-by _ 0 0 (lit< tt) (lit< tt)
-counts-expr version Operand nums at = counts-by _ 1 0 (lit< tt) (lit< tt)
-counts-expr version Binary nums at = counts-by _ 2 0 (lit< tt) (lit< tt)
-counts-expr version Cast nums at = counts-by _ 1 0 (lit< tt) (lit< tt)
-counts-expr version Slice nums at = counts-by _ 1 0 (lit< tt) (lit< tt)
-counts-expr version Operands nums at = counts-by _ 2 0 (lit< tt) (lit< tt)
-counts-expr version Call nums at = counts-call nums (scanOf number nums (at + 1))
-counts-expr version Unlisted nums at = tt
+module _ (version depth : ℕ) (nums : List ℕ) (at : ℕ) (P : Expr → List Expr → Type 0) (N : ExprNodes version at P)
+  where
+    abbrev operand : Reader Expr
+    operand = readExpr version depth
+
+    abbrev parts : ℕ → ℕ → Reader (List Expr)
+    parts = readOperands version depth
+
+    none-read : (left : List ℕ) (i : ℕ) → parts 0 0 left i ≡ got [] left i
+    unfolding readOperands repeat pure
+    none-read left i = refl
+
+    tree-as : (tag : ExprTag)
+        → AgreeOn P (readExprAs version tag at operand (drop (at + 1) nums) (at + 1)) parts nums
+        (exprLead version (formOf (some tag)) nums at)
+    unfolding readExprAs readOperands readPlace exprLead formOf
+    tree-as tagBool =
+        agree-none P parts nums (at + 1) _ [] _ _ _ (gives-then _ λ n. gives-pure _ _ (N .bool-node n)) none-read
+    tree-as tagBits =
+        agree-none P parts nums (at + 1) _ [] _ _ _
+        (gives-then _ λ w. gives-then _ λ n. gives-pure _ _ (N .bits-node w n)) none-read
+    tree-as (tagPlace tagLocal) =
+        agree-none P parts nums (at + 1) _ [] _ _ _ (gives-then _ λ p. gives-pure _ _ (N .read-node p)) none-read
+    tree-as (tagPlace tagParameter) =
+        agree-none P parts nums (at + 1) _ [] _ _ _ (gives-then _ λ p. gives-pure _ _ (N .read-node p)) none-read
+    tree-as (tagPlace tagGlobal) =
+        agree-none P parts nums (at + 1) _ [] _ _ _ (gives-then _ λ p. gives-pure _ _ (N .read-node p)) none-read
+    tree-as (tagPlace tagField) =
+        agree-none P parts nums (at + 1) _ [] _ _ _ (gives-then _ λ p. gives-pure _ _ (N .read-node p)) none-read
+    tree-as tagValid =
+        agree-none P parts nums (at + 1) _ [] _ _ _ (gives-then _ λ g. gives-pure _ _ (N .valid-node g)) none-read
+    tree-as tagNot = behind-tag P parts nums at 1 0 (alike-one P operand _ (N .not-node))
+    tree-as tagComplement = behind-tag P parts nums at 1 0 (alike-one P operand _ (N .complement-node))
+    tree-as tagBinary =
+        agree-lead P parts nums (at + 1) 2 0 (keeps-stands _) λ o. alike-two P operand _ (N .binary-node o)
+    tree-as tagCast =
+        agree-lead P parts nums (at + 1) 1 0 (keeps-between 1 64) λ w. alike-one P operand _ (N .cast-node w)
+    tree-as tagSlice =
+        agree-two P parts nums (at + 1) 1 0 (keeps-between 0 63) λ u v. alike-one P operand _ (N .slice-node u v)
+    tree-as tagConcatenation = behind-tag P parts nums at 2 0 (alike-two P operand _ (N .concatenation-node))
+    tree-as tagCall =
+        agree-call P parts nums (at + 1) operand _ λ f n. alike-all P (repeat n operand) _ (N .call-node f)
+
+    pub expr-agrees : at < length nums
+        → AgreeOn P (readExpr version (suc depth) (drop at nums) at) parts nums
+        (exprLead version (exprForm version (getD nums at 0)) nums at)
+    unfolding readExpr exprForm here _>>=_ andThen standsFor meaning AgreeOn exprLead formOf
+    expr-agrees h =
+        rw (looked-in 4 (getElem? (exprTags version)) nums at h) (go (getElem? (exprTags version) (getD nums at 0)))
+      where
+        go : (x : Option ExprTag)
+            → AgreeOn P
+            (andThen (meaning 4 x (drop (suc at) nums) at) (λ tag. readExprAs version tag at operand)) parts nums
+            (exprLead version (formOf x) nums at)
+        go none = tt
+        go (some tag) = rw (← add-one at) (tree-as tag)
+
+made-nodes : (version at : ℕ) (slots : List ℕ) → ExprNodes version at (Made layExpr layExprs at slots slots)
+unfolding layExpr layExprs layAll firstAt
+made-nodes version at slots = record {
+  bool-node = λ n. record { made = λ end. refl };
+  bits-node = λ w n. record { made = λ end. refl };
+  read-node = λ p. record { made = λ end. refl };
+  valid-node = λ g. record { made = λ end. refl };
+  not-node = λ a. record { made = λ end. refl };
+  complement-node = λ a. record { made = λ end. refl };
+  binary-node = λ o a b. record { made = λ end. refl };
+  cast-node = λ w a. record { made = λ end. refl };
+  slice-node = λ h l a. record { made = λ end. refl };
+  concatenation-node = λ a b. record { made = λ end. refl };
+  call-node = λ f xs. record { made = λ end. rw (args-laid version xs end slots) };
+}
 
 pub leads-is : (version : ℕ) (nums : List ℕ) (at : ℕ) (f : ExprForm) (r : Lead) → at < length nums
     → f ≡ exprForm version (getD nums at 0)
@@ -385,13 +459,14 @@ unfolding operands-of
 leads-is version nums at f r h e q =
     record {
       expr = λ depth. rw (q, e) (expr-scan version depth nums at h);
-      counts = rw q
-          (counts-expr version f nums at);
+      tree = λ depth slots. rw (q, e) (expr-agrees version depth nums at _ (made-nodes version at slots) h);
+      tag = rw q (tag-in nums at (exprLead version f nums at) h);
     }
 
 pub leads-missing : (version : ℕ) (nums : List ℕ) (at : ℕ) → length nums ≤ at → LeadsExpr version nums at (Off 4 at)
-unfolding onLead Counts
-leads-missing version nums at h = record { expr = λ depth. expr-missing version depth nums at h; counts = tt }
+unfolding onLead AgreeOn Tagged
+leads-missing version nums at h =
+    record { expr = λ depth. expr-missing version depth nums at h; tree = λ depth slots. tt; tag = tt }
 
 pub ruleset exprs = (leads-is, leads-missing)
 
@@ -399,48 +474,135 @@ pub ruleset exprs = (leads-is, leads-missing)
 pub one-less : (n : ℕ) → (n ≡ 0 → ⊥) → suc (n - 1) ≡ n
 one-less n x = omega arith
 
-module _ (version depth : ℕ) (nums : List ℕ) (at : ℕ) where
-  pub expr-deep : (r : Scan) → depth ≡ 0 → r ≡ scanOf (tooDeep {A = ℕ}) nums at
-      → r ≡ scanOf (readExpr version depth) nums at
-  unfolding readExpr
-  expr-deep r e q = rw e (q ∙ deep-same Expr nums at)
+-- an expression carries its tag's index
+gives-expr : (version : ℕ) (tag : ExprTag) (at : ℕ) (operand : Reader Expr)
+    → Gives (λ e. exprAt e ≡ at) (readExprAs version tag at operand)
+unfolding readExprAs exprAt
+gives-expr version tagBool at operand = gives-then _ λ n. gives-pure _ _ refl
+gives-expr version tagBits at operand = gives-then _ λ w. gives-then _ λ n. gives-pure _ _ refl
+gives-expr version (tagPlace t) at operand = gives-then _ λ p. gives-pure _ _ refl
+gives-expr version tagValid at operand = gives-then _ λ g. gives-pure _ _ refl
+gives-expr version tagNot at operand = gives-then _ λ a. gives-pure _ _ refl
+gives-expr version tagComplement at operand = gives-then _ λ a. gives-pure _ _ refl
+gives-expr version tagBinary at operand =
+    gives-then _ λ o. gives-then _ λ a. gives-then _ λ b. gives-pure _ _ refl
+gives-expr version tagCast at operand = gives-then _ λ w. gives-then _ λ a. gives-pure _ _ refl
+gives-expr version tagSlice at operand =
+    gives-then _ λ h. gives-then _ λ l. gives-then _ λ a. gives-pure _ _ refl
+gives-expr version tagConcatenation at operand = gives-then _ λ a. gives-then _ λ b. gives-pure _ _ refl
+gives-expr version tagCall at operand = gives-then _ λ f. gives-then _ λ xs. gives-pure _ _ refl
 
-  pub expr-on : (lead : Lead) (next operands statements : ℕ) (r : Scan) → (depth ≡ 0 → ⊥)
+pub starts-expr : (version depth : ℕ) → Starts exprAt (readExpr version depth)
+unfolding readExpr
+starts-expr version zero = starts-deep exprAt
+starts-expr version (suc depth) = starts-here λ at. gives-then _ λ tag. gives-expr version tag at _
+
+-- what stands in a construct is laid, and then its own slot
+pub construct : {A B : Type 0} {lay : A → ℕ → List ℕ → List ℕ} {layParts : B → ℕ → List ℕ → List ℕ} {read : Reader A}
+    {parts : Reader B} {nums : List ℕ} {at next end : ℕ} {found first mid : List ℕ} {a : Scan}
+    → Keeps parts
+    → Agree (Made lay layParts at found first) (read (drop at nums) at) (parts (drop next nums) next)
+    → Past end ≡ scanOf read nums at → Lays parts layParts nums next first mid a → a ≡ Past end
+    → Lays read lay nums at found (set mid at end) (Past end)
+unfolding scanOf forget Laid Agree
+construct {A} {B} {lay} {layParts} {read} {parts} {nums} {at} {next} {end} {found} {first} {mid} {a} h t e w p =
+    let d : (b : B) × Done parts layParts nums next first mid end b = lays-done h w end p in
+    record { scan = e; laid = go (d .0) (read (drop at nums) at) e (rw (d .1 .gave) at t) (d .1 .laid) }
+  where
+    go : (b : B) (x : Got A) → Past end ≡ forget x
+        → Agree (Made lay layParts at found first) x (got b (drop end nums) end)
+        → mid ≡ layParts b end first → Laid x lay found (set mid at end)
+    go b (got c left m) q u l =
+        let same : m ≡ end = cc in
+        rw (same, l) (sym (u .made end))
+    go b (bad fault index) q u l = tt
+
+module _ (version depth : ℕ) (nums : List ℕ) (at : ℕ) (found : List ℕ) where
+  pub expr-deep : (r : Scan) → depth ≡ 0 → r ≡ scanOf (tooDeep {A = ℕ}) nums at
+      → Lays (readExpr version depth) layExpr nums at found found r
+  unfolding readExpr
+  expr-deep r e q = rw e (lays-deep layExpr nums at found found r q)
+
+  expr-tree-on : (lead : Lead) (next operands statements : ℕ) → (depth ≡ 0 → ⊥) → LeadsExpr version nums at lead
+      → lead ≡ On next operands statements
+      → Agree (Made layExpr layExprs at found found) (readExpr version depth (drop at nums) at)
+      (repeat operands (readExpr version (depth - 1)) (drop next nums) next)
+  unfolding AgreeOn readOperands
+  expr-tree-on lead next operands statements x l p = rw (one-less depth x, p) at (l .tree (depth - 1) found)
+
+  expr-scan-on : (lead : Lead) (next operands statements : ℕ) (r : Scan) → (depth ≡ 0 → ⊥)
       → LeadsExpr version nums at lead
       → lead ≡ On next operands statements → r ≡ scanOf (repeat operands (readExpr version (depth - 1))) nums next
       → r ≡ scanOf (readExpr version depth) nums at
   unfolding onLead
-  expr-on lead next operands statements r x l p q = q ∙ sym (rw (one-less depth x, p) at (l .expr (depth - 1)))
+  expr-scan-on lead next operands statements r x l p q = q ∙ sym (rw (one-less depth x, p) at (l .expr (depth - 1)))
 
-  pub expr-off : (lead : Lead) (fault index : ℕ) → (depth ≡ 0 → ⊥) → LeadsExpr version nums at lead
-      → lead ≡ Off fault index
-      → Fault fault index ≡ scanOf (readExpr version depth) nums at
+  pub expr-on : (lead : Lead) (next operands statements end : ℕ) (mid : List ℕ) (a : Scan) → (depth ≡ 0 → ⊥)
+      → LeadsExpr version nums at lead
+      → lead ≡ On next operands statements
+      → Lays (repeat operands (readExpr version (depth - 1))) layExprs nums next found mid a → a ≡ Past end
+      → Lays (readExpr version depth) layExpr nums at found (set mid at end) (Past end)
+  expr-on lead next operands statements end mid a x l p w q =
+      construct (keeps-repeat operands (keeps-expr version (depth - 1)))
+      (expr-tree-on lead next operands statements x l p)
+      (sym q ∙ expr-scan-on lead next operands statements a x l p (w .scan)) w q
+
+  pub expr-inside : (lead : Lead) (next operands statements f i : ℕ) (mid : List ℕ) (a : Scan) → (depth ≡ 0 → ⊥)
+      → LeadsExpr version nums at lead
+      → lead ≡ On next operands statements
+      → Lays (repeat operands (readExpr version (depth - 1))) layExprs nums next found mid a → a ≡ Fault f i
+      → Lays (readExpr version depth) layExpr nums at found mid (Fault f i)
+  expr-inside lead next operands statements f i mid a x l p w q =
+      lays-none (readExpr version depth) layExpr nums at f i found mid
+      (sym q ∙ expr-scan-on lead next operands statements a x l p (w .scan))
+
+  pub expr-off : (lead : Lead) (f i : ℕ) → (depth ≡ 0 → ⊥) → LeadsExpr version nums at lead → lead ≡ Off f i
+      → Lays (readExpr version depth) layExpr nums at found found (Fault f i)
   unfolding onLead
-  expr-off lead fault index x l p = sym (rw (one-less depth x, p) at (l .expr (depth - 1)))
+  expr-off lead f i x l p =
+      lays-none (readExpr version depth) layExpr nums at f i found found
+      (sym (rw (one-less depth x, p) at (l .expr (depth - 1))))
 
-  pub exprs-none : (count : ℕ) → count ≡ 0 → Past at ≡ scanOf (repeat count (readExpr version depth)) nums at
-  exprs-none count e = repeat-none (readExpr version depth) nums count at e
+-- so many, one after the other
+module _ (version depth count : ℕ) (nums : List ℕ) (at : ℕ) (found : List ℕ) where
+  pub exprs-first : Pending (readExpr version depth) layExprs count nums at found count at found
+  exprs-first = pending-first (readExpr version depth) layExprs count nums at found
 
-  pub exprs-past : (count next : ℕ) (a r : Scan) → (count ≡ 0 → ⊥) → a ≡ scanOf (readExpr version depth) nums at
-      → a ≡ Past next
-      → r ≡ scanOf (repeat (count - 1) (readExpr version depth)) nums next
-      → r ≡ scanOf (repeat count (readExpr version depth)) nums at
-  exprs-past count next a r x e p q =
-      repeat-past (readExpr version depth) (keeps-expr version depth) nums at count next a r x e p q
+  module _ (left next : ℕ) (now : List ℕ)
+      (w : Pending (readExpr version depth) layExprs count nums at found left next now) where
+    pub exprs-none : left ≡ 0 → Lays (repeat count (readExpr version depth)) layExprs nums at found now (Past next)
+    unfolding layExprs
+    exprs-none e = w .rest now (Past next) (all-none exprAt layExpr (readExpr version depth) nums next left now e)
 
-  pub exprs-fault : (count fault index : ℕ) (a : Scan) → (count ≡ 0 → ⊥) → a ≡ scanOf (readExpr version depth) nums at
-      → a ≡ Fault fault index
-      → Fault fault index ≡ scanOf (repeat count (readExpr version depth)) nums at
-  exprs-fault count fault index a x e p =
-      repeat-fault (readExpr version depth) (keeps-expr version depth) nums at count fault index a x e p
+    pub exprs-past : (end : ℕ) (mid : List ℕ) (a : Scan) → (left ≡ 0 → ⊥)
+        → Lays (readExpr version depth) layExpr nums next now mid a → a ≡ Past end
+        → Pending (readExpr version depth) layExprs count nums at found (left - 1) end mid
+    unfolding layExprs
+    exprs-past end mid a x v p = record {
+      rest = λ last r u. w .rest last r
+          (all-past exprAt layExpr (readExpr version depth) nums next left (keeps-expr version depth) (starts-expr version depth) end
+          now mid last a r r x v p u refl);
+    }
 
--- the measure: the depth, then what is left of a list
-pub operands-fall : (version : ℕ) (nums : List ℕ) (depth at t next operands statements : ℕ) (lead : Lead)
-    → rank depth 0 ≡ t → (depth ≡ 0 → ⊥)
-    → LeadsExpr version nums at lead → lead ≡ On next operands statements → rank (depth - 1) (operands + 1) < t
-unfolding Counts
-operands-fall version nums depth at t next operands statements lead e x l p =
-    to-list depth operands t e x ((rw p at (l .counts)) .0)
+    pub exprs-fault : (f i : ℕ) (mid : List ℕ) (a : Scan) → (left ≡ 0 → ⊥)
+        → Lays (readExpr version depth) layExpr nums next now mid a → a ≡ Fault f i
+        → Lays (repeat count (readExpr version depth)) layExprs nums at found mid (Fault f i)
+    unfolding layExprs
+    exprs-fault f i mid a x v p =
+        w .rest mid (Fault f i) (all-fault exprAt layExpr (readExpr version depth) nums next left f i now mid a x v p)
+
+-- a tag has a slot
+pub slot-in : (version : ℕ) (nums : List ℕ) (at next operands statements : ℕ) (lead : Lead)
+    → length nums ≤ mostNumbers → LeadsExpr version nums at lead
+    → lead ≡ On next operands statements → at < mostNumbers
+unfolding Tagged
+slot-in version nums at next operands statements lead h l p = omega (arith, rw p at (l .tag))
+
+pub slot-fits : (version : ℕ) (nums : List ℕ) (at next operands statements : ℕ) (lead : Lead)
+    → length nums ≤ mostNumbers → LeadsExpr version nums at lead
+    → lead ≡ On next operands statements → at * 8 < 2 ^ 64
+slot-fits version nums at next operands statements lead h l p =
+    omega (arith, slot-in version nums at next operands statements lead h l p)
 
 pub ruleset exprSteps =
-    (expr-deep, expr-on, expr-off, exprs-none, exprs-past, exprs-fault, operands-fall, to-member, to-rest)
+    (expr-deep, expr-on, expr-inside, expr-off, exprs-first, exprs-none, exprs-past, exprs-fault, slot-in, slot-fits)

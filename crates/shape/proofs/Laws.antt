@@ -5,7 +5,7 @@ use mathlib.Core.Path.{_≡_, refl, sym, _∙_}
 use mathlib.Core.List.{List, [], _∷_}
 use Prim.Native.Nat.{ℕ, zero, suc, _+_, _-_, _≤_, _<_}
 use native.Mathlib.Omega.{arith}
-use native.Mathlib.Numerals.{add-one, sub-one}
+use native.Mathlib.Numerals.{add-one}
 use lib.ListN.{length, getD, drop, getElem?}
 use lib.Dec.{ltb, leb, leb·zero, leb·suc-suc}
 use borrow.Author.Tests.{lt-ltb, le-ltb, le-leb, lt-leb, ltb-true, ltb-false}
@@ -209,25 +209,6 @@ unfolding repeat
 scans-repeat {A} {one} {nums} k h f =
     scans-then h f λ a. scans-last (keeps-repeat k h) (scans-self (repeat k one) nums) λ rest. scans-pure _
 
-pub repeat-more : {A : Type 0} (one : Reader A) (nums : List ℕ) (k at : ℕ) → Keeps one → (k ≡ 0 → ⊥)
-    → scanOf (repeat k one) nums at ≡ onScan (scanOf one nums at) (scanOf (repeat (k - 1) one) nums)
-repeat-more one nums zero at h x = absurd (x refl)
-repeat-more one nums (suc k) at h x = rw (sub-one (suc k)) (scans-repeat k h (scans-self one nums) .scan at)
-
-pub repeat-past : {A : Type 0} (one : Reader A) → Keeps one → (nums : List ℕ) (at k n : ℕ) (a r : Scan) → (k ≡ 0 → ⊥)
-    → a ≡ scanOf one nums at
-    → a ≡ Past n → r ≡ scanOf (repeat (k - 1) one) nums n → r ≡ scanOf (repeat k one) nums at
-repeat-past one h nums at k n a r x e p q =
-    on-past (scanOf one nums at) r n (scanOf (repeat (k - 1) one) nums) (sym e ∙ p) q
-    ∙ sym (repeat-more one nums k at h x)
-
-pub repeat-fault : {A : Type 0} (one : Reader A) → Keeps one → (nums : List ℕ) (at k fault index : ℕ) (a : Scan)
-    → (k ≡ 0 → ⊥)
-    → a ≡ scanOf one nums at → a ≡ Fault fault index → Fault fault index ≡ scanOf (repeat k one) nums at
-repeat-fault one h nums at k fault index a x e p =
-    on-fault (scanOf one nums at) fault index (scanOf (repeat (k - 1) one) nums) (sym e ∙ p)
-    ∙ sym (repeat-more one nums k at h x)
-
 -- a list of the page that has an entry just for the numbers of a range scans as the range does
 unfoldable pub isSome : {A : Type 0} → Option A → Bool
 isSome none = false
@@ -397,22 +378,6 @@ scan-fault {A} read k nums at f i e = go (read (drop at nums) at) e
     go : (x : Got A) → forget x ≡ Fault f i → forget (andThen x k) ≡ Fault f i
     go (got a left next) q = let z : _≡_ {A = ℕ} 0 1 = cc in absurd (omega arith)
     go (bad fault index) q = q
-
-pub on-assoc : (a : Scan) (k l : ℕ → Scan) → onScan (onScan a k) l ≡ onScan a (λ n. onScan (k n) l)
-unfolding onScan
-on-assoc (Past n) k l = refl
-on-assoc (Fault fault index) k l = refl
-
--- the same reader with its brackets moved
-pub scans-assoc : {A B C : Type 0} (read : Reader A) (k : A → Reader B)
-    (l : B → Reader C) {nums : List ℕ} {t : ℕ → Scan}
-    → Scans ((read >>= k) >>= l) nums t → Scans (read >>= λ a. k a >>= l) nums t
-unfolding scanOf _>>=_ andThen
-scans-assoc {A} {B} {C} read k l {nums} {t} f = record { scan = λ at. go (read (drop at nums) at) ∙ f .scan at }
-  where
-    go : (x : Got A) → forget (andThen x (λ a left next. andThen (k a left next) l)) ≡ forget (andThen (andThen x k) l)
-    go (got a left next) = refl
-    go (bad fault index) = refl
 
 -- two steps of code: the first past and the second, or the first's fault
 module _ (x s : Scan) (k : ℕ → Scan) (e : x ≡ onScan s k) (a : Scan) (q : a ≡ s) where

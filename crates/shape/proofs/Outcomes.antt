@@ -1,24 +1,14 @@
--- Each public operation's promise allows one outcome: any two that it allows are equal.
+-- The public operation's promise allows one outcome: any two that it allows are equal.
 use mathlib.Core.Path.{_≡_, sym, _∙_}
 use mathlib.Core.List.{List}
 use Prim.Native.Nat.{ℕ}
-use Rattle.rules.specs.Reading.{readExpr, readStmt}
-use Rattle.shape.specs.Scans.{scanOf}
-use Rattle.shape.specs.Directory.{ScansProgram}
+use Rattle.shape.specs.Ends.{ScansProgram}
 use Rattle.shape.specs.declared.Scan.{Scan}
 
-pub one-scan-expr : (version depth : ℕ) (nums : List ℕ) (at : ℕ) (r s : Scan)
-    → r ≡ scanOf (readExpr version depth) nums at
-    → s ≡ scanOf (readExpr version depth) nums at → r ≡ s
-one-scan-expr version depth nums at r s p q = p ∙ sym q
-
-pub one-scan-stmt : (version depth : ℕ) (nums : List ℕ) (at : ℕ) (r s : Scan)
-    → r ≡ scanOf (readStmt version depth) nums at
-    → s ≡ scanOf (readStmt version depth) nums at → r ≡ s
-one-scan-stmt version depth nums at r s p q = p ∙ sym q
-
--- the answer and what the directory is left with
-pub one-scan-program : (nums found left other : List ℕ) (r s : Scan) → ScansProgram nums found left r
-    → ScansProgram nums found other s
-    → (r ≡ s) × (left ≡ other)
-one-scan-program nums found left other r s p q = (p .answer ∙ sym (q .answer), p .directory ∙ sym (q .directory))
+-- the answer, and what the directory and the ends are left with
+pub one-scan-program : (nums directory left other ends laid laid₂ : List ℕ) (r s : Scan)
+    → ScansProgram nums directory left ends laid r
+    → ScansProgram nums directory other ends laid₂ s
+    → (r ≡ s) × (left ≡ other) × (laid ≡ laid₂)
+one-scan-program nums directory left other ends laid laid₂ r s p q =
+    (p .answer ∙ sym (q .answer), p .parts ∙ sym (q .parts), p .laid ∙ sym (q .laid))

@@ -6,26 +6,29 @@ use mathlib.Core.List.{List}
 use Prim.Native.Nat.{ℕ, zero, suc, _-_, _<_}
 use native.Mathlib.Omega.{arith}
 use native.Mathlib.Numerals.{sub-one}
-use lib.ListN.{length, getD, getElem?}
+use lib.ListN.{length, getD, drop, getElem?}
 use lib.Dec.{leb, leb·zero}
-use Rattle.rules.specs.Syntax.{Ty, Callable}
+use Rattle.rules.specs.Syntax.{Ty, Parameter, Stmt, Key, Numeral, Table, Callable}
 use borrow.Author.Tests.{le-leb}
-use Rattle.rules.specs.Reading.{Reader, _>>=_, pure, number, within, between, standsFor, repeat, listOf, deepest}
+use Rattle.rules.specs.Reading.{Got, got, bad, Reader, andThen, _>>=_, pure, here, number, within, between, standsFor, repeat, listOf, deepest}
 use Rattle.rules.specs.Reading.{kindAction, kindFunction, directions, keyKinds, callableKinds, bitsOf, typeOf, orHeader, globalTypeOf}
 use Rattle.rules.specs.Reading.{readExpr, readStmt, readHeader, readGlobal, readParameter, readReturns, readCallable, readNumeral, readKey, readTable}
-use Rattle.rules.proofs.Readers.{Keeps, keeps-then, keeps-number, keeps-stands, keeps-between, keeps-list, keeps-expr, keeps-stmt, keeps-parameter, keeps-returns, keeps-numeral, keeps-key}
+use Rattle.rules.proofs.Readers.{Keeps, keeps-then, keeps-number, keeps-stands, keeps-between, keeps-list, keeps-expr, keeps-parameter, keeps-returns, keeps-numeral, keeps-key, keeps-pure, Given, gives-then, gives-pure, Starts, starts-here}
 use Rattle.shape.specs.Scans.{scanOf}
 use Rattle.shape.specs.Leads.{onScan, valueOf, onValue}
-use Rattle.shape.specs.Parts.{repeatScan, listScan, itemScan, readReturning, readFrame, readChoices, readDefault, partScan}
+use Rattle.shape.specs.Parts.{repeatScan, listScan, itemScan, readReturning, readFrame, layKeys, readChoices, layChoices, readDefault, partScan}
+use Rattle.shape.specs.Ends.{firstAt, keyAt, layExpr, layStmt, layKey, layCallable, numeralAt, layTable}
+use Rattle.shape.specs.Walks.{Lays, noEnds, partEnds, LaysPart}
+use Rattle.shape.proofs.Lays.{lays-then, lays-fault, lays-as, lays-none, lays-scan, BegunAt, Begins, begins-list, lays-next, all-none, all-past, all-fault, lays-counted, lays-uncounted, pair-then, then-same, then-assoc}
 use Rattle.shape.specs.declared.Scan.{Scan}
 use Rattle.shape.specs.declared.Scan.the-variants.{Past, Fault}
 use Rattle.shape.specs.declared.Value.{Value}
 use Rattle.shape.specs.declared.Value.the-variants.{Of, Unread}
 use Rattle.shape.specs.declared.Item.{Item}
-use Rattle.shape.specs.declared.Item.the-variants.{WidthItem, TypeItem, ParameterItem, KeyItem, NumeralItem}
+use Rattle.shape.specs.declared.Item.the-variants.{WidthItem, TypeItem, ParameterItem, NumeralItem}
 use Rattle.shape.specs.declared.Part.{Part}
 use Rattle.shape.specs.declared.Part.the-variants.{HeaderPart, GlobalPart, CallablePart, TablePart}
-use Rattle.shape.proofs.Laws.{on-past, on-fault, on-same, on-assoc, Scans, scans-self, scans-then, scans-pure, scans-here, scans-last, scans-as, scans-assoc, stands-is, seq-past, seq-fault}
+use Rattle.shape.proofs.Laws.{on-same, Scans, scans-self, scans-then, scans-pure, scans-here, scans-last, stands-is, seq-past, seq-fault}
 use Rattle.shape.proofs.Laws.{isSome, Spans, some-within, scan-like, spans-scan, spans-list, list-scan, repeat-none, scans-repeat, IsValue, value-inv, between-fault, scan-fault, stands-some, stands-lacks}
 
 -- lists, with the members' own scan
@@ -117,10 +120,6 @@ module _ (version : ℕ) (nums : List ℕ) where
   unfolding itemScan
   scans-locals = scans-items 0 8 (keeps-stands _) (scans-self _ nums)
 
-  scans-keys : Scans (listOf 1 4 (readKey version)) nums (listScan (itemScan version KeyItem nums) 1 4 nums)
-  unfolding itemScan
-  scans-keys = scans-items 1 4 (keeps-key version) (scans-self _ nums)
-
   scans-numerals : (least : ℕ)
       → Scans (listOf least 8 (readNumeral version)) nums (listScan (itemScan version NumeralItem nums) least 8 nums)
   unfolding itemScan
@@ -133,30 +132,16 @@ module _ (version : ℕ) (nums : List ℕ) where
       (λ at. onScan (listScan (itemScan version ParameterItem nums) 0 8 nums at)
       (listScan (itemScan version TypeItem nums) 0 8 nums))
   unfolding readFrame
-  scans-frame = scans-then (keeps-list 0 8 (keeps-parameter version)) scans-parameters λ ps. scans-locals
-
-  scans-choices : Scans (readChoices version) nums
-      (λ at. onScan (listScan (itemScan version KeyItem nums) 1 4 nums at)
-      (listScan (itemScan version NumeralItem nums) 1 8 nums))
-  unfolding readChoices
-  scans-choices = scans-then (keeps-list 1 4 (keeps-key version)) scans-keys λ ks. scans-numerals 1
+  scans-frame =
+      scans-then (keeps-list 0 8 (keeps-parameter version)) scans-parameters λ ps. scans-last frame-keeps scans-locals
+      λ ls. scans-pure _
 
   scans-default : Scans (readDefault version) nums
       (λ at. onScan (scanOf (readNumeral version) nums at) (listScan (itemScan version NumeralItem nums) 0 8 nums))
   unfolding readDefault
-  scans-default = scans-then (keeps-numeral version) (scans-self _ nums) λ d. scans-numerals 0
-
-  scans-table : Scans (readTable version) nums
-      (λ at. onScan (scanOf (readChoices version) nums at) (scanOf (readDefault version) nums))
-  unfolding readTable
-  scans-table = record {
-    scan = λ at. (scans-here λ i. scans-then (keeps-list 1 4 (keeps-key version)) scans-keys λ ks.
-        scans-then (keeps-list 1 8 (keeps-numeral version)) (scans-numerals 1) λ ns.
-        scans-as (scans-then (keeps-numeral version) (scans-self _ nums) λ d.
-        scans-here λ j. scans-last (keeps-list 0 8 (keeps-numeral version)) (scans-numerals 0)
-        λ xs. scans-pure _) scans-default) .scan at
-        ∙ rw (scans-choices .scan at) (sym (on-assoc _ _ _));
-  }
+  scans-default =
+      scans-then (keeps-numeral version) (scans-self _ nums) λ d. scans-here λ c.
+      scans-last (keeps-list 0 8 (keeps-numeral version)) (scans-numerals 0) λ xs. scans-pure _
 
   behind-head : ℕ → Option Ty → Reader Callable
   behind-head i returns =
@@ -164,27 +149,13 @@ module _ (version : ℕ) (nums : List ℕ) where
       readStmt version deepest >>= λ body.
       pure (record { at = i; returns = returns; parameters = parameters; locals = locals; body = body })
 
-  scans-behind : (i : ℕ) (returns : Option Ty) → Scans (behind-head i returns) nums
-      (λ n. onScan (scanOf (readFrame version) nums n) (scanOf (readStmt version deepest) nums))
-  unfolding behind-head
-  scans-behind i returns = record {
-    scan = λ at. (scans-then (keeps-list 0 8 (keeps-parameter version)) scans-parameters λ ps.
-        scans-then frame-keeps scans-locals λ ls. scans-last (keeps-stmt version deepest) (scans-self _ nums)
-        λ body. scans-pure _) .scan at
-        ∙ rw (scans-frame .scan at) (sym (on-assoc _ _ _));
-  }
-
-  keeps-returning : Keeps (readReturning version)
+  pub keeps-returning : Keeps (readReturning version)
   unfolding readReturning
   keeps-returning = keeps-then (keeps-stands _) λ kind. keeps-returns version kind
 
-  scans-callable : Scans (readCallable version) nums
-      (λ at. onScan (scanOf (readReturning version) nums at)
-      (λ n. onScan (scanOf (readFrame version) nums n) (scanOf (readStmt version deepest) nums)))
-  unfolding readCallable readReturning behind-head
-  scans-callable =
-      scans-here λ i. scans-assoc (standsFor (getElem? (callableKinds version))) (readReturns version) (behind-head i)
-      (scans-then keeps-returning (scans-self (readReturning version) nums) (scans-behind i))
+  pub keeps-frame : Keeps (readFrame version)
+  unfolding readFrame
+  keeps-frame = keeps-then (keeps-list 0 8 (keeps-parameter version)) λ ps. keeps-then frame-keeps λ ls. keeps-pure _
 
 -- a callable's head
 module _ (version : ℕ) (nums : List ℕ) (at n next : ℕ) (v : Value) (e : v ≡ valueOf 0 1 nums at) where
@@ -281,15 +252,6 @@ module _ (version : ℕ) (nums : List ℕ) (at n f i : ℕ) (a r : Scan) where
       → Fault f i ≡ scanOf (readParameter version) nums at
   parameter-fault q p = seq-fault _ _ _ (scans-parameter version nums .scan at) a q f i p
 
-  pub key-past : a ≡ scanOf (standsFor (getElem? (keyKinds version))) nums at → a ≡ Past n
-      → r ≡ scanOf (readExpr version deepest) nums n
-      → r ≡ scanOf (readKey version) nums at
-  key-past q p h = seq-past _ _ _ (scans-key version nums .scan at) a q n r p h
-
-  pub key-fault : a ≡ scanOf (standsFor (getElem? (keyKinds version))) nums at → a ≡ Fault f i
-      → Fault f i ≡ scanOf (readKey version) nums at
-  key-fault q p = seq-fault _ _ _ (scans-key version nums .scan at) a q f i p
-
   pub frame-past : a ≡ listScan (itemScan version ParameterItem nums) 0 8 nums at → a ≡ Past n
       → r ≡ listScan (itemScan version TypeItem nums) 0 8 nums n
       → r ≡ scanOf (readFrame version) nums at
@@ -298,15 +260,6 @@ module _ (version : ℕ) (nums : List ℕ) (at n f i : ℕ) (a r : Scan) where
   pub frame-fault : a ≡ listScan (itemScan version ParameterItem nums) 0 8 nums at → a ≡ Fault f i
       → Fault f i ≡ scanOf (readFrame version) nums at
   frame-fault q p = seq-fault _ _ _ (scans-frame version nums .scan at) a q f i p
-
-  pub choices-past : a ≡ listScan (itemScan version KeyItem nums) 1 4 nums at → a ≡ Past n
-      → r ≡ listScan (itemScan version NumeralItem nums) 1 8 nums n
-      → r ≡ scanOf (readChoices version) nums at
-  choices-past q p h = seq-past _ _ _ (scans-choices version nums .scan at) a q n r p h
-
-  pub choices-fault : a ≡ listScan (itemScan version KeyItem nums) 1 4 nums at → a ≡ Fault f i
-      → Fault f i ≡ scanOf (readChoices version) nums at
-  choices-fault q p = seq-fault _ _ _ (scans-choices version nums .scan at) a q f i p
 
   pub default-past : a ≡ scanOf (readNumeral version) nums at → a ≡ Past n
       → r ≡ listScan (itemScan version NumeralItem nums) 0 8 nums n
@@ -317,31 +270,209 @@ module _ (version : ℕ) (nums : List ℕ) (at n f i : ℕ) (a r : Scan) where
       → Fault f i ≡ scanOf (readDefault version) nums at
   default-fault q p = seq-fault _ _ _ (scans-default version nums .scan at) a q f i p
 
-  pub table-past : a ≡ scanOf (readChoices version) nums at → a ≡ Past n → r ≡ scanOf (readDefault version) nums n
-      → r ≡ scanOf (readTable version) nums at
-  table-past q p h = seq-past _ _ _ (scans-table version nums .scan at) a q n r p h
+-- what lays ends: keys
+pub starts-key : (version : ℕ) → Starts keyAt (readKey version)
+unfolding readKey keyAt
+starts-key version = starts-here λ at. gives-then _ λ kind. gives-then _ λ e. gives-pure _ _ refl
 
-  pub table-fault : a ≡ scanOf (readChoices version) nums at → a ≡ Fault f i
-      → Fault f i ≡ scanOf (readTable version) nums at
-  table-fault q p = seq-fault _ _ _ (scans-table version nums .scan at) a q f i p
+pub starts-numeral : (version : ℕ) → Starts numeralAt (readNumeral version)
+unfolding readNumeral numeralAt
+starts-numeral version = starts-here λ at. gives-then _ λ n. gives-pure _ _ refl
 
-  pub callable-past : (b : Scan) (body : ℕ) → a ≡ scanOf (readReturning version) nums at → a ≡ Past n
+module _ (version : ℕ) (nums : List ℕ) (at : ℕ) (found : List ℕ) where
+  pub key-past : (n : ℕ) (filled : List ℕ) (a r : Scan) → a ≡ scanOf (standsFor (getElem? (keyKinds version))) nums at
+      → a ≡ Past n
+      → Lays (readExpr version deepest) layExpr nums n found filled r
+      → Lays (readKey version) layKey nums at found filled r
+  unfolding readKey here _>>=_ andThen layKey noEnds
+  key-past n filled a r q p w =
+      lays-as refl
+      (lays-then (λ kind e. record { at = at; kind = kind; expr = e }) layKey (λ kind e m next slots. refl)
+      (keeps-stands _) (lays-scan found q) p w)
+
+  pub key-fault : (f i : ℕ) (a : Scan) → a ≡ scanOf (standsFor (getElem? (keyKinds version))) nums at → a ≡ Fault f i
+      → Lays (readKey version) layKey nums at found found (Fault f i)
+  key-fault f i a q p =
+      lays-none (readKey version) layKey nums at f i found found
+      (seq-fault _ _ _ (scans-key version nums .scan at) a q f i p)
+
+  pub keys-none : (count : ℕ) → count ≡ 0 → Lays (repeat count (readKey version)) layKeys nums at found found (Past at)
+  unfolding layKeys
+  keys-none count e = all-none keyAt layKey (readKey version) nums at count found e
+
+  pub keys-past : (count next : ℕ) (mid filled : List ℕ) (a r : Scan) → (count ≡ 0 → ⊥)
+      → Lays (readKey version) layKey nums at found mid a
+      → a ≡ Past next → Lays (repeat (count - 1) (readKey version)) layKeys nums next mid filled r
+      → Lays (repeat count (readKey version)) layKeys nums at found filled r
+  unfolding layKeys
+  keys-past count next mid filled a r x w p v =
+      all-past keyAt layKey (readKey version) nums at count (keeps-key version) (starts-key version) next found mid
+      filled a r r x w p v refl
+
+  pub keys-fault : (count f i : ℕ) (mid : List ℕ) (a : Scan) → (count ≡ 0 → ⊥)
+      → Lays (readKey version) layKey nums at found mid a
+      → a ≡ Fault f i → Lays (repeat count (readKey version)) layKeys nums at found mid (Fault f i)
+  unfolding layKeys
+  keys-fault count f i mid a x w p = all-fault keyAt layKey (readKey version) nums at count f i found mid a x w p
+
+  pub key-list : (n next : ℕ) (filled : List ℕ) (v : Value) (r : Scan) → v ≡ valueOf 1 4 nums at → v ≡ Of n next
+      → Lays (repeat n (readKey version)) layKeys nums next found filled r
+      → Lays (listOf 1 4 (readKey version)) layKeys nums at found filled r
+  key-list n next filled v r q p w = lays-counted (readKey version) layKeys 1 4 nums at n next found filled v r q p w
+
+  pub key-list-fault : (f i : ℕ) (v : Value) → v ≡ valueOf 1 4 nums at → v ≡ Unread f i
+      → Lays (listOf 1 4 (readKey version)) layKeys nums at found found (Fault f i)
+  key-list-fault f i v q p = lays-uncounted (readKey version) layKeys 1 4 nums at f i found found v q p
+
+  -- tables
+  pub choices-past : (n : ℕ) (filled : List ℕ) (a r : Scan)
+      → Lays (listOf 1 4 (readKey version)) layKeys nums at found filled a → a ≡ Past n
+      → r ≡ listScan (itemScan version NumeralItem nums) 1 8 nums n
+      → Lays (readChoices version) layChoices nums at found filled r
+  unfolding readChoices layChoices noEnds
+  choices-past n filled a r w p q =
+      lays-next (λ ks ns. (ks, ns)) layChoices (λ ns end. firstAt numeralAt ns end - 1) (λ ks ns end slots. refl)
+      (keeps-list 1 4 (keeps-key version)) (begins-list 1 8 (starts-numeral version)) w p
+      (lays-scan filled (q ∙ sym (scans-numerals version nums 1 .scan n)))
+
+  pub choices-fault : (f i : ℕ) (filled : List ℕ) (a : Scan)
+      → Lays (listOf 1 4 (readKey version)) layKeys nums at found filled a
+      → a ≡ Fault f i → Lays (readChoices version) layChoices nums at found filled (Fault f i)
+  unfolding readChoices
+  choices-fault f i filled a w p = lays-fault _ layChoices found w p
+
+  pub keeps-choices : Keeps (readChoices version)
+  unfolding readChoices
+  keeps-choices = keeps-then (keeps-list 1 4 (keeps-key version)) λ ks. keeps-then
+      (keeps-list 1 8 (keeps-numeral version)) λ ns. keeps-pure _
+
+  pub begins-default : Begins (λ q end. q .0 .at) (readDefault version)
+  unfolding readDefault BegunAt Given numeralAt _>>=_ andThen here pure
+  begins-default = record { begun = λ left i. go i (readNumeral version left i) (starts-numeral version .started left i) }
+    where
+      inner : (i c : ℕ) (d : Numeral) (y : Got (List Numeral)) → d .at ≡ i
+          → BegunAt (λ q end. q .0 .at) i (andThen y (λ xs. pure {A = Numeral × (ℕ × List Numeral)} (d, (c, xs))))
+      inner i c d (got xs left next) e = e
+      inner i c d (bad fault index) e = tt
+
+      go : (i : ℕ) (x : Got Numeral) → Given (λ d. d .at ≡ i) x
+          → BegunAt (λ q end. q .0 .at) i
+          (andThen x (λ d. here >>= λ c. listOf 0 8 (readNumeral version) >>= λ xs. pure
+          {A = Numeral × (ℕ × List Numeral)} (d, (c, xs))))
+      go i (got d left next) e = inner i next d (listOf 0 8 (readNumeral version) left next) e
+      go i (bad fault index) e = tt
+
+  unfoldable pub makeTable : List Key × List Numeral → Numeral × (ℕ × List Numeral) → Table
+  makeTable p q = record {
+    at = at;
+    keys = p .0;
+    actions = p .1;
+    default = q .0;
+    countAt = q .1 .0;
+    arguments = q .1 .1;
+  }
+
+  default-then : (ks : List Key) (ns : List Numeral) (left : List ℕ) (i : ℕ)
+      → (readNumeral version >>= λ d. here >>= λ c. listOf 0 8 (readNumeral version) >>= λ xs. pure
+      (makeTable (ks, ns) (d, (c, xs)))) left i
+      ≡ (readDefault version >>= λ q. pure (makeTable (ks, ns) q)) left i
+  unfolding readDefault _>>=_ andThen here pure
+  default-then ks ns left i = go (readNumeral version left i)
+    where
+      inner : (d : Numeral) (c : ℕ) (y : Got (List Numeral))
+          → andThen y (λ xs. pure (makeTable (ks, ns) (d, (c, xs))))
+          ≡ andThen (andThen y (λ xs. pure {A = Numeral × (ℕ × List Numeral)} (d, (c, xs))))
+          (λ q. pure (makeTable (ks, ns) q))
+      inner d c (got xs left next) = refl
+      inner d c (bad fault index) = refl
+
+      go : (x : Got Numeral)
+          → andThen x (λ d. here >>= λ c. listOf 0 8 (readNumeral version) >>= λ xs. pure
+          (makeTable (ks, ns) (d, (c, xs))))
+          ≡ andThen (andThen x (λ d. here >>= λ c. listOf 0 8 (readNumeral version) >>= λ xs. pure
+          {A = Numeral × (ℕ × List Numeral)} (d, (c, xs)))) (λ q. pure (makeTable (ks, ns) q))
+      go (got d left next) = inner d next (listOf 0 8 (readNumeral version) left next)
+      go (bad fault index) = refl
+
+  pub in-two : readTable version (drop at nums) at
+      ≡ (readChoices version >>= λ p. readDefault version >>= λ q. pure (makeTable p q)) (drop at nums) at
+  unfolding readTable readChoices here _>>=_ andThen makeTable
+  in-two =
+      pair-then (listOf 1 4 (readKey version)) (listOf 1 8 (readNumeral version))
+      (λ ks ns. readNumeral version >>= λ d. here >>= λ c. listOf 0 8 (readNumeral version) >>= λ xs. pure
+      (makeTable (ks, ns) (d, (c, xs)))) (drop at nums) at
+      ∙ then-same (readChoices version) (drop at nums) at _ _ (λ p left i. default-then (p .0) (p .1) left i)
+
+  pub table-past : (n : ℕ) (filled : List ℕ) (a r : Scan)
+      → Lays (readChoices version) layChoices nums at found filled a → a ≡ Past n
+      → r ≡ scanOf (readDefault version) nums n
+      → Lays (readTable version) layTable nums at found filled r
+  unfolding layChoices layKeys layTable makeTable noEnds
+  table-past n filled a r w p q =
+      lays-as in-two
+      (lays-next makeTable layTable (λ q end. q .0 .at) (λ p q end slots. refl) keeps-choices begins-default w p
+      (lays-scan filled q))
+
+  pub table-fault : (f i : ℕ) (filled : List ℕ) (a : Scan)
+      → Lays (readChoices version) layChoices nums at found filled a → a ≡ Fault f i
+      → Lays (readTable version) layTable nums at found filled (Fault f i)
+  table-fault f i filled a w p = lays-as in-two (lays-fault _ layTable found w p)
+
+  -- callables
+  abbrev pub Frame : Type 0
+  Frame = List Parameter × List Ty
+
+  unfoldable pub makeCallable : Option Ty → Frame × Stmt → Callable
+  makeCallable returns q =
+      record { at = at; returns = returns; parameters = q .0 .0; locals = q .0 .1; body = q .1 }
+
+  unfoldable pub readFramed : Reader (Frame × Stmt)
+  readFramed = readFrame version >>= λ f. readStmt version deepest >>= λ body. pure (f, body)
+
+  layFramed : Frame × Stmt → ℕ → List ℕ → List ℕ
+  layFramed q end slots = layStmt (q .1) end slots
+
+  framed : (returns : Option Ty) (left : List ℕ) (i : ℕ)
+      → behind-head version nums at returns left i ≡ (readFramed >>= λ q. pure (makeCallable returns q)) left i
+  unfolding behind-head readFrame readFramed makeCallable
+  framed returns left i =
+      pair-then (listOf 0 8 (readParameter version)) (listOf 0 8 (standsFor (typeOf version)))
+      (λ ps ls. readStmt version deepest >>= λ body. pure (makeCallable returns ((ps, ls), body))) left i
+      ∙ pair-then (readFrame version) (readStmt version deepest) (λ f body. pure (makeCallable returns (f, body))) left i
+
+  pub in-three : readCallable version (drop at nums) at
+      ≡ (readReturning version >>= λ returns. readFramed >>= λ q. pure (makeCallable returns q)) (drop at nums) at
+  unfolding readCallable readReturning behind-head here _>>=_ andThen
+  in-three =
+      then-assoc (standsFor (getElem? (callableKinds version))) (readReturns version) (behind-head version nums at)
+      (drop at nums) at
+      ∙ then-same (readReturning version) (drop at nums) at _ _ framed
+
+  pub callable-past : (n body : ℕ) (filled : List ℕ) (a b r : Scan) → a ≡ scanOf (readReturning version) nums at
+      → a ≡ Past n
       → b ≡ scanOf (readFrame version) nums n → b ≡ Past body
-      → r ≡ scanOf (readStmt version deepest) nums body → r ≡ scanOf (readCallable version) nums at
-  callable-past b body q p e m h =
-      seq-past _ _ _ (scans-callable version nums .scan at) a q n r p
-      (on-past (scanOf (readFrame version) nums n) r body _ (sym e ∙ m) h)
+      → Lays (readStmt version deepest) layStmt nums body found filled r
+      → Lays (readCallable version) layCallable nums at found filled r
+  unfolding readFramed layFramed layCallable makeCallable noEnds
+  callable-past n body filled a b r q p e m w =
+      lays-as in-three
+      (lays-then makeCallable layCallable (λ returns q m next slots. refl) (keeps-returning version nums)
+      (lays-scan found q) p
+      (lays-then {second = readStmt version deepest} (λ f s. (f, s)) layFramed (λ f s m next slots. refl)
+      (keeps-frame version nums) (lays-scan found e) m w))
 
-  pub callable-frame : (b : Scan) → a ≡ scanOf (readReturning version) nums at → a ≡ Past n
+  pub callable-frame : (n f i : ℕ) (a b : Scan) → a ≡ scanOf (readReturning version) nums at → a ≡ Past n
       → b ≡ scanOf (readFrame version) nums n → b ≡ Fault f i
-      → Fault f i ≡ scanOf (readCallable version) nums at
-  callable-frame b q p e m =
-      seq-past _ _ _ (scans-callable version nums .scan at) a q n (Fault f i) p
-      (on-fault (scanOf (readFrame version) nums n) f i _ (sym e ∙ m))
+      → Lays (readCallable version) layCallable nums at found found (Fault f i)
+  unfolding readFramed layFramed layCallable makeCallable noEnds
+  callable-frame n f i a b q p e m =
+      lays-as in-three
+      (lays-then makeCallable layCallable (λ returns q m next slots. refl) (keeps-returning version nums)
+      (lays-scan found q) p (lays-fault _ layFramed found (lays-scan found e) m))
 
-  pub callable-fault : a ≡ scanOf (readReturning version) nums at → a ≡ Fault f i
-      → Fault f i ≡ scanOf (readCallable version) nums at
-  callable-fault q p = seq-fault _ _ _ (scans-callable version nums .scan at) a q f i p
+  pub callable-fault : (f i : ℕ) (a : Scan) → a ≡ scanOf (readReturning version) nums at → a ≡ Fault f i
+      → Lays (readCallable version) layCallable nums at found found (Fault f i)
+  callable-fault f i a q p = lays-as in-three (lays-fault _ layCallable found (lays-scan found q) p)
 
 pub ruleset parts = (
   numeral-is,
@@ -352,6 +483,11 @@ pub ruleset parts = (
   parameter-fault,
   key-past,
   key-fault,
+  keys-none,
+  keys-past,
+  keys-fault,
+  key-list,
+  key-list-fault,
   header-is,
   global-past,
   global-else,
@@ -388,37 +524,36 @@ module _ (version : ℕ) (nums : List ℕ) (at : ℕ) (r : Scan) where
     unfolding itemScan
     parameter-item e q = rw e q
 
-    pub key-item : item ≡ KeyItem → r ≡ scanOf (readKey version) nums at → r ≡ itemScan version item nums at
-    unfolding itemScan
-    key-item e q = rw e q
-
     pub numeral-item : item ≡ NumeralItem → r ≡ scanOf (readNumeral version) nums at → r ≡ itemScan version item nums at
     unfolding itemScan
     numeral-item e q = rw e q
 
-  module _ (part : Part) where
-    pub header-part : part ≡ HeaderPart → r ≡ scanOf (readHeader version) nums at → r ≡ partScan version part nums at
-    unfolding partScan
-    header-part e q = rw e q
+module _ (version : ℕ) (nums : List ℕ) (at : ℕ) (r : Scan) (part : Part) (found : List ℕ) where
+  pub header-part : part ≡ HeaderPart → r ≡ scanOf (readHeader version) nums at
+      → LaysPart version part nums at found found r
+  unfolding partScan partEnds
+  header-part e q = record { scan = rw e q; laid = rw e (lays-scan found q .laid) }
 
-    pub global-part : part ≡ GlobalPart → r ≡ scanOf (readGlobal version) nums at → r ≡ partScan version part nums at
-    unfolding partScan
-    global-part e q = rw e q
+  pub global-part : part ≡ GlobalPart → r ≡ scanOf (readGlobal version) nums at
+      → LaysPart version part nums at found found r
+  unfolding partScan partEnds
+  global-part e q = record { scan = rw e q; laid = rw e (lays-scan found q .laid) }
 
-    pub callable-part : part ≡ CallablePart → r ≡ scanOf (readCallable version) nums at
-        → r ≡ partScan version part nums at
-    unfolding partScan
-    callable-part e q = rw e q
+  pub callable-part : (filled : List ℕ) → part ≡ CallablePart
+      → Lays (readCallable version) layCallable nums at found filled r
+      → LaysPart version part nums at found filled r
+  unfolding partScan partEnds
+  callable-part filled e w = record { scan = rw e (w .scan); laid = rw e (w .laid) }
 
-    pub table-part : part ≡ TablePart → r ≡ scanOf (readTable version) nums at → r ≡ partScan version part nums at
-    unfolding partScan
-    table-part e q = rw e q
+  pub table-part : (filled : List ℕ) → part ≡ TablePart → Lays (readTable version) layTable nums at found filled r
+      → LaysPart version part nums at found filled r
+  unfolding partScan partEnds
+  table-part filled e w = record { scan = rw e (w .scan); laid = rw e (w .laid) }
 
 pub ruleset kinds = (
   width-item,
   type-item,
   parameter-item,
-  key-item,
   numeral-item,
   header-part,
   global-part,

@@ -1,29 +1,31 @@
 -- The directory: where the members of lists begin, and that what is laid into the slots is what the tree tells.
 use mathlib.Core.Path.{_≡_, refl, sym, ap, _∙_}
-use mathlib.Core.List.{List, _∷_, map}
+use mathlib.Core.List.{List, [], _∷_, map}
 use Prim.Native.Nat.{ℕ, zero, suc, _+_, _-_, _≤_, _<_}
 use native.Mathlib.Omega.{arith}
 use native.Mathlib.Numerals.{add-one, sub-one}
-use lib.ListN.{length, drop, set, length-map}
+use lib.ListN.{length, drop, set, replicate, length-map}
 use lib.Seq.{sets}
-use Rattle.rules.specs.Syntax.{Expr, Stmt, Place, HeaderTy, Global, Callable, Table, Program}
+use Rattle.rules.specs.Syntax.{Stmt, HeaderTy, Global, Callable, Table, Program}
 use Rattle.rules.specs.Reading.{Got, got, bad, Reader, andThen, _>>=_, pure, between, repeat, listOf, deepest}
-use Rattle.rules.specs.Reading.{StmtTag, tagEmpty, tagAssign, tagIf, tagBlock, tagCallStmt, tagApply, tagReturnValue, tagReturn, tagExit, tagSetValid, tagSetInvalid}
-use Rattle.rules.specs.Reading.{readStmtAs, readStmt, readHeader, readGlobal, readCallable, readTable, readAfterVersion, versionOf, readProgram}
-use Rattle.rules.proofs.Readers.{Kept, Keeps, keeps-then, keeps-pure, keeps-between, keeps-list, keeps-header, keeps-global, keeps-callable, keeps-table, Given, Gives, gives-then, gives-pure, Starts, starts-here, starts-deep, starts-header, starts-global, starts-callable, starts-table}
+use Rattle.rules.specs.Reading.{readStmt, readHeader, readGlobal, readCallable, readTable, readAfterVersion, versionOf, readProgram}
+use Rattle.rules.proofs.Readers.{Kept, Keeps, keeps-then, keeps-pure, keeps-between, keeps-list, keeps-header, keeps-global, keeps-callable, keeps-table, Given, Starts, starts-header, starts-global, starts-callable, starts-table}
 use Rattle.shape.specs.Scans.{forget, scanOf}
 use Rattle.shape.specs.Leads.{valued, valueOf}
 use Rattle.shape.specs.Parts.{listScan, partScan}
 use Rattle.shape.specs.Directory.{stmtAt, listed, declared, defined, directoryOf, directoryLeft}
-use Rattle.shape.specs.Walks.{startsAfter, starts, Walked, laidList, WalkedList, Laid, Lays}
+use Rattle.shape.specs.Ends.{mostNumbers, layStmt, firstAt, layAll, callableAt, layCallable, tableAt, layTable, endsOf, endsLeft, ScansProgram}
+use Rattle.shape.specs.Walks.{startsAfter, starts, Walked, laidList, WalkedList, Laid, Lays, noEnds, partEnds, LaysPart, endsAfter, partsEnds, LaysParts, listEnds, LaysList, endsDefined}
 use Rattle.shape.specs.Walks.{readDeclared, layDeclared, readDefined, layDefined, layBody}
-use Rattle.shape.specs.Directory.{ScansProgram}
 use Rattle.shape.specs.declared.Scan.{Scan}
 use Rattle.shape.specs.declared.Scan.the-variants.{Past, Fault}
 use Rattle.shape.specs.declared.Value.{Value}
 use Rattle.shape.specs.declared.Value.the-variants.{Of, Unread}
+use Rattle.shape.specs.declared.Part.{Part}
 use Rattle.shape.specs.declared.Part.the-variants.{HeaderPart, GlobalPart, CallablePart, TablePart}
 use Rattle.shape.proofs.Laws.{AtMost, value-most, scans-self}
+use Rattle.shape.proofs.Stmts.{starts-stmt}
+use Rattle.shape.proofs.Lays.{lays-then, lays-fault, lays-as, lays-like, lays-same, BegunAt, Begins, begins-repeat, begins-list, lays-next, pair-then, then-same}
 use Rattle.shape.proofs.Parts.{scans-items, items-none, items-past, items-fault, list-of, list-fault, count-falls}
 
 -- so many parts, and where they begin
@@ -56,7 +58,38 @@ module _ (one : ℕ → Scan) (count at slot : ℕ) (found : List ℕ) where
 pub room-after : (slot count : ℕ) → slot + count ≤ 70 → (count ≡ 0 → ⊥) → slot + 1 + (count - 1) ≤ 70
 room-after slot count h x = omega arith
 
-pub ruleset walks = (walked-none, walked-past, walked-fault, room-after, count-falls)
+-- and what they lay into the ends
+module _ (version : ℕ) (part : Part) (count : ℕ) (nums : List ℕ) (at : ℕ) (found : List ℕ) where
+  pub ends-none : count ≡ 0 → LaysParts version part count nums at found found (Past at)
+  unfolding partsEnds
+  ends-none e = record { laid = rw e refl }
+
+  pub ends-past : (n : ℕ) (mid filled : List ℕ) (a r : Scan) → (count ≡ 0 → ⊥)
+      → LaysPart version part nums at found mid a
+      → a ≡ Past n → LaysParts version part (count - 1) nums n mid filled r
+      → LaysParts version part count nums at found filled r
+  unfolding partsEnds endsAfter
+  ends-past n mid filled a r x w p v = record { laid = go count x (v .laid) }
+    where
+      go : (k : ℕ) → (k ≡ 0 → ⊥)
+          → partsEnds (partScan version part nums) (partEnds version part nums) (k - 1) n mid filled
+          → partsEnds (partScan version part nums) (partEnds version part nums) k at found filled
+      go zero y u = absurd (y refl)
+      go (suc k) y u = rw (← w .scan, p) (mid, w .laid, rw (sub-one (suc k)) at u)
+
+  pub ends-fault : (f i : ℕ) (filled : List ℕ) (a : Scan) → (count ≡ 0 → ⊥)
+      → LaysPart version part nums at found filled a → a ≡ Fault f i
+      → LaysParts version part count nums at found filled (Fault f i)
+  unfolding partsEnds endsAfter
+  ends-fault f i filled a x w p = record { laid = go count x }
+    where
+      go : (k : ℕ) → (k ≡ 0 → ⊥)
+          → partsEnds (partScan version part nums) (partEnds version part nums) k at found filled
+      go zero y = absurd (y refl)
+      go (suc k) y = rw (← w .scan, p) tt
+
+pub ruleset walks =
+    (walked-none, walked-past, walked-fault, ends-none, ends-past, ends-fault, room-after, count-falls)
 
 -- a list of parts
 module _ (one : ℕ → Scan) (most : ℕ) (nums : List ℕ) (at slot : ℕ) (found : List ℕ) (v : Value)
@@ -72,13 +105,25 @@ module _ (one : ℕ → Scan) (most : ℕ) (nums : List ℕ) (at slot : ℕ) (fo
   unfolding laidList
   list-unwalked f i p = record { scan = list-fault one 0 most nums at v q f i p; laid = rw (← q, p) }
 
+module _ (version : ℕ) (part : Part) (most : ℕ) (nums : List ℕ) (at : ℕ) (found : List ℕ) (v : Value)
+    (q : v ≡ valueOf 0 most nums at) where
+  pub list-ends : (n next : ℕ) (filled : List ℕ) (r : Scan) → v ≡ Of n next
+      → LaysParts version part n nums next found filled r
+      → LaysList version part most nums at found filled r
+  unfolding listEnds
+  list-ends n next filled r p w = record { laid = rw (← q, p) (w .laid) }
+
+  pub list-no-ends : (f i : ℕ) → v ≡ Unread f i → LaysList version part most nums at found found (Fault f i)
+  unfolding listEnds
+  list-no-ends f i p = record { laid = rw (← q, p) tt }
+
 pub list-room : (most : ℕ) (nums : List ℕ) (at slot n next : ℕ) (v : Value) → v ≡ valueOf 0 most nums at
     → v ≡ Of n next → slot + most < 70
     → slot + 1 + n ≤ 70
 unfolding AtMost
 list-room most nums at slot n next v q p h = omega (arith, rw (← q, p) at (value-most 0 most nums at))
 
-pub ruleset listWalks = (list-walked, list-unwalked, list-room)
+pub ruleset listWalks = (list-walked, list-unwalked, list-ends, list-no-ends, list-room)
 
 scan-got : {A : Type 0} (read : Reader A) (nums : List ℕ) (at n : ℕ) (a : A) (left : List ℕ)
     → read (drop at nums) at ≡ got a left n
@@ -134,79 +179,6 @@ module _ {A : Type 0} {one : Reader A} {start : A → ℕ} (nums : List ℕ) (h 
       go (bad fault index) k l = tt
       go (got n left next) k l = rw (k .rest) (counted n next (repeat n one (drop next nums) next) (repeated n next) l)
 
--- what a reader that was scanned gave, with the slots that it filled
-record Done {A : Type 0} (read : Reader A) (lay : A → ℕ → List ℕ → List ℕ) (nums : List ℕ) (at : ℕ)
-    (found filled : List ℕ) (next : ℕ) (a : A) : Type 0 where
-  pub gave : read (drop at nums) at ≡ got a (drop next nums) next
-  pub laid : filled ≡ lay a next found
-
-module _ {A : Type 0} {read : Reader A} {lay : A → ℕ → List ℕ → List ℕ} {nums : List ℕ} {at : ℕ}
-    {found filled : List ℕ} {x : Scan} where
-  lays-done : Keeps read → Lays read lay nums at found filled x → (n : ℕ) → x ≡ Past n
-      → (a : A) × Done read lay nums at found filled n a
-  unfolding scanOf forget Laid Kept
-  lays-done h w n p = go (read (drop at nums) at) refl (h .kept nums at) (w .laid) (sym (w .scan) ∙ p)
-    where
-      go : (y : Got A) → read (drop at nums) at ≡ y → Kept nums at y → Laid y lay found filled → forget y ≡ Past n
-          → (a : A) × Done read lay nums at found filled n a
-      go (bad fault index) e k l q = let z : _≡_ {A = ℕ} 0 1 = cc in absurd (omega arith)
-      go (got a left next) e k l q =
-          let same : next ≡ n = cc in
-          (a, record { gave = e ∙ rw (k .rest, same); laid = rw (← same) l })
-
-  lays-bad : Lays read lay nums at found filled x → (f i : ℕ) → x ≡ Fault f i → read (drop at nums) at ≡ bad f i
-  unfolding scanOf forget
-  lays-bad w f i p = go (read (drop at nums) at) (sym (w .scan) ∙ p)
-    where
-      go : (y : Got A) → forget y ≡ Fault f i → y ≡ bad f i
-      go (bad fault index) q =
-          let v : fault ≡ f = cc in
-          let u : index ≡ i = cc in
-          rw (v, u)
-      go (got a left next) q = let z : _≡_ {A = ℕ} 0 1 = cc in absurd (omega arith)
-
--- one reader and then another, each laying its own; a fault of the first
-pub lays-then : {A B C : Type 0} {first : Reader A} {second : Reader B} (make : A → B → C)
-    {layFirst : A → ℕ → List ℕ → List ℕ} {laySecond : B → ℕ → List ℕ → List ℕ} (lay : C → ℕ → List ℕ → List ℕ)
-    → ((a : A) (b : B) (m next : ℕ) (slots : List ℕ) → laySecond b next (layFirst a m slots) ≡ lay
-    (make a b) next slots)
-    → {nums : List ℕ} {at n : ℕ} {found mid filled : List ℕ} {x r : Scan} → Keeps first
-    → Lays first layFirst nums at found mid x → x ≡ Past n → Lays second laySecond nums n mid filled r
-    → Lays (first >>= λ a. second >>= λ b. pure (make a b)) lay nums at found filled r
-unfolding scanOf forget Laid _>>=_ andThen pure
-lays-then {A} {B} {C} {first} {second} make {layFirst} {laySecond} lay both {nums} {at} {n} {found} {mid} {filled} {x}
-    {r} h w p v =
-    let d : (a : A) × Done first layFirst nums at found mid n a = lays-done h w n p in
-    let y : Got B = second (drop n nums) n in
-    record {
-      scan = v .scan ∙ rw (d .1 .gave) (same (d .0) y);
-      laid = rw (d .1 .gave) (go (d .0) y (d .1 .laid) (v .laid));
-    }
-  where
-    same : (a : A) (y : Got B) → forget y ≡ forget (andThen y (λ b. pure (make a b)))
-    same a (got b left next) = refl
-    same a (bad fault index) = refl
-
-    go : (a : A) (y : Got B) → mid ≡ layFirst a n found → Laid y laySecond mid filled
-        → Laid (andThen y (λ b. pure (make a b))) lay found filled
-    go a (got b left next) m l = l ∙ rw m (both a b n next found)
-    go a (bad fault index) m l = tt
-
-pub lays-fault : {A C : Type 0} {first : Reader A} (k : A → Reader C) {layFirst : A → ℕ → List ℕ → List ℕ}
-    (lay : C → ℕ → List ℕ → List ℕ)
-    {nums : List ℕ} {at f i : ℕ} {found filled : List ℕ} {x : Scan} (mid : List ℕ)
-    → Lays first layFirst nums at found filled x → x ≡ Fault f i
-    → Lays (first >>= k) lay nums at mid filled (Fault f i)
-unfolding scanOf forget Laid _>>=_ andThen
-lays-fault k lay {f = f} {i = i} mid w p = record { scan = rw (lays-bad w f i p); laid = rw (lays-bad w f i p) tt }
-
-lays-as : {A : Type 0} {read other : Reader A} {lay : A → ℕ → List ℕ → List ℕ} {nums : List ℕ} {at : ℕ}
-    {found filled : List ℕ} {r : Scan}
-    → read (drop at nums) at ≡ other (drop at nums) at → Lays other lay nums at found filled r
-    → Lays read lay nums at found filled r
-unfolding scanOf
-lays-as e w = record { scan = rw e (w .scan); laid = rw e (w .laid) }
-
 -- the header types and globals, the callables and tables
 list-scans : {A : Type 0} (one : Reader A) (nums : List ℕ) (most at : ℕ) → Keeps one
     → scanOf (listOf 0 most one) nums at ≡ listScan (scanOf one nums) 0 most nums at
@@ -245,6 +217,146 @@ module _ (version : ℕ) (nums : List ℕ) (at : ℕ) (found mid : List ℕ) (a 
       lays-list nums (keeps-table version) (starts-table version) 8 at 59 found mid a w
       (list-scans _ nums 8 at (keeps-table version))
 
+-- and into the ends
+module _ {A : Type 0} {one : Reader A} (nums : List ℕ) (h : Keeps one) (start : A → ℕ) (s : Starts start one)
+    (lay : A → ℕ → List ℕ → List ℕ) where
+  abbrev layOne : ℕ → List ℕ → List ℕ → Type 0
+  layOne at found filled = Laid (one (drop at nums) at) lay found filled
+
+  more-ends : (count at : ℕ) (found filled : List ℕ) (x : Got A) → one (drop at nums) at ≡ x → Kept nums at x
+      → ((n : ℕ) (mid : List ℕ) → partsEnds (scanOf one nums) layOne count n mid filled
+      → Laid (repeat count one (drop n nums) n) (layAll start lay) mid filled)
+      → endsAfter (forget x) (λ next. (mid : List ℕ) × Laid x lay found mid
+      × partsEnds (scanOf one nums) layOne count next mid filled)
+      → Laid (andThen x (λ a. repeat count one >>= λ rest. pure (a ∷ rest))) (layAll start lay) found filled
+  unfolding endsAfter forget Laid Kept andThen _>>=_ pure layAll BegunAt
+  more-ends count at found filled (bad fault index) e k ih l = tt
+  more-ends count at found filled (got a left n) e k ih l =
+      rw (k .rest) (go (repeat count one (drop n nums) n) (begins-repeat count s .begun (drop n nums) n)
+      (ih n (l .0) (l .2)))
+    where
+      go : (y : Got (List A)) → BegunAt (firstAt start) n y → Laid y (layAll start lay) (l .0) filled
+          → Laid (andThen y (λ rest. pure (a ∷ rest))) (layAll start lay) found filled
+      go (got rest u end) b m = m ∙ rw (l .1, b)
+      go (bad fault index) b m = tt
+
+  all-ends : (count at : ℕ) (found filled : List ℕ) → partsEnds (scanOf one nums) layOne count at found filled
+      → Laid (repeat count one (drop at nums) at) (layAll start lay) found filled
+  unfolding partsEnds repeat pure Laid layAll scanOf _>>=_ andThen
+  all-ends zero at found filled e = e
+  all-ends (suc count) at found filled l =
+      more-ends count at found filled (one (drop at nums) at) refl (h .kept nums at)
+      (λ n mid m. all-ends count n mid filled m) l
+
+  list-ends-lay : (most at : ℕ) (found filled : List ℕ) (v : Value) → v ≡ valueOf 0 most nums at
+      → ((n next : ℕ) → v ≡ Of n next → partsEnds (scanOf one nums) layOne n next found filled)
+      → Laid (listOf 0 most one (drop at nums) at) (layAll start lay) found filled
+  unfolding listOf valueOf valued Laid Kept andThen _>>=_
+  list-ends-lay most at found filled v q l =
+      go (between 0 most (drop at nums) at) (keeps-between 0 most .kept nums at) (λ n next e. l n next (q ∙ e))
+    where
+      go : (x : Got ℕ) → Kept nums at x
+          → ((n next : ℕ) → valued x ≡ Of n next → partsEnds (scanOf one nums) layOne n next found filled)
+          → Laid (andThen x (λ n. repeat n one)) (layAll start lay) found filled
+      go (bad fault index) k m = tt
+      go (got n left next) k m = rw (k .rest) (all-ends n next found filled (m n next refl))
+
+lay-nothing : {A : Type 0} (start : A → ℕ) (xs : List A) (end : ℕ) (slots : List ℕ)
+    → layAll start noEnds xs end slots ≡ noEnds xs end slots
+unfolding layAll noEnds
+lay-nothing start [] end slots = refl
+lay-nothing start (x ∷ xs) end slots = lay-nothing start xs end slots
+
+pub starts-tables : (version : ℕ) → Starts tableAt (readTable version)
+unfolding tableAt
+starts-tables version = starts-table version
+
+-- what a list of parts laid, at its count
+list-laid : (version : ℕ) (part : Part) (most : ℕ) (nums : List ℕ) (at : ℕ) (found filled : List ℕ) (r : Scan)
+    → LaysList version part most nums at found filled r → (n next : ℕ) → valueOf 0 most nums at ≡ Of n next
+    → partsEnds (partScan version part nums) (partEnds version part nums) n next found filled
+unfolding listEnds
+list-laid version part most nums at found filled r w n next e = rw e at (w .laid)
+
+module _ (version : ℕ) (nums : List ℕ) (at : ℕ) (found filled : List ℕ) (slots slots₂ : List ℕ) (r : Scan) where
+  header-ends : WalkedList (partScan version HeaderPart nums) 8 nums at 0 slots slots₂ r
+      → LaysList version HeaderPart 8 nums at found filled r
+      → Lays (listOf 0 8 (readHeader version)) noEnds nums at found filled r
+  unfolding partScan partEnds
+  header-ends w l = lays-like (lay-nothing (λ (h : HeaderTy). h .at)) (record {
+    scan = w .scan ∙ sym (list-scans _ nums 8 at (keeps-header version));
+    laid = list-ends-lay nums (keeps-header version) (λ h. h .at) (starts-header version) noEnds 8 at found filled _
+        refl (list-laid version HeaderPart 8 nums at found filled r l);
+  })
+
+  global-ends : WalkedList (partScan version GlobalPart nums) 32 nums at 9 slots slots₂ r
+      → LaysList version GlobalPart 32 nums at found filled r
+      → Lays (listOf 0 32 (readGlobal version)) noEnds nums at found filled r
+  unfolding partScan partEnds
+  global-ends w l = lays-like (lay-nothing (λ (g : Global). g .at)) (record {
+    scan = w .scan ∙ sym (list-scans _ nums 32 at (keeps-global version));
+    laid = list-ends-lay nums (keeps-global version) (λ g. g .at) (starts-global version) noEnds 32 at found filled _
+        refl (list-laid version GlobalPart 32 nums at found filled r l);
+  })
+
+  callable-ends : WalkedList (partScan version CallablePart nums) 16 nums at 42 slots slots₂ r
+      → LaysList version CallablePart 16 nums at found filled r
+      → Lays (listOf 0 16 (readCallable version)) (layAll callableAt layCallable) nums at found filled r
+  unfolding partScan partEnds callableAt
+  callable-ends w l = record {
+    scan = w .scan ∙ sym (list-scans _ nums 16 at (keeps-callable version));
+    laid = list-ends-lay nums (keeps-callable version) callableAt (starts-callable version) layCallable 16 at found
+        filled _ refl (list-laid version CallablePart 16 nums at found filled r l);
+  }
+
+  table-ends : WalkedList (partScan version TablePart nums) 8 nums at 59 slots slots₂ r
+      → LaysList version TablePart 8 nums at found filled r
+      → Lays (listOf 0 8 (readTable version)) (layAll tableAt layTable) nums at found filled r
+  unfolding partScan partEnds tableAt
+  table-ends w l = record {
+    scan = w .scan ∙ sym (list-scans _ nums 8 at (keeps-table version));
+    laid = list-ends-lay nums (keeps-table version) tableAt (starts-table version) layTable 8 at found filled _ refl
+        (list-laid version TablePart 8 nums at found filled r l);
+  }
+
+module _ (version : ℕ) (nums : List ℕ) (at n f i : ℕ) (found mid filled slots slots₂ slots₃ : List ℕ)
+    (a r : Scan) where
+  pub declared-ends : WalkedList (partScan version HeaderPart nums) 8 nums at 0 slots slots₂ a
+      → LaysList version HeaderPart 8 nums at found mid a → a ≡ Past n
+      → WalkedList (partScan version GlobalPart nums) 32 nums n 9 slots₂ slots₃ r
+      → LaysList version GlobalPart 32 nums n mid filled r
+      → Lays (readDeclared version) noEnds nums at found filled r
+  unfolding readDeclared noEnds
+  declared-ends w l p v m =
+      lays-then (λ hs gs. (hs, gs)) noEnds (λ hs gs m next slots. refl) (keeps-list 0 8 (keeps-header version))
+      (header-ends version nums at found mid slots slots₂ a w l) p
+      (global-ends version nums n mid filled slots₂ slots₃ r v m)
+
+  pub declared-no-ends : WalkedList (partScan version HeaderPart nums) 8 nums at 0 slots slots₂ a
+      → LaysList version HeaderPart 8 nums at found mid a → a ≡ Fault f i
+      → Lays (readDeclared version) noEnds nums at found mid (Fault f i)
+  unfolding readDeclared
+  declared-no-ends w l p = lays-fault _ noEnds found (header-ends version nums at found mid slots slots₂ a w l) p
+
+  pub defined-ends : WalkedList (partScan version CallablePart nums) 16 nums at 42 slots slots₂ a
+      → LaysList version CallablePart 16 nums at found mid a → a ≡ Past n
+      → WalkedList (partScan version TablePart nums) 8 nums n 59 slots₂ slots₃ r
+      → LaysList version TablePart 8 nums n mid filled r
+      → Lays (readDefined version) endsDefined nums at found filled r
+  unfolding readDefined endsDefined
+  defined-ends w l p v m =
+      lays-next (λ cs ts. (cs, ts)) endsDefined (λ ts end. firstAt tableAt ts end - 1) (λ cs ts next slots. refl)
+      (keeps-list 0 16 (keeps-callable version)) (begins-list 0 8 (starts-tables version))
+      (callable-ends version nums at found mid slots slots₂ a w l) p
+      (table-ends version nums n mid filled slots₂ slots₃ r v m)
+
+  pub defined-no-ends : WalkedList (partScan version CallablePart nums) 16 nums at 42 slots slots₂ a
+      → LaysList version CallablePart 16 nums at found mid a → a ≡ Fault f i
+      → Lays (readDefined version) endsDefined nums at found mid (Fault f i)
+  unfolding readDefined
+  defined-no-ends w l p =
+      lays-fault _ endsDefined found (callable-ends version nums at found mid slots slots₂ a w l) p
+
 module _ (version : ℕ) (nums : List ℕ) (at n f i : ℕ) (found mid filled : List ℕ) (a r : Scan) where
   pub declared-past : WalkedList (partScan version HeaderPart nums) 8 nums at 0 found mid a → a ≡ Past n
       → WalkedList (partScan version GlobalPart nums) 32 nums n 9 mid filled r
@@ -272,31 +384,18 @@ module _ (version : ℕ) (nums : List ℕ) (at n f i : ℕ) (found mid filled : 
   unfolding readDefined
   defined-fault w p = lays-fault _ layDefined found (callables-lay version nums at found mid a w) p
 
-pub ruleset declarations = (declared-past, declared-fault, defined-past, defined-fault)
+pub ruleset declarations = (
+  declared-past,
+  declared-fault,
+  defined-past,
+  defined-fault,
+  declared-ends,
+  declared-no-ends,
+  defined-ends,
+  defined-no-ends,
+)
 
 -- the apply body
-gives-stmt : (version : ℕ) (tag : StmtTag) (at : ℕ) (operand : Reader Expr) (target : Reader (ℕ × Place))
-    (inner : Reader Stmt)
-    → Gives (λ s. stmtAt s ≡ at) (readStmtAs version tag at operand target inner)
-unfolding readStmtAs stmtAt
-gives-stmt version tagEmpty at operand target inner = gives-pure _ _ refl
-gives-stmt version tagAssign at operand target inner = gives-then _ λ p. gives-then _ λ e. gives-pure _ _ refl
-gives-stmt version tagIf at operand target inner =
-    gives-then _ λ c. gives-then _ λ a. gives-then _ λ b. gives-pure _ _ refl
-gives-stmt version tagBlock at operand target inner = gives-then _ λ ss. gives-pure _ _ refl
-gives-stmt version tagCallStmt at operand target inner = gives-then _ λ f. gives-then _ λ xs. gives-pure _ _ refl
-gives-stmt version tagApply at operand target inner = gives-then _ λ t. gives-pure _ _ refl
-gives-stmt version tagReturnValue at operand target inner = gives-then _ λ e. gives-pure _ _ refl
-gives-stmt version tagReturn at operand target inner = gives-pure _ _ refl
-gives-stmt version tagExit at operand target inner = gives-pure _ _ refl
-gives-stmt version tagSetValid at operand target inner = gives-then _ λ g. gives-pure _ _ refl
-gives-stmt version tagSetInvalid at operand target inner = gives-then _ λ g. gives-pure _ _ refl
-
-pub starts-stmt : (version depth : ℕ) → Starts stmtAt (readStmt version depth)
-unfolding readStmt
-starts-stmt version zero = starts-deep stmtAt
-starts-stmt version (suc depth) = starts-here λ at. gives-then _ λ tag. gives-stmt version tag at _ _ _
-
 module _ (version : ℕ) (nums : List ℕ) (at : ℕ) (found : List ℕ) (a : Scan) (q : a ≡ scanOf
     (readStmt version deepest) nums at) where
   pub body-past : (end : ℕ) → a ≡ Past end
@@ -324,55 +423,40 @@ module _ (version : ℕ) (nums : List ℕ) (at : ℕ) (found : List ℕ) (a : Sc
       go (bad fault index) e = tt
       go (got s left next) e = let z : _≡_ {A = ℕ} 0 1 = cc in absurd (omega arith)
 
-pub ruleset bodies = (body-past, body-fault)
+pub ruleset bodies = (body-past, body-fault, lays-same)
 
--- brackets moved around two readers
-pair-then : {A B C : Type 0} (first : Reader A) (second : Reader B) (k : A → B → Reader C) (left : List ℕ) (at : ℕ)
-    → (first >>= λ a. second >>= k a) left at
-    ≡ ((first >>= λ a. second >>= λ b. pure {A = A × B} (a, b)) >>= λ p. k (p .0) (p .1)) left at
-unfolding _>>=_ andThen pure
-pair-then {A} {B} {C} first second k left at = go (first left at)
+pub begins-body : (version depth : ℕ) → Begins (λ s end. stmtAt s) (readStmt version depth)
+unfolding BegunAt Given
+begins-body version depth = record {
+  begun = λ left j. go j (readStmt version depth left j) (starts-stmt version depth .started left j);
+}
   where
-    inner : (a : A) (y : Got B)
-        → andThen y (k a) ≡ andThen (andThen y (λ b. pure {A = A × B} (a, b))) (λ p. k (p .0) (p .1))
-    inner a (got b left next) = refl
-    inner a (bad fault index) = refl
-
-    go : (x : Got A)
-        → andThen x (λ a. second >>= k a) ≡ andThen (andThen x (λ a. second >>= λ b. pure {A = A × B} (a, b)))
-        (λ p. k (p .0) (p .1))
-    go (got a left next) = inner a (second left next)
-    go (bad fault index) = refl
-
-then-same : {A B : Type 0} (read : Reader A) (left : List ℕ) (at : ℕ) (k l : A → Reader B)
-    → ((a : A) (left : List ℕ) (at : ℕ) → k a left at ≡ l a left at)
-    → (read >>= k) left at ≡ (read >>= l) left at
-unfolding _>>=_ andThen
-then-same {A} read left at k l e = go (read left at)
-  where
-    go : (x : Got A) → andThen x k ≡ andThen x l
-    go (got a left next) = e a left next
-    go (bad fault index) = refl
+    go : (j : ℕ) (x : Got Stmt) → Given (λ s. stmtAt s ≡ j) x → BegunAt (λ s end. stmtAt s) j x
+    go j (got s left next) e = e
+    go j (bad fault index) e = tt
 
 -- what follows the version, in three parts
 module _ (version : ℕ) where
-  abbrev Declared : Type 0
+  abbrev pub Declared : Type 0
   Declared = List HeaderTy × List Global
 
-  abbrev Defined : Type 0
+  abbrev pub Defined : Type 0
   Defined = List Callable × List Table
 
-  tree : Declared → Defined × Stmt → Program
+  unfoldable pub tree : Declared → Defined × Stmt → Program
   tree d q =
       record { version = version; headers = d .0; globals = d .1; callables = q .0 .0; tables = q .0 .1; body = q .1 }
 
-  readRest : Reader (Defined × Stmt)
+  unfoldable pub readRest : Reader (Defined × Stmt)
   readRest = readDefined version >>= λ f. readStmt version deepest >>= λ body. pure (f, body)
 
   layRest : Defined × Stmt → ℕ → List ℕ → List ℕ
   layRest q end slots = layBody (q .1) end (layDefined (q .0) 0 slots)
 
-  inThree : Reader Program
+  unfoldable pub endsRest : Defined × Stmt → ℕ → List ℕ → List ℕ
+  endsRest q end slots = layStmt (q .1) end (endsDefined (q .0) (stmtAt (q .1)) slots)
+
+  unfoldable pub inThree : Reader Program
   inThree = readDeclared version >>= λ d. readRest >>= λ q. pure (tree d q)
 
   inTwo : Declared → Reader Program
@@ -390,20 +474,20 @@ module _ (version : ℕ) where
       (λ callables tables. readStmt version deepest >>= λ body. pure (tree d ((callables, tables), body))) left at
       ∙ pair-then (readDefined version) (readStmt version deepest) (λ f body. pure (tree d (f, body))) left at
 
-  three : (left : List ℕ) (at : ℕ) → readAfterVersion version left at ≡ inThree left at
+  pub three : (left : List ℕ) (at : ℕ) → readAfterVersion version left at ≡ inThree left at
   unfolding inThree inOne tree readAfterVersion readDeclared
   three left at =
       pair-then (listOf 0 8 (readHeader version)) (listOf 0 32 (readGlobal version))
       (λ headers globals. inOne (headers, globals)) left at
       ∙ then-same (readDeclared version) left at inOne (λ d. readRest >>= λ q. pure (tree d q)) one-two-three
 
-  keeps-declared : Keeps (readDeclared version)
+  pub keeps-declared : Keeps (readDeclared version)
   unfolding readDeclared
   keeps-declared =
       keeps-then (keeps-list 0 8 (keeps-header version)) λ hs. keeps-then (keeps-list 0 32 (keeps-global version))
       λ gs. keeps-pure _
 
-  keeps-defined : Keeps (readDefined version)
+  pub keeps-defined : Keeps (readDefined version)
   unfolding readDefined
   keeps-defined =
       keeps-then (keeps-list 0 16 (keeps-callable version)) λ cs. keeps-then (keeps-list 0 8 (keeps-table version))
@@ -422,6 +506,30 @@ module _ (version : ℕ) (nums : List ℕ) (at n m f i : ℕ) (found mid third f
   unfolding inThree layRest layDeclared layDefined layBody directoryOf tree
   all-lays w p v = lays-as (three version (drop at nums) at)
       (lays-then (tree version) directoryOf (λ d q k next slots. refl) (keeps-declared version) w p v)
+
+  -- and the ends
+  pub after-ends : Lays (readDeclared version) noEnds nums at found mid a → a ≡ Past n
+      → Lays (readDefined version) endsDefined nums n mid third b
+      → b ≡ Past m → Lays (readStmt version deepest) layStmt nums m third filled r
+      → Lays (readAfterVersion version) endsOf nums at found filled r
+  unfolding inThree readRest endsRest endsDefined endsOf tree noEnds
+  after-ends w p v q u = lays-as (three version (drop at nums) at)
+      (lays-then (tree version) endsOf (λ d q k next slots. refl) (keeps-declared version) w p
+      (lays-next (λ d s. (d, s)) (endsRest version) (λ s end. stmtAt s) (λ d s next slots. refl) (keeps-defined version)
+      (begins-body version deepest) v q u))
+
+  pub after-defined-ends : Lays (readDeclared version) noEnds nums at found mid a → a ≡ Past n
+      → Lays (readDefined version) endsDefined nums n mid filled b
+      → b ≡ Fault f i → Lays (readAfterVersion version) endsOf nums at found filled (Fault f i)
+  unfolding inThree readRest endsRest endsDefined endsOf tree noEnds
+  after-defined-ends w p v q = lays-as (three version (drop at nums) at)
+      (lays-then (tree version) endsOf (λ d q k next slots. refl) (keeps-declared version) w p
+      (lays-fault _ (endsRest version) mid v q))
+
+  pub after-declared-ends : Lays (readDeclared version) noEnds nums at found filled a → a ≡ Fault f i
+      → Lays (readAfterVersion version) endsOf nums at found filled (Fault f i)
+  unfolding inThree
+  after-declared-ends w p = lays-as (three version (drop at nums) at) (lays-fault _ endsOf found w p)
 
   pub after-past : Lays (readDeclared version) layDeclared nums at found mid a → a ≡ Past n
       → Lays (readDefined version) layDefined nums n mid third b
@@ -443,51 +551,76 @@ module _ (version : ℕ) (nums : List ℕ) (at n m f i : ℕ) (found mid third f
   after-declared w p = lays-as (three version (drop at nums) at) (lays-fault _ directoryOf found w p)
 
 -- the version, and the program
-module _ (nums : List ℕ) (f i : ℕ) (found filled : List ℕ) (v : Value) (q : v ≡ valueOf 1 1 nums 0) where
+module _ (lay : Program → ℕ → List ℕ → List ℕ) (nums : List ℕ) (f i : ℕ) (found filled : List ℕ) (v : Value) (q : v ≡ valueOf 1 1 nums 0) where
   pub version-past : (n next : ℕ) (r : Scan) → v ≡ Of n next
-      → Lays (readAfterVersion n) directoryOf nums next found filled r
-      → Lays readProgram directoryOf nums 0 found filled r
+      → Lays (readAfterVersion n) lay nums next found filled r
+      → Lays readProgram lay nums 0 found filled r
   unfolding readProgram versionOf between valueOf valued scanOf Kept _>>=_ andThen
   version-past n next r p w = go (between 1 1 (drop 0 nums) 0) refl (keeps-between 1 1 .kept nums 0) (sym q ∙ p)
     where
       go : (y : Got ℕ) → between 1 1 (drop 0 nums) 0 ≡ y → Kept nums 0 y → valued y ≡ Of n next
-          → Lays readProgram directoryOf nums 0 found filled r
+          → Lays readProgram lay nums 0 found filled r
       go (bad fault index) e k c = let z : _≡_ {A = ℕ} 0 1 = cc in absurd (omega arith)
       go (got m left after) e k c =
           let u : m ≡ n = cc in
           let o : after ≡ next = cc in
           record { scan = w .scan ∙ rw (e, k .rest, u, o); laid = rw (e, k .rest, u, o) (w .laid) }
 
-  pub version-fault : v ≡ Unread f i → Lays readProgram directoryOf nums 0 found found (Fault f i)
+  pub version-fault : v ≡ Unread f i → Lays readProgram lay nums 0 found found (Fault f i)
   unfolding readProgram versionOf between valueOf valued scanOf forget Laid _>>=_ andThen
   version-fault p = go (between 1 1 (drop 0 nums) 0) refl (sym q ∙ p)
     where
       go : (y : Got ℕ) → between 1 1 (drop 0 nums) 0 ≡ y → valued y ≡ Unread f i
-          → Lays readProgram directoryOf nums 0 found found (Fault f i)
+          → Lays readProgram lay nums 0 found found (Fault f i)
       go (bad fault index) e c =
           let u : fault ≡ f = cc in
           let o : index ≡ i = cc in
           record { scan = rw (e, u, o); laid = rw e tt }
       go (got m left after) e c = let z : _≡_ {A = ℕ} 0 1 = cc in absurd (omega arith)
 
-module _ (nums : List ℕ) (f i end : ℕ) (found filled : List ℕ) (a : Scan)
-    (w : Lays readProgram directoryOf nums 0 found filled a) where
-  pub program-past : a ≡ Past end → ScansProgram nums found filled (Past end)
-  unfolding scanOf forget Laid directoryLeft
-  program-past p =
-      record { answer = sym p ∙ w .scan; directory = go (readProgram nums 0) (w .laid) (sym (w .scan) ∙ p) }
+module _ (nums : List ℕ) (f i end : ℕ) (found filled slots laid : List ℕ) (a : Scan)
+    (w : Lays readProgram directoryOf nums 0 found filled a) (v : Lays readProgram endsOf nums 0 slots laid a) where
+  pub program-past : a ≡ Past end → ScansProgram nums found filled slots laid (Past end)
+  unfolding scanOf forget Laid directoryLeft endsLeft
+  program-past p = record {
+    answer = sym p ∙ w .scan;
+    parts = go (readProgram nums 0) (w .laid) (sym (w .scan) ∙ p);
+    laid = ends (readProgram nums 0) (v .laid) (sym (w .scan) ∙ p);
+  }
     where
       go : (y : Got Program) → Laid y directoryOf found filled → forget y ≡ Past end → filled ≡ directoryLeft y found
       go (got tree left next) l e = l
       go (bad fault index) l e = let z : _≡_ {A = ℕ} 0 1 = cc in absurd (omega arith)
 
-  pub program-fault : a ≡ Fault f i → ScansProgram nums found found (Fault f i)
-  unfolding scanOf forget Laid directoryLeft
-  program-fault p = record { answer = sym p ∙ w .scan; directory = go (readProgram nums 0) (sym (w .scan) ∙ p) }
+      ends : (y : Got Program) → Laid y endsOf slots laid → forget y ≡ Past end → laid ≡ endsLeft y slots
+      ends (got tree left next) l e = l
+      ends (bad fault index) l e = let z : _≡_ {A = ℕ} 0 1 = cc in absurd (omega arith)
+
+  pub program-fault : a ≡ Fault f i → ScansProgram nums found found slots (replicate mostNumbers 0) (Fault f i)
+  unfolding scanOf forget Laid directoryLeft endsLeft
+  program-fault p = record {
+    answer = sym p ∙ w .scan;
+    parts = go (readProgram nums 0) (sym (w .scan) ∙ p);
+    laid = ends (readProgram nums 0) (sym (w .scan) ∙ p);
+  }
     where
       go : (y : Got Program) → forget y ≡ Fault f i → found ≡ directoryLeft y found
       go (got tree left next) e = let z : _≡_ {A = ℕ} 0 1 = cc in absurd (omega arith)
       go (bad fault index) e = refl
 
-pub ruleset programs =
-    (after-past, after-defined, after-declared, version-past, version-fault, program-past, program-fault)
+      ends : (y : Got Program) → forget y ≡ Fault f i → replicate mostNumbers 0 ≡ endsLeft y slots
+      ends (got tree left next) e = let z : _≡_ {A = ℕ} 0 1 = cc in absurd (omega arith)
+      ends (bad fault index) e = refl
+
+pub ruleset programs = (
+  after-past,
+  after-defined,
+  after-declared,
+  after-ends,
+  after-defined-ends,
+  after-declared-ends,
+  version-past,
+  version-fault,
+  program-past,
+  program-fault,
+)

@@ -1,20 +1,25 @@
 -- Scanning a statement: what its lead is by its tag, and that lead, operands and statements together are the statement.
+use mathlib.Core.Bool.{Bool, true, false}
 use mathlib.Core.Option.{Option, none, some}
 use mathlib.Core.Path.{_≡_, refl, sym, _∙_}
-use mathlib.Core.List.{List}
-use Prim.Native.Nat.{ℕ, zero, suc, _+_, _-_, _≤_, _<_}
+use mathlib.Core.List.{List, [], _∷_}
+use Prim.Native.Nat.{ℕ, zero, suc, _+_, _-_, _*_, _≤_, _<_, _^_}
 use native.Mathlib.Omega.{arith}
 use native.Mathlib.Numerals.{add-one}
-use lib.ListN.{length, getD, getElem?}
-use lib.Dec.{lit<}
-use Rattle.rules.specs.Syntax.{Expr, Stmt, Place}
-use Rattle.rules.specs.Reading.{Reader, _>>=_, pure, number, standsFor, repeat, tooDeep}
+use lib.ListN.{length, getD, drop, set, getElem?}
+use lib.Dec.{ltb}
+use borrow.Author.Tests.{ltb-true, ltb-false}
+use Rattle.rules.specs.Syntax.{Expr, Stmt, empty, assign, ifElse, block, callStmt, apply, returnValue, return, exit, setValid, setInvalid, Place}
+use Rattle.rules.specs.Reading.{Got, got, bad, Reader, andThen, _>>=_, pure, here, number, meaning, lookedUp, standsFor, repeat, tooDeep}
 use Rattle.rules.specs.Reading.{PlaceTag, tagLocal, tagParameter, tagGlobal, tagField}
 use Rattle.rules.specs.Reading.{StmtTag, tagEmpty, tagAssign, tagIf, tagBlock, tagCallStmt, tagApply, tagReturnValue, tagReturn, tagExit, tagSetValid, tagSetInvalid}
-use Rattle.rules.specs.Reading.{exprTags, placeTagOf, stmtTags, readPlace, readExpr, readTarget, readStmtAs, readStmt}
-use Rattle.rules.proofs.Readers.{Keeps, keeps-number, keeps-list, keeps-place, keeps-expr, keeps-target, keeps-stmt}
+use Rattle.rules.specs.Reading.{exprTags, placeTagOf, stmtTags, toArgs, toStmts, readPlace, readExpr, readTarget, readStmtAs, readStmt}
+use Rattle.rules.proofs.Readers.{Keeps, keeps-number, keeps-list, keeps-place, keeps-expr, keeps-target, keeps-stmt, Kept, keeps-then, keeps-pure, keeps-repeat, looked-in, looked-out, Given, Gives, gives-then, gives-pure, Starts, starts-here, starts-deep}
 use Rattle.shape.specs.Scans.{forget, scanOf}
-use Rattle.shape.specs.Leads.{onScan, valueOf, onValue, leadBy, onLead, callLead, blockLead, Counts, placeFormOf, placeForm, placeScan, stmtFormOf, stmtForm, stmtLead, LeadsStmt}
+use Rattle.shape.specs.Directory.{stmtAt}
+use Rattle.shape.specs.Ends.{mostNumbers, exprAt, stmtsAt, layStmt, layStmts, firstAt, layAll}
+use Rattle.shape.specs.Walks.{Lays}
+use Rattle.shape.specs.Leads.{Agree, AgreeOn, Made, Tagged, layExprs, layMembers, readParts, layParts, laidTarget, LeadsTarget, stmtLaid, LeadsForm, onScan, valueOf, onValue, leadBy, onLead, callLead, blockLead, placeFormOf, placeForm, placeScan, stmtFormOf, stmtForm, stmtLead, LeadsStmt}
 use Rattle.shape.specs.declared.Scan.{Scan}
 use Rattle.shape.specs.declared.Scan.the-variants.{Past, Fault}
 use Rattle.shape.specs.declared.Value.{Value}
@@ -25,10 +30,11 @@ use Rattle.shape.specs.declared.PlaceForm.{PlaceForm}
 use Rattle.shape.specs.declared.PlaceForm.the-variants.{OneNumber, TwoNumbers, NoPlace}
 use Rattle.shape.specs.declared.StmtForm.{StmtForm}
 use Rattle.shape.specs.declared.StmtForm.the-variants.{Bare, Assign, If, Block, CallStmt, Named, Returned, NoStmt}
-use Rattle.shape.proofs.Rank.{rank, to-list, to-member, to-rest}
 use Rattle.shape.proofs.Laws.{on-past, on-fault, on-same, on-last, Scans, scans-self, scans-then, scans-pure, scans-last, scans-as, scan-here, stands-is, stands-none, stands-out}
-use Rattle.shape.proofs.Laws.{none-past, deep-same, repeat-none, repeat-past, repeat-fault, scans-one, scans-two, AtMost, value-most}
-use Rattle.shape.proofs.Exprs.{above, one-less, lead-scan, scans-list, call-scan, scans-field, scans-place, counts-by, counts-call}
+use Rattle.shape.proofs.Laws.{none-past, deep-missing, deep-same, repeat-none, scans-one, scans-two}
+use Rattle.shape.proofs.Exprs.{above, one-less, lead-scan, scans-list, call-scan, scans-field, scans-place, args-laid, starts-expr, construct}
+use Rattle.shape.proofs.Agrees.{Alike, alike-then, alike-one, alike-two, alike-all, alike-assoc, alike-map, agree-none, agree-members, agree-call, behind-tag, tag-in, Latest, kept-latest}
+use Rattle.shape.proofs.Lays.{lays-none, lays-deep, begins-repeat, lays-next, all-none, all-past, all-fault, Pending, pending-first}
 
 -- a target's form by its tag
 pub place-of : (version n tag : ℕ) (f : PlaceForm) → n ≡ tag → f ≡ placeForm version tag → f ≡ placeForm version n
@@ -133,7 +139,47 @@ pub target-missing : (version depth : ℕ) (nums : List ℕ) (at : ℕ) → (dep
     → Fault 4 at ≡ scanOf (readTarget version depth) nums at
 target-missing version depth nums at x h = rw (one-less depth x) at (target-out version (depth - 1) nums at h)
 
+-- a target that reads is inside the list
+target-inside : (version depth : ℕ) (nums : List ℕ) (at n : ℕ) (a : Scan)
+    → a ≡ scanOf (readTarget version depth) nums at → a ≡ Past n
+    → at < length nums
+target-inside version depth nums at n a q p = go depth (sym p ∙ q) (ltb at (length nums)) refl
+  where
+    go : (d : ℕ) → Past n ≡ scanOf (readTarget version d) nums at → (b : Bool) → ltb at (length nums) ≡ b
+        → at < length nums
+    go d e true t = ltb-true at (length nums) t
+    go zero e false t =
+        let f : Fault 4 at ≡ scanOf (readTarget version 0) nums at
+        = target-deep version 0 nums at (Fault 4 at) refl (deep-missing nums at (ltb-false at (length nums) t)) in
+        let z : _≡_ {A = ℕ} 0 1 = cc in
+        absurd (omega arith)
+    go (suc d) e false t =
+        let f : Fault 4 at ≡ scanOf (readTarget version (suc d)) nums at
+        = target-out version d nums at (ltb-false at (length nums) t) in
+        let z : _≡_ {A = ℕ} 0 1 = cc in
+        absurd (omega arith)
+
 pub ruleset targets = (target-deep, target-is, target-missing)
+
+-- an assignment up to its value
+module _ (version depth : ℕ) (nums : List ℕ) (at : ℕ) (a : Scan)
+    (q : a ≡ scanOf (readTarget version depth) nums at) where
+  pub target-on : (next : ℕ) (found : List ℕ) → a ≡ Past next
+      → LeadsTarget version depth nums at found (set found at next) (On next 1 0)
+  unfolding leadBy laidTarget
+  target-on next found p = record { lead = rw (← q, p); laid = rw (← q, p) }
+
+  pub target-off : (f i : ℕ) (found : List ℕ) → a ≡ Fault f i → LeadsTarget version depth nums at found found (Off f i)
+  unfolding leadBy laidTarget
+  target-off f i found p = record { lead = rw (← q, p); laid = rw (← q, p) }
+
+  pub target-slot : (n : ℕ) → a ≡ Past n → length nums ≤ mostNumbers → at < mostNumbers
+  target-slot n p h = omega (arith, target-inside version depth nums at n a q p)
+
+  pub target-fits : (n : ℕ) → a ≡ Past n → length nums ≤ mostNumbers → at * 8 < 2 ^ 64
+  target-fits n p h = omega (arith, target-inside version depth nums at n a q p)
+
+pub ruleset targetLeads = (target-on, target-off, target-slot, target-fits)
 
 -- a statement's form by its tag
 pub stmt-of : (version n tag : ℕ) (f : StmtForm) → n ≡ tag → f ≡ stmtForm version tag → f ≡ stmtForm version n
@@ -199,13 +245,55 @@ pub no-stmt-lead : (version depth : ℕ) (nums : List ℕ) (at : ℕ) (form : St
 unfolding stmtLead
 no-stmt-lead version depth nums at form f = rw f
 
+-- with the slots that it lays: none but an assignment's target
+module _ (version depth : ℕ) (nums : List ℕ) (at : ℕ) (form : StmtForm) (r : Lead) (found : List ℕ) where
+  pub bare-form : form ≡ Bare → r ≡ leadBy (Past (at + 1)) 0 0 → LeadsForm version depth form nums at found found r
+  unfolding stmtLaid
+  bare-form f q = record { lead = bare-lead version depth nums at form r f q; laid = rw f }
+
+  pub assign-form : (mid : List ℕ) → form ≡ Assign → LeadsTarget version depth nums (at + 1) found mid r
+      → LeadsForm version depth form nums at found mid r
+  unfolding stmtLaid
+  assign-form mid f t =
+      record { lead = assign-lead version depth nums at form r f _ refl (t .lead); laid = rw f (t .laid) }
+
+  pub if-form : form ≡ If → r ≡ leadBy (Past (at + 1)) 1 2 → LeadsForm version depth form nums at found found r
+  unfolding stmtLaid
+  if-form f q = record { lead = if-lead version depth nums at form r f q; laid = rw f }
+
+  pub block-form : form ≡ Block → r ≡ blockLead (valueOf 0 64 nums (at + 1))
+      → LeadsForm version depth form nums at found found r
+  unfolding stmtLaid
+  block-form f q = record { lead = block-lead version depth nums at form r f q; laid = rw f }
+
+  pub call-stmt-form : form ≡ CallStmt → r ≡ callLead nums (scanOf number nums (at + 1))
+      → LeadsForm version depth form nums at found found r
+  unfolding stmtLaid
+  call-stmt-form f q = record { lead = call-stmt-lead version depth nums at form r f q; laid = rw f }
+
+  pub named-form : form ≡ Named → (s : Scan) → s ≡ scanOf number nums (at + 1) → r ≡ leadBy s 0 0
+      → LeadsForm version depth form nums at found found r
+  unfolding stmtLaid
+  named-form f s e q = record { lead = named-lead version depth nums at form r f s e q; laid = rw f }
+
+  pub returned-form : form ≡ Returned → r ≡ leadBy (Past (at + 1)) 1 0
+      → LeadsForm version depth form nums at found found r
+  unfolding stmtLaid
+  returned-form f q = record { lead = returned-lead version depth nums at form r f q; laid = rw f }
+
+pub no-stmt-form : (version depth : ℕ) (nums : List ℕ) (at : ℕ) (form : StmtForm) (found : List ℕ) → form ≡ NoStmt
+    → LeadsForm version depth form nums at found found (Off 4 at)
+unfolding stmtLaid
+no-stmt-form version depth nums at form found f =
+    record { lead = no-stmt-lead version depth nums at form f; laid = rw f }
+
 unlisted : (version depth : ℕ) (nums : List ℕ) (at : ℕ) (K : ℕ → ℕ → ℕ → Scan)
     → Fault 4 at ≡ onLead (stmtLead version depth (stmtFormOf none) nums at) K
 unfolding stmtLead stmtFormOf onLead
 unlisted version depth nums at K = refl
 
 pub ruleset stmtLeads =
-    (bare-lead, assign-lead, if-lead, block-lead, call-stmt-lead, named-lead, returned-lead, no-stmt-lead)
+    (bare-form, assign-form, if-form, block-form, call-stmt-form, named-form, returned-form, no-stmt-form)
 
 -- what follows a lead: operands, then statements
 module _ (version : ℕ) (nums : List ℕ) (operand : Reader Expr) (target : Reader (ℕ × Place)) (inner : Reader Stmt)
@@ -296,102 +384,350 @@ module _ (version depth : ℕ) (nums : List ℕ) (at : ℕ) where
   stmt-missing h = scan-here nums at (λ j. standsFor (getElem? (stmtTags version)) >>= behind j)
       ∙ stands-out (getElem? (stmtTags version)) (behind at) nums at h
 
-counts-block : (v : Value) → AtMost 64 v → Counts (blockLead v)
-unfolding blockLead Counts AtMost
-counts-block (Of n next) h = (lit< tt, omega arith)
-counts-block (Unread fault index) h = tt
+gives-stmt : (version : ℕ) (tag : StmtTag) (at : ℕ) (operand : Reader Expr) (target : Reader (ℕ × Place))
+    (inner : Reader Stmt)
+    → Gives (λ s. stmtAt s ≡ at) (readStmtAs version tag at operand target inner)
+unfolding readStmtAs stmtAt
+gives-stmt version tagEmpty at operand target inner = gives-pure _ _ refl
+gives-stmt version tagAssign at operand target inner = gives-then _ λ p. gives-then _ λ e. gives-pure _ _ refl
+gives-stmt version tagIf at operand target inner =
+    gives-then _ λ c. gives-then _ λ a. gives-then _ λ b. gives-pure _ _ refl
+gives-stmt version tagBlock at operand target inner = gives-then _ λ ss. gives-pure _ _ refl
+gives-stmt version tagCallStmt at operand target inner = gives-then _ λ f. gives-then _ λ xs. gives-pure _ _ refl
+gives-stmt version tagApply at operand target inner = gives-then _ λ t. gives-pure _ _ refl
+gives-stmt version tagReturnValue at operand target inner = gives-then _ λ e. gives-pure _ _ refl
+gives-stmt version tagReturn at operand target inner = gives-pure _ _ refl
+gives-stmt version tagExit at operand target inner = gives-pure _ _ refl
+gives-stmt version tagSetValid at operand target inner = gives-then _ λ g. gives-pure _ _ refl
+gives-stmt version tagSetInvalid at operand target inner = gives-then _ λ g. gives-pure _ _ refl
 
-counts-stmt : (version depth : ℕ) (f : StmtForm) (nums : List ℕ) (at : ℕ) → Counts (stmtLead version depth f nums at)
-unfolding stmtLead Counts
-counts-stmt version depth Bare nums at = counts-by _ 0 0 (lit< tt) (lit< tt)
-counts-stmt version depth Assign nums at = counts-by _ 1 0 (lit< tt) (lit< tt)
-counts-stmt version depth If nums at = counts-by _ 1 2 (lit< tt) (lit< tt)
-counts-stmt version depth Block nums at = counts-block (valueOf 0 64 nums (at + 1)) (value-most 0 64 nums (at + 1))
-counts-stmt version depth CallStmt nums at = counts-call nums (scanOf number nums (at + 1))
-counts-stmt version depth Named nums at = counts-by _ 0 0 (lit< tt) (lit< tt)
-counts-stmt version depth Returned nums at = counts-by _ 1 0 (lit< tt) (lit< tt)
-counts-stmt version depth NoStmt nums at = tt
+pub starts-stmt : (version depth : ℕ) → Starts stmtAt (readStmt version depth)
+unfolding readStmt
+starts-stmt version zero = starts-deep stmtAt
+starts-stmt version (suc depth) = starts-here λ at. gives-then _ λ tag. gives-stmt version tag at _ _ _
 
-pub leads-is : (version depth : ℕ) (nums : List ℕ) (at : ℕ) (f : StmtForm) (r : Lead) → at < length nums
+gives-target : (version depth : ℕ) → Starts (λ (p : ℕ × Place). p .0) (readTarget version depth)
+unfolding readTarget
+gives-target version zero = starts-deep _
+gives-target version (suc depth) =
+    starts-here λ at. gives-then _ λ tag. gives-then _ λ p. gives-pure _ _ refl
+
+-- the slots of a statement are its target's, those of its operands and members, and its own
+pub stmts-at : (version : ℕ) (ss : List Stmt) (end : ℕ) → stmtsAt (toStmts version ss) end ≡ firstAt stmtAt ss end
+unfolding stmtsAt toStmts firstAt
+stmts-at version [] end = refl
+stmts-at version (s ∷ ss) end = refl
+
+pub stmts-laid : (version : ℕ) (ss : List Stmt) (end : ℕ) (slots : List ℕ)
+    → layStmts (toStmts version ss) end slots ≡ layMembers ss end slots
+unfolding layStmts toStmts layMembers layAll
+stmts-laid version [] end slots = refl
+stmts-laid version (s ∷ ss) end slots =
+    rw (stmts-at version ss end) (stmts-laid version ss end (layStmt s (firstAt stmtAt ss end) slots))
+
+-- a target takes its tag and a number at least
+target-later : (version depth : ℕ) (nums : List ℕ) (at : ℕ) → Latest (suc at) (readTarget version depth (drop at nums) at)
+unfolding readTarget tooDeep here _>>=_ andThen standsFor meaning Latest
+target-later version zero nums at = go (drop at nums)
+  where
+    go : (left : List ℕ) → Latest (suc at) (tooDeep {A = ℕ × Place} left at)
+    go [] = tt
+    go (n ∷ left) = tt
+target-later version (suc depth) nums at = go (ltb at (length nums)) refl
+  where
+    what : ℕ → Option PlaceTag
+    what n = placeTagOf version (getElem? (exprTags version) n)
+
+    rest : PlaceTag → Reader (ℕ × Place)
+    rest tag = readPlace version tag >>= λ p. pure (at, p)
+
+    keeps-rest : (tag : PlaceTag) → Keeps (rest tag)
+    keeps-rest tag = keeps-then (keeps-place version tag) λ p. keeps-pure _
+
+    inside : (x : Option PlaceTag) → Latest (suc at) (andThen (meaning 4 x (drop (suc at) nums) at) rest)
+    inside none = tt
+    inside (some tag) = kept-latest nums (suc at) (rest tag (drop (suc at) nums) (suc at)) (keeps-rest tag .kept nums (suc at))
+
+    go : (b : Bool) → ltb at (length nums) ≡ b
+        → Latest (suc at) (andThen (lookedUp 4 what (drop at nums) at) rest)
+    go true e = rw (looked-in 4 what nums at (ltb-true at (length nums) e)) (inside (what (getD nums at 0)))
+    go false e = rw (looked-out 4 what nums at (ltb-false at (length nums) e)) tt
+
+-- what holds of a statement, its operands and its members at each tag; `found` and `mid` are the slots before and
+-- behind its lead
+pub record StmtNodes (version at : ℕ) (found : List ℕ) (P : List ℕ → Stmt → List Expr × List Stmt → Type 0)
+    : Type 0 where
+  pub empty-node : P found (empty at) ([], [])
+  pub assign-node : (next : ℕ) (p : Place) (e : Expr) → exprAt e ≡ next → at + 1 < next
+      → P (set found (at + 1) next) (assign at (at + 1) p e) (e ∷ [], [])
+  pub if-node : (c : Expr) (a b : Stmt) → P found (ifElse at c a b) (c ∷ [], a ∷ b ∷ [])
+  pub block-node : (ss : List Stmt) → P found (block at (toStmts version ss)) ([], ss)
+  pub call-node : (f : ℕ) (xs : List Expr) → P found (callStmt at f (toArgs version xs)) (xs, [])
+  pub apply-node : (t : ℕ) → P found (apply at t) ([], [])
+  pub value-node : (e : Expr) → P found (returnValue at e) (e ∷ [], [])
+  pub return-node : P found (return at) ([], [])
+  pub exit-node : P found (exit at) ([], [])
+  pub valid-node : (g : ℕ) → P found (setValid at g) ([], [])
+  pub invalid-node : (g : ℕ) → P found (setInvalid at g) ([], [])
+
+module _ (version depth : ℕ) (nums : List ℕ) (at : ℕ) (found : List ℕ)
+    (P : List ℕ → Stmt → List Expr × List Stmt → Type 0) (N : StmtNodes version at found P) where
+  abbrev operand : Reader Expr
+  operand = readExpr version depth
+
+  abbrev inner : Reader Stmt
+  inner = readStmt version depth
+
+  abbrev target : Reader (ℕ × Place)
+  target = readTarget version depth
+
+  abbrev parts : ℕ → ℕ → Reader (List Expr × List Stmt)
+  parts = readParts version depth
+
+  abbrev Tree : Stmt → List Expr × List Stmt → Type 0
+  Tree = P found
+
+  none-read : (left : List ℕ) (i : ℕ) → parts 0 0 left i ≡ got ([], []) left i
+  unfolding readParts repeat pure _>>=_ andThen
+  none-read left i = refl
+
+  after-target : (t next : ℕ) (p : Place) (x : Got Expr) → t ≡ at + 1 → Given (λ e. exprAt e ≡ next) x → at + 1 < next
+      → Agree (P (set found (at + 1) next)) (andThen x (λ e. pure (assign at t p e)))
+      (andThen (andThen x (λ e. repeat 0 operand >>= λ rest. pure (e ∷ rest)))
+      (λ xs. repeat 0 inner >>= λ ss. pure (xs, ss)))
+  unfolding Agree Given repeat pure _>>=_ andThen
+  after-target t next p (got e left m) q g h = rw q (N .assign-node next p e g h)
+  after-target t next p (bad fault index) q g h = tt
+
+  assign-as : (x : Got (ℕ × Place)) → Kept nums (at + 1) x → Given (λ p. p .0 ≡ at + 1) x → Latest (suc (at + 1)) x
+      → AgreeOn (P (laidTarget (forget x) (at + 1) found))
+      (andThen x (λ p. operand >>= λ e. pure (assign at (p .0) (p .1) e))) parts nums (leadBy (forget x) 1 0)
+  unfolding AgreeOn Given Kept Latest forget andThen _>>=_ leadBy laidTarget readParts repeat
+  assign-as (got p left next) l g h =
+      rw (l .rest)
+      (after-target (p .0) next (p .1) (operand (drop next nums) next) g
+      (starts-expr version depth .started (drop next nums) next) h)
+  assign-as (bad fault index) l g h = tt
+
+  assign-tree : AgreeOn (P (laidTarget (scanOf target nums (at + 1)) (at + 1) found))
+      ((target >>= λ p. operand >>= λ e. pure (assign at (p .0) (p .1) e)) (drop (at + 1) nums) (at + 1)) parts nums
+      (leadBy (scanOf target nums (at + 1)) 1 0)
+  unfolding scanOf _>>=_
+  assign-tree =
+      assign-as (target (drop (at + 1) nums) (at + 1)) (keeps-target version depth .kept nums (at + 1))
+      (gives-target version depth .started (drop (at + 1) nums) (at + 1)) (target-later version depth nums (at + 1))
+
+  -- operands alone, members alone, and a condition with two branches
+  operands-alike : (n : ℕ) {read : Reader Stmt} → Alike (λ s xs. Tree s (xs, [])) read (repeat n operand)
+      → Alike Tree read (parts n 0)
+  unfolding readParts repeat pure _>>=_ andThen
+  operands-alike n f = alike-map Tree (λ xs. (xs, [])) f
+
+  members-alike : (n : ℕ) {read : Reader Stmt} → Alike (λ s ss. Tree s ([], ss)) read (repeat n inner)
+      → Alike Tree read (parts 0 n)
+  unfolding readParts repeat pure _>>=_ andThen
+  members-alike n f = alike-map Tree (λ ss. ([], ss)) f
+
+  branches-alike : {k : Expr → Reader Stmt}
+      → ((c : Expr) → Alike (λ s ss. Tree s (c ∷ [], ss)) (k c) (repeat 2 inner))
+      → Alike Tree (operand >>= k) (parts 1 2)
+  unfolding readParts repeat pure _>>=_ andThen
+  branches-alike {k} f =
+      alike-assoc Tree operand (λ c. repeat 0 operand >>= λ rest. pure (c ∷ rest))
+      (λ xs. repeat 2 inner >>= λ ss. pure (xs, ss)) (alike-then operand λ c. alike-map Tree (λ ss. (c ∷ [], ss)) (f c))
+
+  tree-as : (tag : StmtTag)
+      → AgreeOn (P (stmtLaid version depth (stmtFormOf (some tag)) nums at found))
+      (readStmtAs version tag at operand target inner (drop (at + 1) nums) (at + 1)) parts nums
+      (stmtLead version depth (stmtFormOf (some tag)) nums at)
+  unfolding readStmtAs stmtLead stmtLaid stmtFormOf
+  tree-as tagEmpty =
+      agree-none Tree parts nums (at + 1) _ ([], []) _ _ _ (gives-pure _ _ (N .empty-node)) none-read
+  tree-as tagAssign = assign-tree
+  tree-as tagIf =
+      behind-tag Tree parts nums at 1 2
+      (branches-alike λ c. alike-two (λ a ss. Tree a (c ∷ [], ss)) inner _ (N .if-node c))
+  tree-as tagBlock =
+      agree-members Tree parts nums (at + 1) inner _ λ n. members-alike n
+      (alike-all (λ a ss. Tree a ([], ss)) (repeat n inner) _ (N .block-node))
+  tree-as tagCallStmt =
+      agree-call Tree parts nums (at + 1) operand _ λ f n. operands-alike n
+      (alike-all (λ a xs. Tree a (xs, [])) (repeat n operand) _ (N .call-node f))
+  tree-as tagApply =
+      agree-none Tree parts nums (at + 1) _ ([], []) _ _ _ (gives-then _ λ t. gives-pure _ _ (N .apply-node t)) none-read
+  tree-as tagReturnValue =
+      behind-tag Tree parts nums at 1 0
+      (operands-alike 1 (alike-one (λ a xs. Tree a (xs, [])) operand _ (N .value-node)))
+  tree-as tagReturn =
+      agree-none Tree parts nums (at + 1) _ ([], []) _ _ _ (gives-pure _ _ (N .return-node)) none-read
+  tree-as tagExit =
+      agree-none Tree parts nums (at + 1) _ ([], []) _ _ _ (gives-pure _ _ (N .exit-node)) none-read
+  tree-as tagSetValid =
+      agree-none Tree parts nums (at + 1) _ ([], []) _ _ _ (gives-then _ λ g. gives-pure _ _ (N .valid-node g)) none-read
+  tree-as tagSetInvalid =
+      agree-none Tree parts nums (at + 1) _ ([], []) _ _ _ (gives-then _ λ g. gives-pure _ _ (N .invalid-node g))
+      none-read
+
+  pub stmt-agrees : at < length nums
+      → AgreeOn (P (stmtLaid version depth (stmtForm version (getD nums at 0)) nums at found))
+      (readStmt version (suc depth) (drop at nums) at) parts nums
+      (stmtLead version depth (stmtForm version (getD nums at 0)) nums at)
+  unfolding readStmt stmtForm here _>>=_ andThen standsFor meaning AgreeOn stmtLead stmtFormOf
+  stmt-agrees h =
+      rw (looked-in 4 (getElem? (stmtTags version)) nums at h) (go (getElem? (stmtTags version) (getD nums at 0)))
+    where
+      go : (x : Option StmtTag)
+          → AgreeOn (P (stmtLaid version depth (stmtFormOf x) nums at found))
+          (andThen (meaning 4 x (drop (suc at) nums) at) (λ tag. readStmtAs version tag at operand target inner)) parts
+          nums (stmtLead version depth (stmtFormOf x) nums at)
+      go none = tt
+      go (some tag) = rw (← add-one at) (tree-as tag)
+
+made-nodes : (version at : ℕ) (found : List ℕ)
+    → StmtNodes version at found (λ mid. Made layStmt layParts at found mid)
+unfolding layStmt layParts layMembers layExprs layAll firstAt
+made-nodes version at found = record {
+  empty-node = record { made = λ end. refl };
+  assign-node = λ next p e q h. record { made = λ end. rw q };
+  if-node = λ c a b. record { made = λ end. refl };
+  block-node = λ ss. record { made = λ end. rw (stmts-laid version ss end found) };
+  call-node = λ f xs. record { made = λ end. rw (args-laid version xs end found) };
+  apply-node = λ t. record { made = λ end. refl };
+  value-node = λ e. record { made = λ end. refl };
+  return-node = record { made = λ end. refl };
+  exit-node = record { made = λ end. refl };
+  valid-node = λ g. record { made = λ end. refl };
+  invalid-node = λ g. record { made = λ end. refl };
+}
+
+pub leads-is : (version depth : ℕ) (nums : List ℕ) (at : ℕ) (f : StmtForm) (found mid : List ℕ) (r : Lead)
+    → at < length nums
     → f ≡ stmtForm version (getD nums at 0)
-    → r ≡ stmtLead version depth f nums at → LeadsStmt version depth nums at r
+    → LeadsForm version depth f nums at found mid r → LeadsStmt version depth nums at found mid r
 unfolding parts-of
-leads-is version depth nums at f r h e q =
-    record { stmt = rw (q, e) (stmt-scan version depth nums at h); counts = rw q (counts-stmt version depth f nums at) }
+leads-is version depth nums at f found mid r h e q =
+    record {
+      stmt = rw (q .lead, e) (stmt-scan version depth nums at h);
+      tree = rw (q .lead, q .laid, e) (stmt-agrees version depth nums at found _ (made-nodes version at found) h);
+      tag = rw (q .lead) (tag-in nums at (stmtLead version depth f nums at) h);
+    }
 
-pub leads-missing : (version depth : ℕ) (nums : List ℕ) (at : ℕ) → length nums ≤ at
-    → LeadsStmt version depth nums at (Off 4 at)
-unfolding onLead Counts
-leads-missing version depth nums at h = record { stmt = stmt-missing version depth nums at h; counts = tt }
+pub leads-missing : (version depth : ℕ) (nums : List ℕ) (at : ℕ) (found : List ℕ) → length nums ≤ at
+    → LeadsStmt version depth nums at found found (Off 4 at)
+unfolding onLead AgreeOn Tagged
+leads-missing version depth nums at found h =
+    record { stmt = stmt-missing version depth nums at h; tree = tt; tag = tt }
 
 pub ruleset stmts = (leads-is, leads-missing)
 
 -- the steps of the cycle of statements
-module _ (version depth : ℕ) (nums : List ℕ) (at : ℕ) where
+module _ (version depth : ℕ) (nums : List ℕ) (at : ℕ) (found : List ℕ) where
   pub stmt-deep : (r : Scan) → depth ≡ 0 → r ≡ scanOf (tooDeep {A = ℕ}) nums at
-      → r ≡ scanOf (readStmt version depth) nums at
+      → Lays (readStmt version depth) layStmt nums at found found r
   unfolding readStmt
-  stmt-deep r e q = rw e (q ∙ deep-same Stmt nums at)
+  stmt-deep r e q = rw e (lays-deep layStmt nums at found found r q)
 
-  pub stmt-on : (lead : Lead) (next operands statements after : ℕ) (a r : Scan) → (depth ≡ 0 → ⊥)
-      → LeadsStmt version (depth - 1) nums at lead
-      → lead ≡ On next operands statements → a ≡ scanOf (repeat operands (readExpr version (depth - 1))) nums next
-      → a ≡ Past after
-      → r ≡ scanOf (repeat statements (readStmt version (depth - 1))) nums after
-      → r ≡ scanOf (readStmt version depth) nums at
-  unfolding onLead
-  stmt-on lead next operands statements after a r x l p e m q =
-      on-past a r after (scanOf (repeat statements (readStmt version (depth - 1))) nums) m q
-      ∙ sym (rw (one-less depth x, p, ← e) at (l .stmt))
+  module _ (first : List ℕ) (lead : Lead) (x : depth ≡ 0 → ⊥) (l : LeadsStmt version (depth - 1) nums at found first lead) where
+    pub stmt-off : (f i : ℕ) → lead ≡ Off f i → Lays (readStmt version depth) layStmt nums at found first (Fault f i)
+    unfolding onLead
+    stmt-off f i p =
+        lays-none (readStmt version depth) layStmt nums at f i found first
+        (sym (rw (one-less depth x, p) at (l .stmt)))
 
-  pub stmt-operand-fault : (lead : Lead) (next operands statements fault index : ℕ) (a : Scan) → (depth ≡ 0 → ⊥)
-      → LeadsStmt version (depth - 1) nums at lead → lead ≡ On next operands statements
-      → a ≡ scanOf (repeat operands (readExpr version (depth - 1))) nums next → a ≡ Fault fault index
-      → Fault fault index ≡ scanOf (readStmt version depth) nums at
-  unfolding onLead
-  stmt-operand-fault lead next operands statements fault index a x l p e m =
-      on-fault a fault index (scanOf (repeat statements (readStmt version (depth - 1))) nums) m
-      ∙ sym (rw (one-less depth x, p, ← e) at (l .stmt))
+    module _ (next operands statements : ℕ) (p : lead ≡ On next operands statements) (mid : List ℕ) (a : Scan)
+        (w : Lays (repeat operands (readExpr version (depth - 1))) layExprs nums next first mid a) where
+      stmt-tree-on : Agree (Made layStmt layParts at found first) (readStmt version depth (drop at nums) at)
+          (readParts version (depth - 1) operands statements (drop next nums) next)
+      unfolding AgreeOn
+      stmt-tree-on = rw (one-less depth x, p) at (l .tree)
 
-  pub stmt-off : (lead : Lead) (fault index : ℕ) → (depth ≡ 0 → ⊥) → LeadsStmt version (depth - 1) nums at lead
-      → lead ≡ Off fault index
-      → Fault fault index ≡ scanOf (readStmt version depth) nums at
-  unfolding onLead
-  stmt-off lead fault index x l p = sym (rw (one-less depth x, p) at (l .stmt))
+      pub stmt-operand-fault : (f i : ℕ) → a ≡ Fault f i
+          → Lays (readStmt version depth) layStmt nums at found mid (Fault f i)
+      unfolding onLead
+      stmt-operand-fault f i m =
+          lays-none (readStmt version depth) layStmt nums at f i found mid
+          (on-fault a f i (scanOf (repeat statements (readStmt version (depth - 1))) nums) m
+          ∙ sym (rw (one-less depth x, p, ← w .scan) at (l .stmt)))
 
-  pub stmts-none : (count : ℕ) → count ≡ 0 → Past at ≡ scanOf (repeat count (readStmt version depth)) nums at
-  stmts-none count e = repeat-none (readStmt version depth) nums count at e
+      module _ (after : ℕ) (m : a ≡ Past after) (last : List ℕ) (b : Scan)
+          (v : Lays (repeat statements (readStmt version (depth - 1))) layMembers nums after mid last b) where
+        stmt-scan-on : b ≡ scanOf (readStmt version depth) nums at
+        unfolding onLead
+        stmt-scan-on =
+            on-past a b after (scanOf (repeat statements (readStmt version (depth - 1))) nums) m (v .scan)
+            ∙ sym (rw (one-less depth x, p, ← w .scan) at (l .stmt))
 
-  pub stmts-past : (count next : ℕ) (a r : Scan) → (count ≡ 0 → ⊥) → a ≡ scanOf (readStmt version depth) nums at
-      → a ≡ Past next
-      → r ≡ scanOf (repeat (count - 1) (readStmt version depth)) nums next
-      → r ≡ scanOf (repeat count (readStmt version depth)) nums at
-  stmts-past count next a r x e p q =
-      repeat-past (readStmt version depth) (keeps-stmt version depth) nums at count next a r x e p q
+        parts-lay : Lays (readParts version (depth - 1) operands statements) layParts nums next first last b
+        unfolding readParts layParts
+        parts-lay =
+            lays-next (λ xs ss. (xs, ss)) layParts (firstAt stmtAt) (λ xs ss end slots. refl)
+            (keeps-repeat operands (keeps-expr version (depth - 1)))
+            (begins-repeat statements (starts-stmt version (depth - 1))) w m v
 
-  pub stmts-fault : (count fault index : ℕ) (a : Scan) → (count ≡ 0 → ⊥) → a ≡ scanOf (readStmt version depth) nums at
-      → a ≡ Fault fault index
-      → Fault fault index ≡ scanOf (repeat count (readStmt version depth)) nums at
-  stmts-fault count fault index a x e p =
-      repeat-fault (readStmt version depth) (keeps-stmt version depth) nums at count fault index a x e p
+        keeps-parts : Keeps (readParts version (depth - 1) operands statements)
+        unfolding readParts
+        keeps-parts = keeps-then (keeps-repeat operands (keeps-expr version (depth - 1))) λ xs. keeps-then
+            (keeps-repeat statements (keeps-stmt version (depth - 1))) λ ss. keeps-pure _
 
-pub statements-fall : (version : ℕ) (nums : List ℕ) (depth at t next operands statements : ℕ) (lead : Lead)
-    → rank depth 0 ≡ t → (depth ≡ 0 → ⊥)
-    → LeadsStmt version (depth - 1) nums at lead → lead ≡ On next operands statements
-    → rank (depth - 1) (statements + 1) < t
-unfolding Counts
-statements-fall version nums depth at t next operands statements lead e x l p =
-    to-list depth statements t e x ((rw p at (l .counts)) .1)
+        pub stmt-on : (end : ℕ) → b ≡ Past end
+            → Lays (readStmt version depth) layStmt nums at found (set last at end) (Past end)
+        stmt-on end q = construct keeps-parts stmt-tree-on (sym q ∙ stmt-scan-on) parts-lay q
+
+        pub stmt-member-fault : (f i : ℕ) → b ≡ Fault f i
+            → Lays (readStmt version depth) layStmt nums at found last (Fault f i)
+        stmt-member-fault f i q =
+            lays-none (readStmt version depth) layStmt nums at f i found last (sym q ∙ stmt-scan-on)
+
+-- so many, one after the other
+module _ (version depth count : ℕ) (nums : List ℕ) (at : ℕ) (found : List ℕ) where
+  pub stmts-first : Pending (readStmt version depth) layMembers count nums at found count at found
+  stmts-first = pending-first (readStmt version depth) layMembers count nums at found
+
+  module _ (left next : ℕ) (now : List ℕ)
+      (w : Pending (readStmt version depth) layMembers count nums at found left next now) where
+    pub stmts-none : left ≡ 0 → Lays (repeat count (readStmt version depth)) layMembers nums at found now (Past next)
+    unfolding layMembers
+    stmts-none e = w .rest now (Past next) (all-none stmtAt layStmt (readStmt version depth) nums next left now e)
+
+    pub stmts-past : (end : ℕ) (mid : List ℕ) (a : Scan) → (left ≡ 0 → ⊥)
+        → Lays (readStmt version depth) layStmt nums next now mid a → a ≡ Past end
+        → Pending (readStmt version depth) layMembers count nums at found (left - 1) end mid
+    unfolding layMembers
+    stmts-past end mid a x v p = record {
+      rest = λ last r u. w .rest last r
+          (all-past stmtAt layStmt (readStmt version depth) nums next left (keeps-stmt version depth) (starts-stmt version depth) end
+          now mid last a r r x v p u refl);
+    }
+
+    pub stmts-fault : (f i : ℕ) (mid : List ℕ) (a : Scan) → (left ≡ 0 → ⊥)
+        → Lays (readStmt version depth) layStmt nums next now mid a → a ≡ Fault f i
+        → Lays (repeat count (readStmt version depth)) layMembers nums at found mid (Fault f i)
+    unfolding layMembers
+    stmts-fault f i mid a x v p =
+        w .rest mid (Fault f i) (all-fault stmtAt layStmt (readStmt version depth) nums next left f i now mid a x v p)
+
+pub slot-in : (version depth : ℕ) (nums : List ℕ) (at next operands statements : ℕ) (found mid : List ℕ) (lead : Lead)
+    → length nums ≤ mostNumbers → LeadsStmt version depth nums at found mid lead
+    → lead ≡ On next operands statements → at < mostNumbers
+unfolding Tagged
+slot-in version depth nums at next operands statements found mid lead h l p = omega (arith, rw p at (l .tag))
+
+pub slot-fits : (version depth : ℕ) (nums : List ℕ) (at next operands statements : ℕ) (found mid : List ℕ) (lead : Lead)
+    → length nums ≤ mostNumbers → LeadsStmt version depth nums at found mid lead
+    → lead ≡ On next operands statements → at * 8 < 2 ^ 64
+slot-fits version depth nums at next operands statements found mid lead h l p =
+    omega (arith, slot-in version depth nums at next operands statements found mid lead h l p)
 
 pub ruleset stmtSteps = (
   stmt-deep,
   stmt-on,
   stmt-operand-fault,
+  stmt-member-fault,
   stmt-off,
+  slot-in,
+  slot-fits,
+  stmts-first,
   stmts-none,
   stmts-past,
   stmts-fault,
-  statements-fall,
-  to-member,
-  to-rest,
 )

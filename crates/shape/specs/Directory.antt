@@ -2,7 +2,6 @@
 -- for its count and one for each member it may have: header types from slot 0 on, globals from 9, callables from 42,
 -- tables from 59. Slot 68 is the apply body's, and 69 that of the program's end. Slots of members that a list has not
 -- are left as found.
-use mathlib.Core.Path.{_≡_}
 use mathlib.Core.List.{List, [], _∷_, map}
 use Prim.Native.Nat.{ℕ}
 use lib.ListN.{length}
@@ -10,9 +9,6 @@ use lib.Seq.{sets}
 use Rattle.rules.specs.Syntax.{Program, HeaderTy, Global, Callable, Table}
 use Rattle.rules.specs.Syntax.{Stmt, empty, assign, ifElse, block, callStmt, apply, returnValue, return, exit, setValid, setInvalid}
 use Rattle.rules.specs.Reading.{Got, got, bad}
-use Rattle.rules.specs.Reading.{readProgram}
-use Rattle.shape.specs.Scans.{scanOf}
-use Rattle.shape.specs.declared.Scan.{Scan}
 
 -- a statement's own tag
 unfoldable pub stmtAt : Stmt → ℕ
@@ -48,8 +44,3 @@ directoryOf p end slots =
 unfoldable pub directoryLeft : Got Program → List ℕ → List ℕ
 directoryLeft (got p left end) slots = directoryOf p end slots
 directoryLeft (bad number index) slots = slots
-
--- what scanning a program answers and leaves in the directory
-pub record ScansProgram (nums found filled : List ℕ) (r : Scan) : Type 0 where
-  pub answer : r ≡ scanOf readProgram nums 0
-  pub directory : filled ≡ directoryLeft (readProgram nums 0) found

@@ -2,10 +2,11 @@
 -- then its statements. What the functions below the public ones promise one another.
 use mathlib.Core.Option.{Option, none, some}
 use mathlib.Core.List.{List}
-use Prim.Native.Nat.{ℕ, suc, _+_, _<_, _^_}
+use Prim.Native.Nat.{ℕ, suc, _+_, _<_}
 use mathlib.Core.Path.{_≡_}
-use lib.ListN.{drop, getElem?}
-use Rattle.rules.specs.Reading.{Got, got, bad, Reader, _>>=_, number, between, standsFor, repeat}
+use lib.ListN.{length, drop, set, getElem?}
+use Rattle.rules.specs.Syntax.{Expr, Stmt}
+use Rattle.rules.specs.Reading.{Got, got, bad, Reader, _>>=_, pure, number, between, standsFor, repeat}
 use Rattle.rules.specs.Reading.{PlaceTag, tagLocal, tagParameter, tagGlobal, tagField, ExprTag, tagBool, tagBits, tagPlace, tagValid, tagNot, tagComplement, tagBinary, tagCast, tagSlice, tagConcatenation, tagCall}
 use Rattle.rules.specs.Reading.{StmtTag, tagEmpty, tagAssign, tagIf, tagBlock, tagCallStmt, tagApply, tagReturnValue, tagReturn, tagExit, tagSetValid, tagSetInvalid}
 use Rattle.rules.specs.Reading.{operators, exprTags, placeTagOf, stmtTags, readExpr, readTarget, readStmt}
@@ -22,6 +23,8 @@ use Rattle.shape.specs.declared.StmtForm.the-variants.{Bare, Assign, If,
 use Rattle.shape.specs.declared.ExprForm.{ExprForm}
 use Rattle.shape.specs.declared.ExprForm.the-variants.{Number, Field, Literal, Operand, Binary, Cast, Slice, Operands, Call, Unlisted}
 use Rattle.shape.specs.Scans.{scanOf}
+use Rattle.shape.specs.Directory.{stmtAt}
+use Rattle.shape.specs.Ends.{exprAt, layExpr, layStmt, firstAt, layAll}
 
 -- one thing behind another
 unfoldable pub onScan : Scan → (ℕ → Scan) → Scan
@@ -95,16 +98,50 @@ exprLead version Operands nums at = leadBy (Past (at + 1)) 2 0
 exprLead version Call nums at = callLead nums (scanOf number nums (at + 1))
 exprLead version Unlisted nums at = Off 4 at
 
--- so many numbers as a machine can count
-unfoldable pub Counts : Lead → Type 0
-Counts (On next operands statements) = (operands < 2 ^ 64) × (statements < 2 ^ 64)
-Counts (Off number index) = Unit
+-- what stands in a construct besides its lead, and how both are read
+unfoldable pub Agree : {A B : Type 0} → (A → B → Type 0) → Got A → Got B → Type 0
+Agree P (got a left next) (got b rest end) = P a b
+Agree P (got a left next) (bad number index) = Unit
+Agree P (bad number index) y = Unit
+
+unfoldable pub AgreeOn : {A B : Type 0} → (A → B → Type 0) → Got A → (ℕ → ℕ → Reader B) → List ℕ → Lead → Type 0
+AgreeOn P x parts nums (On next operands statements) = Agree P x (parts operands statements (drop next nums) next)
+AgreeOn P x parts nums (Off number index) = Unit
+
+-- the slots of a construct are those of its parts and its own tag's
+pub record Made {A B : Type 0} (lay : A → ℕ → List ℕ → List ℕ) (layParts : B → ℕ → List ℕ → List ℕ) (at : ℕ)
+    (found mid : List ℕ) (a : A) (b : B) : Type 0 where
+  pub made : (end : ℕ) → lay a end found ≡ set (layParts b end mid) at end
+
+unfoldable pub layExprs : List Expr → ℕ → List ℕ → List ℕ
+layExprs xs end slots = layAll exprAt layExpr xs end slots
+
+unfoldable pub layMembers : List Stmt → ℕ → List ℕ → List ℕ
+layMembers ss end slots = layAll stmtAt layStmt ss end slots
+
+unfoldable pub readOperands : ℕ → ℕ → ℕ → ℕ → Reader (List Expr)
+readOperands version depth operands statements = repeat operands (readExpr version depth)
+
+unfoldable pub readParts : ℕ → ℕ → ℕ → ℕ → Reader (List Expr × List Stmt)
+readParts version depth operands statements =
+    repeat operands (readExpr version depth) >>= λ xs. repeat statements (readStmt version depth) >>= λ ss. pure
+    (xs, ss)
+
+unfoldable pub layParts : List Expr × List Stmt → ℕ → List ℕ → List ℕ
+layParts p end slots = layMembers (p .1) end (layExprs (p .0) (firstAt stmtAt (p .1) end) slots)
+
+-- the tag is a number of the list
+unfoldable pub Tagged : List ℕ → ℕ → Lead → Type 0
+Tagged nums at (On next operands statements) = at < length nums
+Tagged nums at (Off number index) = Unit
 
 -- the lead of an expression at an index: with its operands it is the expression, at whatever depth
 pub record LeadsExpr (version : ℕ) (nums : List ℕ) (at : ℕ) (lead : Lead) : Type 0 where
   pub expr : (depth : ℕ) → scanOf (readExpr version (suc depth)) nums at
       ≡ onLead lead (λ next operands statements. scanOf (repeat operands (readExpr version depth)) nums next)
-  pub counts : Counts lead
+  pub tree : (depth : ℕ) (slots : List ℕ) → AgreeOn (Made layExpr layExprs at slots slots)
+      (readExpr version (suc depth) (drop at nums) at) (readOperands version depth) nums lead
+  pub tag : Tagged nums at lead
 
 -- what stands behind the tag of an assignment's target
 unfoldable pub placeFormOf : Option PlaceTag → PlaceForm
@@ -155,9 +192,36 @@ stmtLead version depth Named nums at = leadBy (scanOf number nums (at + 1)) 0 0
 stmtLead version depth Returned nums at = leadBy (Past (at + 1)) 1 0
 stmtLead version depth NoStmt nums at = Off 4 at
 
+-- the lead of an assignment, and the end of its target
+unfoldable pub laidTarget : Scan → ℕ → List ℕ → List ℕ
+laidTarget (Past next) at slots = set slots at next
+laidTarget (Fault number index) at slots = slots
+
+pub record LeadsTarget (version depth : ℕ) (nums : List ℕ) (at : ℕ) (found mid : List ℕ) (r : Lead) : Type 0 where
+  pub lead : r ≡ leadBy (scanOf (readTarget version depth) nums at) 1 0
+  pub laid : mid ≡ laidTarget (scanOf (readTarget version depth) nums at) at found
+
+unfoldable pub stmtLaid : ℕ → ℕ → StmtForm → List ℕ → ℕ → List ℕ → List ℕ
+stmtLaid version depth Bare nums at slots = slots
+stmtLaid version depth Assign nums at slots =
+    laidTarget (scanOf (readTarget version depth) nums (at + 1)) (at + 1) slots
+stmtLaid version depth If nums at slots = slots
+stmtLaid version depth Block nums at slots = slots
+stmtLaid version depth CallStmt nums at slots = slots
+stmtLaid version depth Named nums at slots = slots
+stmtLaid version depth Returned nums at slots = slots
+stmtLaid version depth NoStmt nums at slots = slots
+
+pub record LeadsForm (version depth : ℕ) (form : StmtForm) (nums : List ℕ) (at : ℕ) (found mid : List ℕ)
+    (r : Lead) : Type 0 where
+  pub lead : r ≡ stmtLead version depth form nums at
+  pub laid : mid ≡ stmtLaid version depth form nums at found
+
 -- the lead of a statement at an index, with so many levels allowed below it: with what follows it is the statement
-pub record LeadsStmt (version depth : ℕ) (nums : List ℕ) (at : ℕ) (lead : Lead) : Type 0 where
+pub record LeadsStmt (version depth : ℕ) (nums : List ℕ) (at : ℕ) (found mid : List ℕ) (lead : Lead) : Type 0 where
   pub stmt : scanOf (readStmt version (suc depth)) nums at ≡ onLead lead (λ next operands statements.
       onScan (scanOf (repeat operands (readExpr version depth)) nums next)
       (scanOf (repeat statements (readStmt version depth)) nums))
-  pub counts : Counts lead
+  pub tree : AgreeOn (Made layStmt layParts at found mid) (readStmt version (suc depth) (drop at nums) at)
+      (readParts version depth) nums lead
+  pub tag : Tagged nums at lead

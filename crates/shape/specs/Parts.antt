@@ -1,17 +1,18 @@
 -- The parts of a program: how each scans, and how a list of them does.
 use mathlib.Core.Option.{Option}
 use mathlib.Core.List.{List}
-use Prim.Native.Nat.{ℕ, zero, suc}
+use Prim.Native.Nat.{ℕ, zero, suc, _-_}
 use lib.ListN.{getElem?}
-use Rattle.rules.specs.Syntax.{Ty, Numeral}
-use Rattle.rules.specs.Reading.{Reader, _>>=_, between, standsFor, listOf, callableKinds, typeOf}
+use Rattle.rules.specs.Syntax.{Ty, Parameter, Key, Numeral}
+use Rattle.rules.specs.Reading.{Reader, _>>=_, pure, here, between, standsFor, listOf, callableKinds, typeOf}
 use Rattle.rules.specs.Reading.{readHeader, readGlobal, readParameter, readReturns, readCallable, readNumeral, readKey, readTable}
 use Rattle.shape.specs.Scans.{scanOf}
+use Rattle.shape.specs.Ends.{firstAt, layAll, keyAt, layKey, numeralAt}
 use Rattle.shape.specs.Leads.{onScan, valueOf, onValue}
 use Rattle.shape.specs.declared.Scan.{Scan}
 use Rattle.shape.specs.declared.Scan.the-variants.{Past}
 use Rattle.shape.specs.declared.Item.{Item}
-use Rattle.shape.specs.declared.Item.the-variants.{WidthItem, TypeItem, ParameterItem, KeyItem, NumeralItem}
+use Rattle.shape.specs.declared.Item.the-variants.{WidthItem, TypeItem, ParameterItem, NumeralItem}
 use Rattle.shape.specs.declared.Part.{Part}
 use Rattle.shape.specs.declared.Part.the-variants.{HeaderPart, GlobalPart, CallablePart, TablePart}
 
@@ -28,7 +29,6 @@ unfoldable pub itemScan : ℕ → Item → List ℕ → ℕ → Scan
 itemScan version WidthItem = scanOf (between 1 64)
 itemScan version TypeItem = scanOf (standsFor (typeOf version))
 itemScan version ParameterItem = scanOf (readParameter version)
-itemScan version KeyItem = scanOf (readKey version)
 itemScan version NumeralItem = scanOf (readNumeral version)
 
 -- a callable up to its parameters: its kind and, of a function, its return type
@@ -36,15 +36,26 @@ unfoldable pub readReturning : ℕ → Reader (Option Ty)
 readReturning version = standsFor (getElem? (callableKinds version)) >>= λ kind. readReturns version kind
 
 -- its parameters and locals
-unfoldable pub readFrame : ℕ → Reader (List Ty)
-readFrame version = listOf 0 8 (readParameter version) >>= λ parameters. listOf 0 8 (standsFor (typeOf version))
+unfoldable pub readFrame : ℕ → Reader (List Parameter × List Ty)
+readFrame version =
+    listOf 0 8 (readParameter version) >>= λ parameters. listOf 0 8 (standsFor (typeOf version)) >>= λ locals. pure
+    (parameters, locals)
 
 -- a table's keys and actions; its default with its arguments
-unfoldable pub readChoices : ℕ → Reader (List Numeral)
-readChoices version = listOf 1 4 (readKey version) >>= λ keys. listOf 1 8 (readNumeral version)
+unfoldable pub layKeys : List Key → ℕ → List ℕ → List ℕ
+layKeys ks end slots = layAll keyAt layKey ks end slots
 
-unfoldable pub readDefault : ℕ → Reader (List Numeral)
-readDefault version = readNumeral version >>= λ position. listOf 0 8 (readNumeral version)
+unfoldable pub readChoices : ℕ → Reader (List Key × List Numeral)
+readChoices version =
+    listOf 1 4 (readKey version) >>= λ keys. listOf 1 8 (readNumeral version) >>= λ actions. pure (keys, actions)
+
+unfoldable pub layChoices : List Key × List Numeral → ℕ → List ℕ → List ℕ
+layChoices p end slots = layKeys (p .0) (firstAt numeralAt (p .1) end - 1) slots
+
+unfoldable pub readDefault : ℕ → Reader (Numeral × (ℕ × List Numeral))
+readDefault version =
+    readNumeral version >>= λ position. here >>= λ countAt. listOf 0 8 (readNumeral version) >>= λ arguments. pure
+    (position, (countAt, arguments))
 
 -- what the directory tells the beginnings of
 unfoldable pub partScan : ℕ → Part → List ℕ → ℕ → Scan

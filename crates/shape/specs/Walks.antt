@@ -2,7 +2,7 @@
 -- into the slots. What the functions below the public ones promise one another.
 use mathlib.Core.Path.{_≡_}
 use mathlib.Core.List.{List, [], _∷_}
-use Prim.Native.Nat.{ℕ, zero, suc}
+use Prim.Native.Nat.{ℕ, zero, suc, _-_}
 use lib.ListN.{drop}
 use lib.Seq.{sets}
 use Rattle.rules.specs.Syntax.{HeaderTy, Global, Callable, Table}
@@ -11,12 +11,15 @@ use Rattle.rules.specs.Reading.{Got, got, bad, Reader, _>>=_, pure, listOf}
 use Rattle.rules.specs.Reading.{readHeader, readGlobal, readCallable, readTable}
 use Rattle.shape.specs.Scans.{scanOf}
 use Rattle.shape.specs.Leads.{valueOf}
-use Rattle.shape.specs.Parts.{repeatScan, listScan}
+use Rattle.shape.specs.Parts.{repeatScan, listScan, partScan}
 use Rattle.shape.specs.declared.Scan.{Scan}
 use Rattle.shape.specs.declared.Scan.the-variants.{Past, Fault}
 use Rattle.shape.specs.declared.Value.{Value}
 use Rattle.shape.specs.declared.Value.the-variants.{Of, Unread}
+use Rattle.shape.specs.declared.Part.{Part}
+use Rattle.shape.specs.declared.Part.the-variants.{HeaderPart, GlobalPart, CallablePart, TablePart}
 use Rattle.shape.specs.Directory.{stmtAt, declared, defined}
+use Rattle.shape.specs.Ends.{firstAt, layAll, callableAt, layCallable, tableAt, layTable}
 
 -- where so many members begin, one after the other, up to the first that does not read
 unfoldable pub startsAfter : Scan → (ℕ → List ℕ) → List ℕ
@@ -71,3 +74,49 @@ layDefined p next slots = defined (p .0) (p .1) slots
 
 unfoldable pub layBody : Stmt → ℕ → List ℕ → List ℕ
 layBody body end slots = sets slots 68 (stmtAt body ∷ end ∷ [])
+
+-- what a part lays into the ends: header types and globals nothing
+unfoldable pub noEnds : {A : Type 0} → A → ℕ → List ℕ → List ℕ
+noEnds a end slots = slots
+
+unfoldable pub partEnds : ℕ → Part → List ℕ → ℕ → List ℕ → List ℕ → Type 0
+partEnds version HeaderPart nums at found filled = Laid (readHeader version (drop at nums) at) noEnds found filled
+partEnds version GlobalPart nums at found filled = Laid (readGlobal version (drop at nums) at) noEnds found filled
+partEnds version CallablePart nums at found filled =
+    Laid (readCallable version (drop at nums) at) layCallable found filled
+partEnds version TablePart nums at found filled = Laid (readTable version (drop at nums) at) layTable found filled
+
+pub record LaysPart (version : ℕ) (part : Part) (nums : List ℕ) (at : ℕ) (found filled : List ℕ)
+    (r : Scan) : Type 0 where
+  pub scan : r ≡ partScan version part nums at
+  pub laid : partEnds version part nums at found filled
+
+-- so many parts, one after the other
+unfoldable pub endsAfter : Scan → (ℕ → Type 0) → Type 0
+endsAfter (Past next) k = k next
+endsAfter (Fault number index) k = Unit
+
+unfoldable pub partsEnds : (ℕ → Scan) → (ℕ → List ℕ → List ℕ → Type 0) → ℕ → ℕ → List ℕ → List ℕ → Type 0
+partsEnds one laid zero at found filled = filled ≡ found
+partsEnds one laid (suc count) at found filled =
+    endsAfter (one at) (λ next. (mid : List ℕ) × laid at found mid × partsEnds one laid count next mid filled)
+
+pub record LaysParts (version : ℕ) (part : Part) (count : ℕ) (nums : List ℕ) (at : ℕ) (found filled : List ℕ)
+    (r : Scan) : Type 0 where
+  pub laid : partsEnds (partScan version part nums) (partEnds version part nums) count at found filled
+
+-- a list of parts: its count, then the parts
+unfoldable pub listEnds : ℕ → Part → List ℕ → Value → List ℕ → List ℕ → Type 0
+listEnds version part nums (Of count next) found filled =
+    partsEnds (partScan version part nums) (partEnds version part nums) count next found filled
+listEnds version part nums (Unread number index) found filled = Unit
+
+pub record LaysList (version : ℕ) (part : Part) (most : ℕ) (nums : List ℕ) (at : ℕ) (found filled : List ℕ)
+    (r : Scan) : Type 0 where
+  pub laid : listEnds version part nums (valueOf 0 most nums at) found filled
+
+-- the callables, which end at the count of the tables, and the tables
+unfoldable pub endsDefined : List Callable × List Table → ℕ → List ℕ → List ℕ
+endsDefined p end slots =
+    layAll tableAt layTable (p .1) end
+    (layAll callableAt layCallable (p .0) (firstAt tableAt (p .1) end - 1) slots)

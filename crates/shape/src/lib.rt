@@ -3,14 +3,15 @@
 ghost use mathlib.Core.Path.{_≡_};
 ghost use Prim.Native.Nat.{ℕ, _+_, _<_, _≤_};
 ghost use lib.ListN.{length, getElem?};
-ghost use Rattle.rules.specs.Reading.{number, between, standsFor, repeat, tooDeep, deepest, operators, readExpr, readTarget, readStmt};
+ghost use Rattle.rules.specs.Reading.{number, between, standsFor, repeat, listOf, tooDeep, deepest, operators, readExpr, readTarget, readStmt};
 ghost use Rattle.rules.specs.Reading.{directions, keyKinds, typeOf, readParameter, readKey, readNumeral, readHeader, readGlobal, readCallable, readTable, readAfterVersion, readProgram};
-ghost use Rattle.shape.specs.Walks.{Walked, WalkedList, Lays, readDeclared, layDeclared, readDefined, layDefined, layBody};
-ghost use Rattle.shape.specs.Directory.{directoryOf, ScansProgram};
-ghost use Rattle.shape.specs.Parts.{itemScan, repeatScan, listScan, readReturning, readFrame, readChoices, readDefault, partScan};
+ghost use Rattle.shape.specs.Walks.{Walked, WalkedList, Lays, readDeclared, layDeclared, readDefined, layDefined, layBody, LaysPart, LaysParts, LaysList, noEnds, endsDefined};
+ghost use Rattle.shape.specs.Directory.{directoryOf};
+ghost use Rattle.shape.specs.Parts.{itemScan, repeatScan, listScan, readReturning, readFrame, readChoices, layKeys, layChoices, readDefault, partScan};
 ghost use Rattle.shape.specs.Scans.{scanOf};
-ghost use Rattle.shape.specs.Leads.{readLiteral, valueOf, leadBy, argumentsLead, callLead, blockLead, exprForm, exprLead, LeadsExpr};
-ghost use Rattle.shape.specs.Leads.{placeForm, placeScan, stmtForm, stmtLead, LeadsStmt};
+ghost use Rattle.shape.specs.Ends.{mostNumbers, layExpr, layStmt, layKey, layCallable, layTable, endsOf, ScansProgram};
+ghost use Rattle.shape.specs.Leads.{readLiteral, valueOf, leadBy, argumentsLead, callLead, blockLead, exprForm, exprLead, LeadsExpr, layExprs, layMembers};
+ghost use Rattle.shape.specs.Leads.{placeForm, placeScan, stmtForm, LeadsTarget, LeadsForm, LeadsStmt};
 
 // The latest version, which is also the first.
 const LATEST: u64 = 1;
@@ -69,6 +70,9 @@ pub const BODY: usize = 68;
 pub const END: usize = 69;
 // How many slots the directory has.
 pub const SLOTS: usize = 70;
+
+// How many slots the ends have: one for each number that a file may have.
+pub const NUMBERS: usize = 4096;
 
 // What scanning at an index finds: the index after what was read; or the fault, 5 or 4, and the index of the number at
 // fault, which is the count of numbers where they run out.
@@ -134,7 +138,6 @@ enum Item {
     WidthItem,
     TypeItem,
     ParameterItem,
-    KeyItem,
     NumeralItem,
 }
 
@@ -366,9 +369,11 @@ fn too_deep(nums: &[u64], at: usize) -> Scan
     }
 }
 
-// The end of the expression at `at` with `depth` levels allowed, or its first fault. Later passes skip with it.
-pub fn scan_expr(nums: &[u64], version: u64, depth: usize, at: usize) -> Scan
-    ensures { λ r. ⌜ r ≡ scanOf (readExpr version depth) (now (nums .entry)) at ⌝ }
+// The end of the expression at `at` with `depth` levels allowed, or its first fault. Where it and what stands in it end
+// goes into `ends`.
+fn scan_expr(nums: &[u64], version: u64, depth: usize, at: usize, ends: &mut [u64; NUMBERS]) -> Scan
+    requires { ⌜ length (now nums) ≤ mostNumbers ⌝ }
+    ensures { λ r. ⌜ Lays (readExpr version depth) layExpr (now (nums .entry)) at (now (ends .entry)) (now (ends .exit)) r ⌝ }
 {
     if depth == 0 {
         too_deep(nums, at)
@@ -379,25 +384,46 @@ pub fn scan_expr(nums: &[u64], version: u64, depth: usize, at: usize) -> Scan
                 next,
                 operands,
                 statements: _,
-            } => scan_exprs(nums, version, depth - 1, operands, next),
+            } => {
+                let inside = scan_exprs(nums, version, depth - 1, operands, next, ends);
+                match inside {
+                    Scan::Past(end) => {
+                        ends[at] = end as u64;
+                        Scan::Past(end)
+                    }
+                    Scan::Fault { number, index } => Scan::Fault { number, index },
+                }
+            }
             Lead::Off { number, index } => Scan::Fault { number, index },
         }
     }
 }
 
 // The end of so many expressions, one after the other.
-fn scan_exprs(nums: &[u64], version: u64, depth: usize, count: usize, at: usize) -> Scan
-    ensures { λ r. ⌜ r ≡ scanOf (repeat count (readExpr version depth)) (now (nums .entry)) at ⌝ }
+fn scan_exprs(
+    nums: &[u64],
+    version: u64,
+    depth: usize,
+    count: usize,
+    at: usize,
+    ends: &mut [u64; NUMBERS],
+) -> Scan
+    requires { ⌜ length (now nums) ≤ mostNumbers ⌝ }
+    ensures { λ r. ⌜ Lays (repeat count (readExpr version depth)) layExprs (now (nums .entry)) at (now (ends .entry)) (now (ends .exit)) r ⌝ }
 {
-    if count == 0 {
-        Scan::Past(at)
-    } else {
-        let first = scan_expr(nums, version, depth, at);
-        match first {
-            Scan::Past(next) => scan_exprs(nums, version, depth, count - 1, next),
-            Scan::Fault { number, index } => Scan::Fault { number, index },
+    let mut next = at;
+    let mut left = count;
+    while left != 0 {
+        let one = scan_expr(nums, version, depth, next, ends);
+        match one {
+            Scan::Past(end) => {
+                next = end;
+                left -= 1;
+            }
+            Scan::Fault { number, index } => return Scan::Fault { number, index },
         }
     }
+    Scan::Past(next)
 }
 
 // What stands behind the tag of an assignment's target, in the version's list of tags.
@@ -445,6 +471,31 @@ fn target_at(nums: &[u64], version: u64, depth: usize, at: usize) -> Scan
     }
 }
 
+// An assignment up to its value: its target, whose end goes into `ends`.
+fn target_lead(
+    nums: &[u64],
+    version: u64,
+    depth: usize,
+    at: usize,
+    ends: &mut [u64; NUMBERS],
+) -> Lead
+    requires { ⌜ length (now nums) ≤ mostNumbers ⌝ }
+    ensures { λ r. ⌜ LeadsTarget version depth (now (nums .entry)) at (now (ends .entry)) (now (ends .exit)) r ⌝ }
+{
+    let target = target_at(nums, version, depth, at);
+    match target {
+        Scan::Past(next) => {
+            ends[at] = next as u64;
+            Lead::On {
+                next: next,
+                operands: 1,
+                statements: 0,
+            }
+        }
+        Scan::Fault { number, index } => Lead::Off { number, index },
+    }
+}
+
 // A block up to the first of its members.
 fn block_lead(nums: &[u64], at: usize) -> Lead
     ensures { λ r. ⌜ r ≡ blockLead (valueOf 0 64 (now (nums .entry)) at) ⌝ }
@@ -481,14 +532,21 @@ fn stmt_form(version: u64, tag: u64) -> StmtForm
 }
 
 // The lead of a statement of that form whose tag is at `at`, with so many levels allowed below it.
-fn stmt_form_lead(nums: &[u64], version: u64, depth: usize, form: StmtForm, at: usize) -> Lead
-    requires { ⌜ at < length (now nums) ⌝ }
-    ensures { λ r. ⌜ r ≡ stmtLead version depth form (now (nums .entry)) at ⌝ }
+fn stmt_form_lead(
+    nums: &[u64],
+    version: u64,
+    depth: usize,
+    form: StmtForm,
+    at: usize,
+    ends: &mut [u64; NUMBERS],
+) -> Lead
+    requires { ⌜ (at < length (now nums)) × (length (now nums) ≤ mostNumbers) ⌝ }
+    ensures { λ r. ⌜ LeadsForm version depth form (now (nums .entry)) at (now (ends .entry)) (now (ends .exit)) r ⌝ }
 {
     let next = at + 1;
     match form {
         StmtForm::Bare => lead_by(Scan::Past(next), 0, 0),
-        StmtForm::Assign => lead_by(target_at(nums, version, depth, next), 1, 0),
+        StmtForm::Assign => target_lead(nums, version, depth, next, ends),
         StmtForm::If => lead_by(Scan::Past(next), 1, 2),
         StmtForm::Block => block_lead(nums, next),
         StmtForm::CallStmt => call_lead(nums, next),
@@ -502,12 +560,13 @@ fn stmt_form_lead(nums: &[u64], version: u64, depth: usize, form: StmtForm, at: 
 }
 
 // The lead of the statement at `at`, with so many levels allowed below it.
-fn stmt_lead(nums: &[u64], version: u64, depth: usize, at: usize) -> Lead
-    ensures { λ r. ⌜ LeadsStmt version depth (now (nums .entry)) at r ⌝ }
+fn stmt_lead(nums: &[u64], version: u64, depth: usize, at: usize, ends: &mut [u64; NUMBERS]) -> Lead
+    requires { ⌜ length (now nums) ≤ mostNumbers ⌝ }
+    ensures { λ r. ⌜ LeadsStmt version depth (now (nums .entry)) at (now (ends .entry)) (now (ends .exit)) r ⌝ }
 {
     if at < nums.len() {
         let tag = nums[at];
-        stmt_form_lead(nums, version, depth, stmt_form(version, tag), at)
+        stmt_form_lead(nums, version, depth, stmt_form(version, tag), at, ends)
     } else {
         Lead::Off {
             number: 4,
@@ -516,23 +575,34 @@ fn stmt_lead(nums: &[u64], version: u64, depth: usize, at: usize) -> Lead
     }
 }
 
-// The end of the statement at `at` with `depth` levels allowed, or its first fault. Later passes skip with it.
-pub fn scan_stmt(nums: &[u64], version: u64, depth: usize, at: usize) -> Scan
-    ensures { λ r. ⌜ r ≡ scanOf (readStmt version depth) (now (nums .entry)) at ⌝ }
+// The end of the statement at `at` with `depth` levels allowed, or its first fault. Where it and what stands in it end
+// goes into `ends`.
+fn scan_stmt(nums: &[u64], version: u64, depth: usize, at: usize, ends: &mut [u64; NUMBERS]) -> Scan
+    requires { ⌜ length (now nums) ≤ mostNumbers ⌝ }
+    ensures { λ r. ⌜ Lays (readStmt version depth) layStmt (now (nums .entry)) at (now (ends .entry)) (now (ends .exit)) r ⌝ }
 {
     if depth == 0 {
         too_deep(nums, at)
     } else {
-        let lead = stmt_lead(nums, version, depth - 1, at);
+        let lead = stmt_lead(nums, version, depth - 1, at, ends);
         match lead {
             Lead::On {
                 next,
                 operands,
                 statements,
             } => {
-                let operands_end = scan_exprs(nums, version, depth - 1, operands, next);
-                match operands_end {
-                    Scan::Past(after) => scan_stmts(nums, version, depth - 1, statements, after),
+                let inside = scan_exprs(nums, version, depth - 1, operands, next, ends);
+                match inside {
+                    Scan::Past(after) => {
+                        let members = scan_stmts(nums, version, depth - 1, statements, after, ends);
+                        match members {
+                            Scan::Past(end) => {
+                                ends[at] = end as u64;
+                                Scan::Past(end)
+                            }
+                            Scan::Fault { number, index } => Scan::Fault { number, index },
+                        }
+                    }
                     Scan::Fault { number, index } => Scan::Fault { number, index },
                 }
             }
@@ -542,18 +612,30 @@ pub fn scan_stmt(nums: &[u64], version: u64, depth: usize, at: usize) -> Scan
 }
 
 // The end of so many statements, one after the other.
-fn scan_stmts(nums: &[u64], version: u64, depth: usize, count: usize, at: usize) -> Scan
-    ensures { λ r. ⌜ r ≡ scanOf (repeat count (readStmt version depth)) (now (nums .entry)) at ⌝ }
+fn scan_stmts(
+    nums: &[u64],
+    version: u64,
+    depth: usize,
+    count: usize,
+    at: usize,
+    ends: &mut [u64; NUMBERS],
+) -> Scan
+    requires { ⌜ length (now nums) ≤ mostNumbers ⌝ }
+    ensures { λ r. ⌜ Lays (repeat count (readStmt version depth)) layMembers (now (nums .entry)) at (now (ends .entry)) (now (ends .exit)) r ⌝ }
 {
-    if count == 0 {
-        Scan::Past(at)
-    } else {
-        let first = scan_stmt(nums, version, depth, at);
-        match first {
-            Scan::Past(next) => scan_stmts(nums, version, depth, count - 1, next),
-            Scan::Fault { number, index } => Scan::Fault { number, index },
+    let mut next = at;
+    let mut left = count;
+    while left != 0 {
+        let one = scan_stmt(nums, version, depth, next, ends);
+        match one {
+            Scan::Past(end) => {
+                next = end;
+                left -= 1;
+            }
+            Scan::Fault { number, index } => return Scan::Fault { number, index },
         }
     }
+    Scan::Past(next)
 }
 
 // A type of a value.
@@ -589,13 +671,42 @@ fn key_kind_at(nums: &[u64], version: u64, at: usize) -> Scan
 }
 
 // A key: its kind and its expression.
-fn key_at(nums: &[u64], version: u64, at: usize) -> Scan
-    ensures { λ r. ⌜ r ≡ scanOf (readKey version) (now (nums .entry)) at ⌝ }
+fn key_at(nums: &[u64], version: u64, at: usize, ends: &mut [u64; NUMBERS]) -> Scan
+    requires { ⌜ length (now nums) ≤ mostNumbers ⌝ }
+    ensures { λ r. ⌜ Lays (readKey version) layKey (now (nums .entry)) at (now (ends .entry)) (now (ends .exit)) r ⌝ }
 {
     let kind = key_kind_at(nums, version, at);
     match kind {
-        Scan::Past(next) => scan_expr(nums, version, DEEPEST, next),
+        Scan::Past(next) => scan_expr(nums, version, DEEPEST, next, ends),
         Scan::Fault { number, index } => Scan::Fault { number, index },
+    }
+}
+
+// The end of so many keys, one after the other.
+fn keys_at(nums: &[u64], version: u64, count: u64, at: usize, ends: &mut [u64; NUMBERS]) -> Scan
+    requires { ⌜ length (now nums) ≤ mostNumbers ⌝ }
+    ensures { λ r. ⌜ Lays (repeat count (readKey version)) layKeys (now (nums .entry)) at (now (ends .entry)) (now (ends .exit)) r ⌝ }
+{
+    if count == 0 {
+        Scan::Past(at)
+    } else {
+        let first = key_at(nums, version, at, ends);
+        match first {
+            Scan::Past(next) => keys_at(nums, version, count - 1, next, ends),
+            Scan::Fault { number, index } => Scan::Fault { number, index },
+        }
+    }
+}
+
+// The end of a list of keys.
+fn key_list_at(nums: &[u64], version: u64, at: usize, ends: &mut [u64; NUMBERS]) -> Scan
+    requires { ⌜ length (now nums) ≤ mostNumbers ⌝ }
+    ensures { λ r. ⌜ Lays (listOf 1 4 (readKey version)) layKeys (now (nums .entry)) at (now (ends .entry)) (now (ends .exit)) r ⌝ }
+{
+    let count = value_in(nums, 1, MOST_KEYS, at);
+    match count {
+        Value::Of { value, next } => keys_at(nums, version, value, next, ends),
+        Value::Unread { number, index } => Scan::Fault { number, index },
     }
 }
 
@@ -614,7 +725,6 @@ fn item_at(nums: &[u64], version: u64, item: Item, at: usize) -> Scan
         Item::WidthItem => width_at(nums, at),
         Item::TypeItem => type_at(nums, version, at),
         Item::ParameterItem => parameter_at(nums, version, at),
-        Item::KeyItem => key_at(nums, version, at),
         Item::NumeralItem => numeral_at(nums, version, at),
     }
 }
@@ -695,15 +805,16 @@ fn frame_at(nums: &[u64], version: u64, at: usize) -> Scan
 }
 
 // A callable: its head, its parameters and locals, its body.
-fn callable_at(nums: &[u64], version: u64, at: usize) -> Scan
-    ensures { λ r. ⌜ r ≡ scanOf (readCallable version) (now (nums .entry)) at ⌝ }
+fn callable_at(nums: &[u64], version: u64, at: usize, ends: &mut [u64; NUMBERS]) -> Scan
+    requires { ⌜ length (now nums) ≤ mostNumbers ⌝ }
+    ensures { λ r. ⌜ Lays (readCallable version) layCallable (now (nums .entry)) at (now (ends .entry)) (now (ends .exit)) r ⌝ }
 {
     let returning = returning_at(nums, version, at);
     match returning {
         Scan::Past(next) => {
             let frame = frame_at(nums, version, next);
             match frame {
-                Scan::Past(body) => scan_stmt(nums, version, DEEPEST, body),
+                Scan::Past(body) => scan_stmt(nums, version, DEEPEST, body, ends),
                 Scan::Fault { number, index } => Scan::Fault { number, index },
             }
         }
@@ -712,10 +823,11 @@ fn callable_at(nums: &[u64], version: u64, at: usize) -> Scan
 }
 
 // A table's keys and actions.
-fn choices_at(nums: &[u64], version: u64, at: usize) -> Scan
-    ensures { λ r. ⌜ r ≡ scanOf (readChoices version) (now (nums .entry)) at ⌝ }
+fn choices_at(nums: &[u64], version: u64, at: usize, ends: &mut [u64; NUMBERS]) -> Scan
+    requires { ⌜ length (now nums) ≤ mostNumbers ⌝ }
+    ensures { λ r. ⌜ Lays (readChoices version) layChoices (now (nums .entry)) at (now (ends .entry)) (now (ends .exit)) r ⌝ }
 {
-    let keys = list_at(nums, version, Item::KeyItem, 1, MOST_KEYS, at);
+    let keys = key_list_at(nums, version, at, ends);
     match keys {
         Scan::Past(next) => list_at(nums, version, Item::NumeralItem, 1, MOST_ACTIONS, next),
         Scan::Fault { number, index } => Scan::Fault { number, index },
@@ -734,10 +846,11 @@ fn default_at(nums: &[u64], version: u64, at: usize) -> Scan
 }
 
 // A table: its keys and actions, its default.
-fn table_at(nums: &[u64], version: u64, at: usize) -> Scan
-    ensures { λ r. ⌜ r ≡ scanOf (readTable version) (now (nums .entry)) at ⌝ }
+fn table_at(nums: &[u64], version: u64, at: usize, ends: &mut [u64; NUMBERS]) -> Scan
+    requires { ⌜ length (now nums) ≤ mostNumbers ⌝ }
+    ensures { λ r. ⌜ Lays (readTable version) layTable (now (nums .entry)) at (now (ends .entry)) (now (ends .exit)) r ⌝ }
 {
-    let choices = choices_at(nums, version, at);
+    let choices = choices_at(nums, version, at, ends);
     match choices {
         Scan::Past(next) => default_at(nums, version, next),
         Scan::Fault { number, index } => Scan::Fault { number, index },
@@ -745,14 +858,15 @@ fn table_at(nums: &[u64], version: u64, at: usize) -> Scan
 }
 
 // The end of the part at `at`.
-fn part_at(nums: &[u64], version: u64, part: Part, at: usize) -> Scan
-    ensures { λ r. ⌜ r ≡ partScan version part (now (nums .entry)) at ⌝ }
+fn part_at(nums: &[u64], version: u64, part: Part, at: usize, ends: &mut [u64; NUMBERS]) -> Scan
+    requires { ⌜ length (now nums) ≤ mostNumbers ⌝ }
+    ensures { λ r. ⌜ LaysPart version part (now (nums .entry)) at (now (ends .entry)) (now (ends .exit)) r ⌝ }
 {
     match part {
         Part::HeaderPart => header_at(nums, version, at),
         Part::GlobalPart => global_at(nums, version, at),
-        Part::CallablePart => callable_at(nums, version, at),
-        Part::TablePart => table_at(nums, version, at),
+        Part::CallablePart => callable_at(nums, version, at, ends),
+        Part::TablePart => table_at(nums, version, at, ends),
     }
 }
 
@@ -765,18 +879,29 @@ fn parts_at(
     at: usize,
     slot: usize,
     directory: &mut [u64; SLOTS],
+    ends: &mut [u64; NUMBERS],
 ) -> Scan
-    requires { ⌜ slot + count ≤ 70 ⌝ }
+    requires { ⌜ (slot + count ≤ 70) × (length (now nums) ≤ mostNumbers) ⌝ }
     ensures { λ r. ⌜ Walked (partScan version part (now (nums .entry))) count at slot (now (directory .entry)) (now (directory .exit)) r ⌝ }
+    ensures { λ r. ⌜ LaysParts version part count (now (nums .entry)) at (now (ends .entry)) (now (ends .exit)) r ⌝ }
 {
     if count == 0 {
         Scan::Past(at)
     } else {
         directory[slot] = at as u64;
-        let first = part_at(nums, version, part, at);
+        let first = part_at(nums, version, part, at, ends);
         match first {
             Scan::Past(next) => {
-                parts_at(nums, version, part, count - 1, next, slot + 1, directory)
+                parts_at(
+                    nums,
+                    version,
+                    part,
+                    count - 1,
+                    next,
+                    slot + 1,
+                    directory,
+                    ends,
+                )
             }
             Scan::Fault { number, index } => Scan::Fault { number, index },
         }
@@ -792,23 +917,33 @@ fn part_list_at(
     at: usize,
     slot: usize,
     directory: &mut [u64; SLOTS],
+    ends: &mut [u64; NUMBERS],
 ) -> Scan
-    requires { ⌜ slot + most < 70 ⌝ }
+    requires { ⌜ (slot + most < 70) × (length (now nums) ≤ mostNumbers) ⌝ }
     ensures { λ r. ⌜ WalkedList (partScan version part (now (nums .entry))) most (now (nums .entry)) at slot (now (directory .entry)) (now (directory .exit)) r ⌝ }
+    ensures { λ r. ⌜ LaysList version part most (now (nums .entry)) at (now (ends .entry)) (now (ends .exit)) r ⌝ }
 {
     let count = value_in(nums, 0, most, at);
     match count {
         Value::Of { value, next } => {
             directory[slot] = value;
-            parts_at(nums, version, part, value, next, slot + 1, directory)
+            parts_at(nums, version, part, value, next, slot + 1, directory, ends)
         }
         Value::Unread { number, index } => Scan::Fault { number, index },
     }
 }
 
 // The header types and the globals.
-fn declared_at(nums: &[u64], version: u64, at: usize, directory: &mut [u64; SLOTS]) -> Scan
+fn declared_at(
+    nums: &[u64],
+    version: u64,
+    at: usize,
+    directory: &mut [u64; SLOTS],
+    ends: &mut [u64; NUMBERS],
+) -> Scan
+    requires { ⌜ length (now nums) ≤ mostNumbers ⌝ }
     ensures { λ r. ⌜ Lays (readDeclared version) layDeclared (now (nums .entry)) at (now (directory .entry)) (now (directory .exit)) r ⌝ }
+    ensures { λ r. ⌜ Lays (readDeclared version) noEnds (now (nums .entry)) at (now (ends .entry)) (now (ends .exit)) r ⌝ }
 {
     let headers = part_list_at(
         nums,
@@ -818,6 +953,7 @@ fn declared_at(nums: &[u64], version: u64, at: usize, directory: &mut [u64; SLOT
         at,
         HEADERS,
         directory,
+        ends,
     );
     match headers {
         Scan::Past(next) => part_list_at(
@@ -828,14 +964,23 @@ fn declared_at(nums: &[u64], version: u64, at: usize, directory: &mut [u64; SLOT
             next,
             GLOBALS,
             directory,
+            ends,
         ),
         Scan::Fault { number, index } => Scan::Fault { number, index },
     }
 }
 
 // The callables and the tables.
-fn defined_at(nums: &[u64], version: u64, at: usize, directory: &mut [u64; SLOTS]) -> Scan
+fn defined_at(
+    nums: &[u64],
+    version: u64,
+    at: usize,
+    directory: &mut [u64; SLOTS],
+    ends: &mut [u64; NUMBERS],
+) -> Scan
+    requires { ⌜ length (now nums) ≤ mostNumbers ⌝ }
     ensures { λ r. ⌜ Lays (readDefined version) layDefined (now (nums .entry)) at (now (directory .entry)) (now (directory .exit)) r ⌝ }
+    ensures { λ r. ⌜ Lays (readDefined version) endsDefined (now (nums .entry)) at (now (ends .entry)) (now (ends .exit)) r ⌝ }
 {
     let callables = part_list_at(
         nums,
@@ -845,6 +990,7 @@ fn defined_at(nums: &[u64], version: u64, at: usize, directory: &mut [u64; SLOTS
         at,
         CALLABLES,
         directory,
+        ends,
     );
     match callables {
         Scan::Past(next) => part_list_at(
@@ -855,16 +1001,25 @@ fn defined_at(nums: &[u64], version: u64, at: usize, directory: &mut [u64; SLOTS
             next,
             TABLES,
             directory,
+            ends,
         ),
         Scan::Fault { number, index } => Scan::Fault { number, index },
     }
 }
 
 // The apply body, and the program's end.
-fn body_at(nums: &[u64], version: u64, at: usize, directory: &mut [u64; SLOTS]) -> Scan
+fn body_at(
+    nums: &[u64],
+    version: u64,
+    at: usize,
+    directory: &mut [u64; SLOTS],
+    ends: &mut [u64; NUMBERS],
+) -> Scan
+    requires { ⌜ length (now nums) ≤ mostNumbers ⌝ }
     ensures { λ r. ⌜ Lays (readStmt version deepest) layBody (now (nums .entry)) at (now (directory .entry)) (now (directory .exit)) r ⌝ }
+    ensures { λ r. ⌜ Lays (readStmt version deepest) layStmt (now (nums .entry)) at (now (ends .entry)) (now (ends .exit)) r ⌝ }
 {
-    let body = scan_stmt(nums, version, DEEPEST, at);
+    let body = scan_stmt(nums, version, DEEPEST, at, ends);
     match body {
         Scan::Past(end) => {
             directory[BODY] = at as u64;
@@ -876,15 +1031,23 @@ fn body_at(nums: &[u64], version: u64, at: usize, directory: &mut [u64; SLOTS]) 
 }
 
 // What follows the version.
-fn after_version(nums: &[u64], version: u64, at: usize, directory: &mut [u64; SLOTS]) -> Scan
+fn after_version(
+    nums: &[u64],
+    version: u64,
+    at: usize,
+    directory: &mut [u64; SLOTS],
+    ends: &mut [u64; NUMBERS],
+) -> Scan
+    requires { ⌜ length (now nums) ≤ mostNumbers ⌝ }
     ensures { λ r. ⌜ Lays (readAfterVersion version) directoryOf (now (nums .entry)) at (now (directory .entry)) (now (directory .exit)) r ⌝ }
+    ensures { λ r. ⌜ Lays (readAfterVersion version) endsOf (now (nums .entry)) at (now (ends .entry)) (now (ends .exit)) r ⌝ }
 {
-    let declared = declared_at(nums, version, at, directory);
+    let declared = declared_at(nums, version, at, directory, ends);
     match declared {
         Scan::Past(next) => {
-            let defined = defined_at(nums, version, next, directory);
+            let defined = defined_at(nums, version, next, directory, ends);
             match defined {
-                Scan::Past(body) => body_at(nums, version, body, directory),
+                Scan::Past(body) => body_at(nums, version, body, directory, ends),
                 Scan::Fault { number, index } => Scan::Fault { number, index },
             }
         }
@@ -893,28 +1056,34 @@ fn after_version(nums: &[u64], version: u64, at: usize, directory: &mut [u64; SL
 }
 
 // A program, from the first number on.
-fn program_at(nums: &[u64], directory: &mut [u64; SLOTS]) -> Scan
+fn program_at(nums: &[u64], directory: &mut [u64; SLOTS], ends: &mut [u64; NUMBERS]) -> Scan
+    requires { ⌜ length (now nums) ≤ mostNumbers ⌝ }
     ensures { λ r. ⌜ Lays readProgram directoryOf (now (nums .entry)) 0 (now (directory .entry)) (now (directory .exit)) r ⌝ }
+    ensures { λ r. ⌜ Lays readProgram endsOf (now (nums .entry)) 0 (now (ends .entry)) (now (ends .exit)) r ⌝ }
 {
     let version = value_in(nums, 1, LATEST, 0);
     match version {
-        Value::Of { value, next } => after_version(nums, value, next, directory),
+        Value::Of { value, next } => after_version(nums, value, next, directory, ends),
         Value::Unread { number, index } => Scan::Fault { number, index },
     }
 }
 
-// The end of the program at the head of `nums`, or its first fault. Where its parts begin goes into the directory; a
-// fault leaves that as found.
-pub fn scan_program(nums: &[u64], directory: &mut [u64; SLOTS]) -> Scan
-    ensures { λ r. ⌜ ScansProgram (now (nums .entry)) (now (directory .entry)) (now (directory .exit)) r ⌝ }
+// The end of the program at the head of `nums`, or its first fault. Where its parts begin goes into the directory, and
+// where each expression and statement ends into `ends`; a fault leaves the one as found and the other as zeros.
+pub fn scan_program(nums: &[u64], directory: &mut [u64; SLOTS], ends: &mut [u64; NUMBERS]) -> Scan
+    requires { ⌜ length (now nums) ≤ mostNumbers ⌝ }
+    ensures { λ r. ⌜ ScansProgram (now (nums .entry)) (now (directory .entry)) (now (directory .exit)) (now (ends .entry)) (now (ends .exit)) r ⌝ }
 {
     let mut filled = *directory;
-    let program = program_at(nums, &mut filled);
+    let program = program_at(nums, &mut filled, ends);
     match program {
         Scan::Past(end) => {
             *directory = filled;
             Scan::Past(end)
         }
-        Scan::Fault { number, index } => Scan::Fault { number, index },
+        Scan::Fault { number, index } => {
+            *ends = [0u64; NUMBERS];
+            Scan::Fault { number, index }
+        }
     }
 }

@@ -3,7 +3,7 @@ use mathlib.Core.List.{List, [], _∷_, _++_}
 use mathlib.Core.Path.{_≡_, sym, ap, _∙_}
 use Prim.Native.Nat.{ℕ, _≤_}
 use native.Mathlib.Omega.{arith}
-use lib.ListN.{length, drop, length-take, length-append}
+use lib.ListN.{length, take, drop, length-take, length-drop, length-append}
 use Rattle.rules.specs.declared.ReadAnswer.{ReadAnswer}
 use Rattle.rules.specs.declared.ReadAnswer.the-variants.{Count}
 use Rattle.rules.specs.declared.WriteAnswer.{WriteAnswer}
@@ -31,3 +31,7 @@ bytes-within ns bytes r left taken p e =
     let same : taken ≡ length all = cc (room-told (length all) (length bytes) told there) in
     let stored : left ≡ all ++ drop (length all) bytes = p .leaves ∙ filled-there all bytes there in
     omega (arith, simp length-append at (ap length stored))
+
+-- a part of the slots is no longer than they are
+pub part-fits : (slots : List ℕ) (count from : ℕ) → length slots ≡ 4096 → length (take count (drop from slots)) ≤ 4096
+part-fits slots count from e = omega (arith, length-take count (drop from slots), length-drop from slots)

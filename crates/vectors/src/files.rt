@@ -1,4 +1,7 @@
 // Files of bytes through the crates: a line for each crate that a file reaches.
+ghost use Prim.Native.Nat.{_≤_};
+ghost use lib.ListN.{length};
+ghost use Rattle.shape.specs.Ends.{mostNumbers};
 use crate::lines;
 use rules::ReadAnswer;
 use rules::Refusal;
@@ -49,16 +52,21 @@ fn check(name: &[u8], bytes: &[u8]) {
 }
 
 // The list of numbers that the bytes hold, and what the crates behind make of it.
-fn read(name: &[u8], bytes: &[u8], list: &[u64]) {
+fn read(name: &[u8], bytes: &[u8], list: &[u64])
+    requires { ⌜ length (now list) ≤ mostNumbers ⌝ }
+{
     lines::numbers(list, SHOWN);
     lines::end();
     scan(name, bytes, list);
 }
 
 // The program at the head of a list of numbers, which the bytes hold. An index becomes the place of that number.
-fn scan(name: &[u8], bytes: &[u8], list: &[u64]) {
+fn scan(name: &[u8], bytes: &[u8], list: &[u64])
+    requires { ⌜ length (now list) ≤ mostNumbers ⌝ }
+{
     let mut directory = [0u64; shape::SLOTS];
-    let answer = shape::scan_program(list, &mut directory);
+    let mut ends = [0u64; shape::NUMBERS];
+    let answer = shape::scan_program(list, &mut directory, &mut ends);
     lines::text(name);
     match answer {
         Scan::Past(end) => {

@@ -11,15 +11,15 @@ use Rattle.shape.proofs.part_at.Reads as part-at-reads
 use Rattle.shape.proofs.+parts_at.{statement}
 use Rattle.shape.proofs.+parts_at.Tie.{close}
 
-abbrev μ-parts-at : Measures 2 parts-at-kinds.ps ℕ
+abbrev μ-parts-at : Measures 3 parts-at-kinds.ps ℕ
 μ-parts-at κs a = a .1 .1 .1 .0
 
-abbrev parts-at-at : ℕ → In 2 parts-at-kinds.ps
-parts-at-at t = and 2 parts-at-kinds.ps (is 2 parts-at-kinds.ps μ-parts-at t) parts-at.Pre
+abbrev parts-at-at : ℕ → In 3 parts-at-kinds.ps
+parts-at-at t = and 3 parts-at-kinds.ps (is 3 parts-at-kinds.ps μ-parts-at t) parts-at.Pre
 
-abbrev parts-at-below : ℕ → In 2 parts-at-kinds.ps
+abbrev parts-at-below : ℕ → In 3 parts-at-kinds.ps
 parts-at-below t =
-    and 2 parts-at-kinds.ps (falls 2 parts-at-kinds.ps _<_ μ-parts-at t) parts-at.Pre
+    and 3 parts-at-kinds.ps (falls 3 parts-at-kinds.ps _<_ μ-parts-at t) parts-at.Pre
 
 module _ (t : ℕ) where
   abbrev parts-at-claims : parts-at-lts.Claims

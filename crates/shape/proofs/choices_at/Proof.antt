@@ -4,14 +4,14 @@ use borrow.Author.Needs.{needs}
 use Rattle.shape.proofs.choices_at.Statement.{statement}
 use Rattle.shape.proofs.choices_at.Tie as tie
 
-list-at-requires : tie.Need-list-at-requires
-list-at-requires c κs = search (parts, needs)
+key-list-at-requires : tie.Need-key-list-at-requires
+key-list-at-requires c κs = search (parts, needs)
 
 enum-known-keys : tie.Need-enum-known-keys
 enum-known-keys c = search (parts, needs)
 
-list-at-requires-2 : tie.Need-list-at-requires-2
-list-at-requires-2 c κs = search (parts, needs)
+list-at-requires : tie.Need-list-at-requires
+list-at-requires c κs = search (parts, needs)
 
 enum-known-keys-2 : tie.Need-enum-known-keys-2
 enum-known-keys-2 c = search (parts, needs)
@@ -26,9 +26,9 @@ pub choices-at-spec : {M : Type 1} → statement M
 choices-at-spec =
     tie.close
     (tie.spec
-    list-at-requires
+    key-list-at-requires
     enum-known-keys
-    list-at-requires-2
+    list-at-requires
     enum-known-keys-2
     returns
     returns-2)

@@ -1,4 +1,4 @@
--- What carries it: two lists, each laid as its tree tells.
+-- What carries it: two lists of parts, one after the other.
 use Rattle.shape.proofs.Starts.{declarations}
 use borrow.Author.Needs.{needs}
 use Rattle.shape.proofs.declared_at.Statement.{statement}

@@ -25,12 +25,6 @@ parameter-at-requires c κs = search (kinds, needs)
 enum-told-4 : tie.Need-enum-told-4
 enum-told-4 c = search (kinds, needs)
 
-key-at-requires : tie.Need-key-at-requires
-key-at-requires c κs = search (kinds, needs)
-
-enum-told-5 : tie.Need-enum-told-5
-enum-told-5 c = search (kinds, needs)
-
 numeral-at-requires : tie.Need-numeral-at-requires
 numeral-at-requires c κs = search (kinds, needs)
 
@@ -46,9 +40,6 @@ returns-3 c = search (kinds, needs)
 returns-4 : tie.Need-returns-4
 returns-4 c = search (kinds, needs)
 
-returns-5 : tie.Need-returns-5
-returns-5 c = search (kinds, needs)
-
 pub item-at-spec : {M : Type 1} → statement M
 item-at-spec =
     tie.close
@@ -60,11 +51,8 @@ item-at-spec =
     enum-told-3
     parameter-at-requires
     enum-told-4
-    key-at-requires
-    enum-told-5
     numeral-at-requires
     returns
     returns-2
     returns-3
-    returns-4
-    returns-5)
+    returns-4)

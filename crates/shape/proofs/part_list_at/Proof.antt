@@ -1,4 +1,4 @@
--- What carries it: a list is its count and its members, with their beginnings.
+-- What carries it: a list of parts is its count and the parts.
 use Rattle.shape.proofs.Starts.{listWalks}
 use borrow.Author.Needs.{needs}
 use Rattle.shape.proofs.part_list_at.Statement.{statement}

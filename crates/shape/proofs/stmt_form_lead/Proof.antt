@@ -16,17 +16,14 @@ lead-by-requires c κs = search (stmtLeads, needs)
 enum-told-2 : tie.Need-enum-told-2
 enum-told-2 c = search (stmtLeads, needs)
 
-target-at-requires : tie.Need-target-at-requires
-target-at-requires c κs = search (stmtLeads, needs)
-
-lead-by-requires-2 : tie.Need-lead-by-requires-2
-lead-by-requires-2 c κs = search (stmtLeads, needs)
+target-lead-requires : tie.Need-target-lead-requires
+target-lead-requires c κs = search (stmtLeads, needs)
 
 enum-told-3 : tie.Need-enum-told-3
 enum-told-3 c = search (stmtLeads, needs)
 
-lead-by-requires-3 : tie.Need-lead-by-requires-3
-lead-by-requires-3 c κs = search (stmtLeads, needs)
+lead-by-requires-2 : tie.Need-lead-by-requires-2
+lead-by-requires-2 c κs = search (stmtLeads, needs)
 
 enum-told-4 : tie.Need-enum-told-4
 enum-told-4 c = search (stmtLeads, needs)
@@ -46,14 +43,14 @@ enum-told-6 c = search (stmtLeads, needs)
 any-number-requires : tie.Need-any-number-requires
 any-number-requires c κs = search (stmtLeads, needs)
 
-lead-by-requires-4 : tie.Need-lead-by-requires-4
-lead-by-requires-4 c κs = search (stmtLeads, needs)
+lead-by-requires-3 : tie.Need-lead-by-requires-3
+lead-by-requires-3 c κs = search (stmtLeads, needs)
 
 enum-told-7 : tie.Need-enum-told-7
 enum-told-7 c = search (stmtLeads, needs)
 
-lead-by-requires-5 : tie.Need-lead-by-requires-5
-lead-by-requires-5 c κs = search (stmtLeads, needs)
+lead-by-requires-4 : tie.Need-lead-by-requires-4
+lead-by-requires-4 c κs = search (stmtLeads, needs)
 
 enum-told-8 : tie.Need-enum-told-8
 enum-told-8 c = search (stmtLeads, needs)
@@ -90,19 +87,18 @@ stmt-form-lead-spec =
     enum-told
     lead-by-requires
     enum-told-2
-    target-at-requires
-    lead-by-requires-2
+    target-lead-requires
     enum-told-3
-    lead-by-requires-3
+    lead-by-requires-2
     enum-told-4
     block-lead-requires
     enum-told-5
     call-lead-requires
     enum-told-6
     any-number-requires
-    lead-by-requires-4
+    lead-by-requires-3
     enum-told-7
-    lead-by-requires-5
+    lead-by-requires-4
     enum-told-8
     returns
     returns-2

@@ -1,5 +1,5 @@
 -- `vectors::files::check` is safe and ends: the numbers that are counted lie within the slots.
-use Rattle.vectors.proofs.Within.{numbers-within}
+use Rattle.vectors.proofs.Within.{numbers-within, part-fits}
 use borrow.Author.Needs.{needs}
 use Rattle.vectors.proofs.files.check.Statement.{statement}
 use Rattle.vectors.proofs.files.check.Tie as tie
@@ -29,7 +29,7 @@ part-read-end : tie.Need-part-read-end
 part-read-end c = search (numbers-within, needs)
 
 read-requires-3 : tie.Need-read-requires-3
-read-requires-3 c κs = search needs
+read-requires-3 c κs = search (numbers-within, part-fits, needs)
 
 enum-told : tie.Need-enum-told
 enum-told c = search needs
