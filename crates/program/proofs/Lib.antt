@@ -1,0 +1,3 @@
+pub mod Views
+pub mod Found
+pub mod Members

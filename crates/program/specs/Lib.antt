@@ -1,0 +1,4 @@
+pub mod Codes
+pub mod Stands
+pub mod Scopes
+pub mod Looks
