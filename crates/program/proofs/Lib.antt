@@ -1,3 +1,6 @@
 pub mod Views
 pub mod Found
 pub mod Members
+mod Readings
+mod ExprsStand
+mod StmtsStand
