@@ -4,3 +4,6 @@ pub mod Members
 mod Readings
 mod ExprsStand
 mod StmtsStand
+mod PartsStand
+mod TablesStand
+pub mod Standing
