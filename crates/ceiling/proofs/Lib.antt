@@ -1,0 +1,5 @@
+mod Held
+mod Rank
+mod Sums
+mod Counting
+mod CountingStmts
