@@ -3,3 +3,5 @@ mod Rank
 mod Sums
 mod Counting
 mod CountingStmts
+mod CountingTables
+pub mod Whole

@@ -110,7 +110,7 @@ latest-at : (P : Program) (n : ℕ) → getD (ceilingsBelow P (suc n)) n 0 ≡ c
 unfolding ceilingsBelow ceilingNumber
 latest-at P n = last-at (ceilingsBelow P n) n _ (below-length P n)
 
-below : (f n : ℕ) → f < suc n → (f ≡ n → ⊥) → f < n
+pub below : (f n : ℕ) → f < suc n → (f ≡ n → ⊥) → f < n
 below f n h other = by (ltb f n) refl
   where
     by : (b : Bool) → ltb f n ≡ b → f < n

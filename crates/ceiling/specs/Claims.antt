@@ -262,3 +262,62 @@ pub record AsksApplied (directory : List ℕ) : Type 0 where
 pub record CountsApplied (directory tables : List ℕ) (reach t r : ℕ) : Type 0 where
   pub counted : (nums ends : List ℕ) (P : Program) (end : ℕ) → StandsProgram nums directory ends P end
       → TablesKept P reach tables → r ≡ cut (appliedIn P reach t)
+
+-- the keys of a table, and the largest of its actions
+pub record AsksKeys (nums directory ends kept : List ℕ) (reach at count : ℕ) : Type 0 where
+  pub program : Program
+  pub keys : List Key
+  pub setting : Setting nums directory ends kept reach program
+  pub stand : StandsKeys nums ends at keys
+  pub counts : count ≡ length keys
+
+pub record CountsKeys (nums directory ends kept kept′ : List ℕ) (reach at count r : ℕ) : Type 0 where
+  pub low : r ≤ suc mostSteps
+  pub counted : (P : Program) (ks : List Key) → Setting nums directory ends kept reach P → StandsKeys nums ends at ks
+      → count ≡ length ks → Counted P (ceilingKeys (calleeBelow P reach) ks) r kept′
+
+pub record AsksLargest (nums directory ends kept : List ℕ) (reach at count : ℕ) : Type 0 where
+  pub program : Program
+  pub actions : List Numeral
+  pub setting : Setting nums directory ends kept reach program
+  pub stand : StandsNumerals nums at actions
+  pub counts : count ≡ length actions
+
+pub record CountsLargest (nums directory ends kept kept′ : List ℕ) (reach at count r : ℕ) : Type 0 where
+  pub low : r ≤ suc mostSteps
+  pub counted : (P : Program) (ns : List Numeral) → Setting nums directory ends kept reach P → StandsNumerals nums at ns
+      → count ≡ length ns → Counted P (largestOf (calleeBelow P reach) ns) r kept′
+
+-- a table
+pub record AsksTable (nums directory ends kept : List ℕ) (reach t : ℕ) : Type 0 where
+  pub program : Program
+  pub setting : Setting nums directory ends kept reach program
+  pub inside : t < length (program .tables)
+
+pub record CountsTable (nums directory ends kept kept′ : List ℕ) (reach t r : ℕ) : Type 0 where
+  pub low : r ≤ suc mostSteps
+  pub counted : (P : Program) → Setting nums directory ends kept reach P → t < length (P .tables)
+      → Counted P (ceilingTable (calleeBelow P reach) (getElem? (P .tables) t)) r kept′
+
+-- the tables below a number are worked out
+pub record FilledTo (P : Program) (reach : ℕ) (filled : List ℕ) (t : ℕ) : Type 0 where
+  pub slots : length filled ≡ 8
+  pub slot : (u : ℕ) → u < t → u < length (P .tables)
+      → getD filled u 0 ≡ cut (ceilingTable (calleeBelow P reach) (getElem? (P .tables) u))
+
+pub record AsksTables (nums directory ends kept filled : List ℕ) (reach t : ℕ) : Type 0 where
+  pub program : Program
+  pub setting : Setting nums directory ends kept reach program
+  pub fills : FilledTo program reach filled t
+
+pub record Filled (P : Program) (reach : ℕ) (filled kept : List ℕ) : Type 0 where
+  pub fills : FilledTo P reach filled (length (P .tables))
+  pub keeps : Kept P kept
+
+pub record CountsTables (nums directory ends kept kept′ filled filled′ : List ℕ) (reach t : ℕ) : Type 0 where
+  pub counted : (P : Program) → Setting nums directory ends kept reach P → FilledTo P reach filled t
+      → Filled P reach filled′ kept′
+
+-- what the whole count tells
+pub record TellsCeiling (nums directory ends : List ℕ) (r : ℕ) : Type 0 where
+  pub told : (P : Program) (end : ℕ) → StandsProgram nums directory ends P end → r ≡ cut (ceilingOf P)

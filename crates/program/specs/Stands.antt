@@ -225,3 +225,9 @@ pub record StandsProgram (nums directory ends : List ℕ) (P : Program) (end : �
   pub tables : StandsList (StandsTable nums ends) directory 59 mostTables (P .tables)
   pub body : StandsStmt nums ends deepest (getD directory 68 0) (P .body)
   pub ending : getD directory 69 0 ≡ end
+
+-- some program stands there
+pub record SomeProgram (nums directory ends : List ℕ) : Type 0 where
+  pub program : Program
+  pub end : ℕ
+  pub stands : StandsProgram nums directory ends program end
