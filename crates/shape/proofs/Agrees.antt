@@ -9,8 +9,8 @@ use Rattle.shape.specs.Scans.{forget, scanOf}
 use Rattle.shape.specs.Leads.{valued, valueOf, leadBy, argumentsLead, callLead, blockLead, Agree, AgreeOn, Tagged}
 use Rattle.shape.specs.declared.Scan.{Scan}
 use Rattle.shape.specs.declared.Scan.the-variants.{Past, Fault}
-use Rattle.shape.specs.declared.Lead.{Lead}
-use Rattle.shape.specs.declared.Lead.the-variants.{On, Off}
+use Rattle.shape.specs.declared.expressions.Lead.{Lead}
+use Rattle.shape.specs.declared.expressions.Lead.the-variants.{On, Off}
 
 pub record Alike {A B : Type 0} (P : A → B → Type 0) (read : Reader A) (parts : Reader B) : Type 0 where
   pub alike : (left : List ℕ) (at : ℕ) → Agree P (read left at) (parts left at)

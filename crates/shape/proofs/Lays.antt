@@ -14,8 +14,8 @@ use Rattle.shape.specs.Leads.{valued, valueOf}
 use Rattle.shape.specs.Walks.{Laid, Lays, noEnds}
 use Rattle.shape.specs.declared.Scan.{Scan}
 use Rattle.shape.specs.declared.Scan.the-variants.{Past, Fault}
-use Rattle.shape.specs.declared.Value.{Value}
-use Rattle.shape.specs.declared.Value.the-variants.{Of, Unread}
+use Rattle.shape.specs.declared.looks.Value.{Value}
+use Rattle.shape.specs.declared.looks.Value.the-variants.{Of, Unread}
 use Rattle.shape.proofs.Laws.{deep-same, repeat-none}
 
 -- what a reader that was scanned gave, with the slots that it filled

@@ -16,12 +16,12 @@ use Rattle.shape.specs.Ends.{exprAt, firstAt}
 use Rattle.shape.specs.Leads.{onScan, onLead, valued, valueOf, leadBy, argumentsLead, callLead, blockLead, exprForm, exprLead, stmtForm, stmtLead, stmtLaid, readLiteral}
 use Rattle.shape.specs.Leads.{Agree, AgreeOn, readOperands, readParts, LeadsExpr, LeadsStmt}
 use Rattle.shape.specs.declared.Scan.the-variants.{Past, Fault}
-use Rattle.shape.specs.declared.Lead.{Lead}
-use Rattle.shape.specs.declared.Lead.the-variants.{On, Off}
-use Rattle.shape.specs.declared.ExprForm.{ExprForm}
-use Rattle.shape.specs.declared.ExprForm.the-variants.{Number, Field, Literal, Operand, Binary, Cast, Slice, Operands, Call, Unlisted}
-use Rattle.shape.specs.declared.StmtForm.{StmtForm}
-use Rattle.shape.specs.declared.StmtForm.the-variants.{Bare, Assign, If, Block, CallStmt, Named, Returned, NoStmt}
+use Rattle.shape.specs.declared.expressions.Lead.{Lead}
+use Rattle.shape.specs.declared.expressions.Lead.the-variants.{On, Off}
+use Rattle.shape.specs.declared.expressions.ExprForm.{ExprForm}
+use Rattle.shape.specs.declared.expressions.ExprForm.the-variants.{Number, Field, Literal, Operand, Binary, Cast, Slice, Operands, Call, Unlisted}
+use Rattle.shape.specs.declared.statements.StmtForm.{StmtForm}
+use Rattle.shape.specs.declared.statements.StmtForm.the-variants.{Bare, Assign, If, Block, CallStmt, Named, Returned, NoStmt}
 use Rattle.shape.proofs.Laws.{scans-self, scans-then, scans-last, scans-pure}
 use Rattle.shape.proofs.Lays.{BegunAt, Begins, begins-repeat}
 use Rattle.shape.proofs.Exprs.{ExprNodes, expr-agrees, args-at, starts-expr}

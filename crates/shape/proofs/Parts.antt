@@ -22,12 +22,12 @@ use Rattle.shape.specs.Walks.{Lays, noEnds, partEnds, LaysPart}
 use Rattle.shape.proofs.Lays.{lays-then, lays-fault, lays-as, lays-none, lays-scan, BegunAt, Begins, begins-list, lays-next, all-none, all-past, all-fault, lays-counted, lays-uncounted, pair-then, then-same, then-assoc}
 use Rattle.shape.specs.declared.Scan.{Scan}
 use Rattle.shape.specs.declared.Scan.the-variants.{Past, Fault}
-use Rattle.shape.specs.declared.Value.{Value}
-use Rattle.shape.specs.declared.Value.the-variants.{Of, Unread}
-use Rattle.shape.specs.declared.Item.{Item}
-use Rattle.shape.specs.declared.Item.the-variants.{WidthItem, TypeItem, ParameterItem, NumeralItem}
-use Rattle.shape.specs.declared.Part.{Part}
-use Rattle.shape.specs.declared.Part.the-variants.{HeaderPart, GlobalPart, CallablePart, TablePart}
+use Rattle.shape.specs.declared.looks.Value.{Value}
+use Rattle.shape.specs.declared.looks.Value.the-variants.{Of, Unread}
+use Rattle.shape.specs.declared.items.Item.{Item}
+use Rattle.shape.specs.declared.items.Item.the-variants.{WidthItem, TypeItem, ParameterItem, NumeralItem}
+use Rattle.shape.specs.declared.program.Part.{Part}
+use Rattle.shape.specs.declared.program.Part.the-variants.{HeaderPart, GlobalPart, CallablePart, TablePart}
 use Rattle.shape.proofs.Laws.{on-same, Scans, scans-self, scans-then, scans-pure, scans-here, scans-last, stands-is, seq-past, seq-fault}
 use Rattle.shape.proofs.Laws.{isSome, Spans, some-within, scan-like, spans-scan, spans-list, list-scan, repeat-none, scans-repeat, IsValue, value-inv, between-fault, scan-fault, stands-some, stands-lacks}
 

@@ -16,7 +16,7 @@ use Rattle.shape.specs.Walks.{readDeclared, readDefined}
 use Rattle.shape.specs.Leads.{onLead, exprForm, exprLead, stmtForm, stmtLead, Agree, AgreeOn, readOperands, readParts}
 use Rattle.shape.specs.declared.Scan.{Scan}
 use Rattle.shape.specs.declared.Scan.the-variants.{Past}
-use Rattle.shape.specs.declared.Lead.the-variants.{On}
+use Rattle.shape.specs.declared.expressions.Lead.the-variants.{On}
 use Rattle.shape.proofs.Lays.{BegunAt, Begins, begins-repeat, begins-list}
 use Rattle.shape.proofs.Exprs.{ExprNodes, expr-agrees, args-at, starts-expr}
 use Rattle.shape.proofs.Exprs as exprs

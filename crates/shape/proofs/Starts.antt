@@ -19,10 +19,10 @@ use Rattle.shape.specs.Walks.{startsAfter, starts, Walked, laidList, Wal
 use Rattle.shape.specs.Walks.{readDeclared, layDeclared, readDefined, layDefined, layBody}
 use Rattle.shape.specs.declared.Scan.{Scan}
 use Rattle.shape.specs.declared.Scan.the-variants.{Past, Fault}
-use Rattle.shape.specs.declared.Value.{Value}
-use Rattle.shape.specs.declared.Value.the-variants.{Of, Unread}
-use Rattle.shape.specs.declared.Part.{Part}
-use Rattle.shape.specs.declared.Part.the-variants.{HeaderPart, GlobalPart, CallablePart, TablePart}
+use Rattle.shape.specs.declared.looks.Value.{Value}
+use Rattle.shape.specs.declared.looks.Value.the-variants.{Of, Unread}
+use Rattle.shape.specs.declared.program.Part.{Part}
+use Rattle.shape.specs.declared.program.Part.the-variants.{HeaderPart, GlobalPart, CallablePart, TablePart}
 use Rattle.shape.proofs.Laws.{AtMost, value-most, scans-self}
 use Rattle.shape.proofs.Stmts.{starts-stmt}
 use Rattle.shape.proofs.Lays.{lays-then, lays-fault, lays-as, lays-like, lays-same, BegunAt, Begins, begins-repeat, begins-list, lays-next, pair-then, then-same}

@@ -22,14 +22,14 @@ use Rattle.shape.specs.Walks.{Lays}
 use Rattle.shape.specs.Leads.{Agree, AgreeOn, Made, Tagged, layExprs, layMembers, readParts, layParts, laidTarget, LeadsTarget, stmtLaid, LeadsForm, onScan, valueOf, onValue, leadBy, onLead, callLead, blockLead, placeFormOf, placeForm, placeScan, stmtFormOf, stmtForm, stmtLead, LeadsStmt}
 use Rattle.shape.specs.declared.Scan.{Scan}
 use Rattle.shape.specs.declared.Scan.the-variants.{Past, Fault}
-use Rattle.shape.specs.declared.Value.{Value}
-use Rattle.shape.specs.declared.Value.the-variants.{Of, Unread}
-use Rattle.shape.specs.declared.Lead.{Lead}
-use Rattle.shape.specs.declared.Lead.the-variants.{On, Off}
-use Rattle.shape.specs.declared.PlaceForm.{PlaceForm}
-use Rattle.shape.specs.declared.PlaceForm.the-variants.{OneNumber, TwoNumbers, NoPlace}
-use Rattle.shape.specs.declared.StmtForm.{StmtForm}
-use Rattle.shape.specs.declared.StmtForm.the-variants.{Bare, Assign, If, Block, CallStmt, Named, Returned, NoStmt}
+use Rattle.shape.specs.declared.looks.Value.{Value}
+use Rattle.shape.specs.declared.looks.Value.the-variants.{Of, Unread}
+use Rattle.shape.specs.declared.expressions.Lead.{Lead}
+use Rattle.shape.specs.declared.expressions.Lead.the-variants.{On, Off}
+use Rattle.shape.specs.declared.statements.PlaceForm.{PlaceForm}
+use Rattle.shape.specs.declared.statements.PlaceForm.the-variants.{OneNumber, TwoNumbers, NoPlace}
+use Rattle.shape.specs.declared.statements.StmtForm.{StmtForm}
+use Rattle.shape.specs.declared.statements.StmtForm.the-variants.{Bare, Assign, If, Block, CallStmt, Named, Returned, NoStmt}
 use Rattle.shape.proofs.Laws.{on-past, on-fault, on-same, on-last, Scans, scans-self, scans-then, scans-pure, scans-last, scans-as, scan-here, stands-is, stands-none, stands-out}
 use Rattle.shape.proofs.Laws.{none-past, deep-missing, deep-same, repeat-none, scans-one, scans-two}
 use Rattle.shape.proofs.Exprs.{above, one-less, lead-scan, scans-list, call-scan, scans-field, scans-place, args-laid, starts-expr, construct}

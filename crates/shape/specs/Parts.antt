@@ -11,10 +11,10 @@ use Rattle.shape.specs.Ends.{firstAt, layAll, keyAt, layKey, numeralAt}
 use Rattle.shape.specs.Leads.{onScan, valueOf, onValue}
 use Rattle.shape.specs.declared.Scan.{Scan}
 use Rattle.shape.specs.declared.Scan.the-variants.{Past}
-use Rattle.shape.specs.declared.Item.{Item}
-use Rattle.shape.specs.declared.Item.the-variants.{WidthItem, TypeItem, ParameterItem, NumeralItem}
-use Rattle.shape.specs.declared.Part.{Part}
-use Rattle.shape.specs.declared.Part.the-variants.{HeaderPart, GlobalPart, CallablePart, TablePart}
+use Rattle.shape.specs.declared.items.Item.{Item}
+use Rattle.shape.specs.declared.items.Item.the-variants.{WidthItem, TypeItem, ParameterItem, NumeralItem}
+use Rattle.shape.specs.declared.program.Part.{Part}
+use Rattle.shape.specs.declared.program.Part.the-variants.{HeaderPart, GlobalPart, CallablePart, TablePart}
 
 -- so many of a kind, and a list of them
 unfoldable pub repeatScan : (ℕ → Scan) → ℕ → ℕ → Scan

@@ -14,10 +14,10 @@ use Rattle.shape.specs.Leads.{valueOf}
 use Rattle.shape.specs.Parts.{repeatScan, listScan, partScan}
 use Rattle.shape.specs.declared.Scan.{Scan}
 use Rattle.shape.specs.declared.Scan.the-variants.{Past, Fault}
-use Rattle.shape.specs.declared.Value.{Value}
-use Rattle.shape.specs.declared.Value.the-variants.{Of, Unread}
-use Rattle.shape.specs.declared.Part.{Part}
-use Rattle.shape.specs.declared.Part.the-variants.{HeaderPart, GlobalPart, CallablePart, TablePart}
+use Rattle.shape.specs.declared.looks.Value.{Value}
+use Rattle.shape.specs.declared.looks.Value.the-variants.{Of, Unread}
+use Rattle.shape.specs.declared.program.Part.{Part}
+use Rattle.shape.specs.declared.program.Part.the-variants.{HeaderPart, GlobalPart, CallablePart, TablePart}
 use Rattle.shape.specs.Directory.{stmtAt, declared, defined}
 use Rattle.shape.specs.Ends.{firstAt, layAll, callableAt, layCallable, tableAt, layTable}
 
