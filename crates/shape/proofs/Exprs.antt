@@ -6,7 +6,9 @@ use Prim.Native.Nat.{ℕ, zero, suc, _+_, _-_, _*_, _≤_, _<_, _^_}
 use native.Mathlib.Omega.{arith}
 use native.Mathlib.Numerals.{add-one}
 use lib.ListN.{length, getD, drop, set, getElem?}
+use Rattle.rules.specs.Words.{widest}
 use Rattle.rules.specs.Syntax.{Operator, Place, Expr, boolLiteral, bitsLiteral, readOf, validOf, negation, complement, binary, cast, slice, concatenation, callExpr}
+use Rattle.rules.specs.Reading.{mostArguments, highestBound}
 use Rattle.rules.specs.Reading.{Got, got, bad, Reader, andThen, _>>=_, pure, here, number, meaning, standsFor, between, repeat, listOf, tooDeep}
 use Rattle.rules.specs.Reading.{tagLocal, tagParameter, tagGlobal, tagField, ExprTag, tagBool, tagBits, tagPlace, tagValid, tagNot, tagComplement, tagBinary, tagCast, tagSlice, tagConcatenation, tagCall}
 use Rattle.rules.specs.Reading.{operators, exprTags, toArgs, readPlace, readExprAs, readExpr}
@@ -41,34 +43,37 @@ module _ (nums : List ℕ) (at n number₁ index : ℕ) (a r : Scan) where
       on-fault (scanOf number nums at) number₁ index (scanOf number nums) (sym e ∙ p)
       ∙ sym (scans-two keeps-number .scan at)
 
-  pub bounds-past : a ≡ scanOf (between 0 63) nums at → a ≡ Past n → r ≡ scanOf (between 0 63) nums n
-      → r ≡ scanOf (repeat 2 (between 0 63)) nums at
+  pub bounds-past : a ≡ scanOf (between 0 highestBound) nums at → a ≡ Past n
+      → r ≡ scanOf (between 0 highestBound) nums n
+      → r ≡ scanOf (repeat 2 (between 0 highestBound)) nums at
   bounds-past e p q =
-      on-past (scanOf (between 0 63) nums at) r n (scanOf (between 0 63) nums) (sym e ∙ p) q
-      ∙ sym (scans-two (keeps-between 0 63) .scan at)
+      on-past (scanOf (between 0 highestBound) nums at) r n (scanOf (between 0 highestBound) nums) (sym e ∙ p) q
+      ∙ sym (scans-two (keeps-between 0 highestBound) .scan at)
 
-  pub bounds-fault : a ≡ scanOf (between 0 63) nums at → a ≡ Fault number₁ index
-      → Fault number₁ index ≡ scanOf (repeat 2 (between 0 63)) nums at
+  pub bounds-fault : a ≡ scanOf (between 0 highestBound) nums at → a ≡ Fault number₁ index
+      → Fault number₁ index ≡ scanOf (repeat 2 (between 0 highestBound)) nums at
   bounds-fault e p =
-      on-fault (scanOf (between 0 63) nums at) number₁ index (scanOf (between 0 63) nums) (sym e ∙ p)
-      ∙ sym (scans-two (keeps-between 0 63) .scan at)
+      on-fault (scanOf (between 0 highestBound) nums at) number₁ index (scanOf (between 0 highestBound) nums)
+      (sym e ∙ p)
+      ∙ sym (scans-two (keeps-between 0 highestBound) .scan at)
 
 scans-literal : (nums : List ℕ)
-    → Scans readLiteral nums (λ at. onScan (scanOf (between 1 64) nums at) (scanOf number nums))
+    → Scans readLiteral nums (λ at. onScan (scanOf (between 1 widest) nums at) (scanOf number nums))
 unfolding readLiteral
-scans-literal nums = scans-then (keeps-between 1 64) (scans-self (between 1 64) nums) λ width. scans-self number nums
+scans-literal nums = scans-then (keeps-between 1 widest) (scans-self (between 1 widest) nums) λ width.
+    scans-self number nums
 
 module _ (nums : List ℕ) (at n number₁ index : ℕ) (a r : Scan) where
-  pub literal-past : a ≡ scanOf (between 1 64) nums at → a ≡ Past n → r ≡ scanOf number nums n
+  pub literal-past : a ≡ scanOf (between 1 widest) nums at → a ≡ Past n → r ≡ scanOf number nums n
       → r ≡ scanOf readLiteral nums at
   literal-past e p q =
-      on-past (scanOf (between 1 64) nums at) r n (scanOf number nums) (sym e ∙ p) q
+      on-past (scanOf (between 1 widest) nums at) r n (scanOf number nums) (sym e ∙ p) q
       ∙ sym (scans-literal nums .scan at)
 
-  pub literal-fault : a ≡ scanOf (between 1 64) nums at → a ≡ Fault number₁ index
+  pub literal-fault : a ≡ scanOf (between 1 widest) nums at → a ≡ Fault number₁ index
       → Fault number₁ index ≡ scanOf readLiteral nums at
   literal-fault e p =
-      on-fault (scanOf (between 1 64) nums at) number₁ index (scanOf number nums) (sym e ∙ p)
+      on-fault (scanOf (between 1 widest) nums at) number₁ index (scanOf number nums) (sym e ∙ p)
       ∙ sym (scans-literal nums .scan at)
 
 pub operator-is : (version : ℕ) (nums : List ℕ) (at : ℕ) (r : Scan) → r ≡ scanOf (between 0 13) nums at
@@ -98,7 +103,7 @@ unfolding argumentsLead
 arguments-off v w number₁ index e p = rw (← e, p)
 
 pub call-on : (nums : List ℕ) (s t : Scan) (next : ℕ) (r : Lead) → s ≡ t → s ≡ Past next
-    → r ≡ argumentsLead (valueOf 0 8 nums next) → r ≡ callLead nums t
+    → r ≡ argumentsLead (valueOf 0 mostArguments nums next) → r ≡ callLead nums t
 unfolding callLead
 call-on nums s t next r e p q = rw (← e, p) q
 
@@ -161,12 +166,13 @@ module _ (version : ℕ) (nums : List ℕ) (at : ℕ) (form : ExprForm) (r : Lea
   unfolding exprLead
   binary-lead f s e q = rw (f, ← e) q
 
-  pub cast-lead : form ≡ Cast → (s : Scan) → s ≡ scanOf (between 1 64) nums (at + 1) → r ≡ leadBy s 1 0
+  pub cast-lead : form ≡ Cast → (s : Scan) → s ≡ scanOf (between 1 widest) nums (at + 1) → r ≡ leadBy s 1 0
       → r ≡ exprLead version form nums at
   unfolding exprLead
   cast-lead f s e q = rw (f, ← e) q
 
-  pub slice-lead : form ≡ Slice → (s : Scan) → s ≡ scanOf (repeat 2 (between 0 63)) nums (at + 1) → r ≡ leadBy s 1 0
+  pub slice-lead : form ≡ Slice → (s : Scan) → s ≡ scanOf (repeat 2 (between 0 highestBound)) nums (at + 1)
+      → r ≡ leadBy s 1 0
       → r ≡ exprLead version form nums at
   unfolding exprLead
   slice-lead f s e q = rw (f, ← e) q
@@ -232,7 +238,8 @@ scans-list {nums = nums} least most h = record { scan = λ at. list-scan least m
 pub call-scan : {A B : Type 0} {one : Reader A} {k : ℕ → List A → Reader B} {nums : List ℕ} (K : ℕ → ℕ → ℕ → Scan)
     → Keeps one
     → ((f : ℕ) (xs : List A) → Scans (k f xs) nums Past) → ((next n : ℕ) → K next n 0 ≡ scanOf (repeat n one) nums next)
-    → Scans (number >>= λ f. listOf 0 8 one >>= k f) nums (λ at. onLead (callLead nums (scanOf number nums at)) K)
+    → Scans (number >>= λ f. listOf 0 mostArguments one >>= k f) nums
+    (λ at. onLead (callLead nums (scanOf number nums at)) K)
 unfolding onScan onValue onLead callLead argumentsLead
 call-scan {A} {B} {one} {k} {nums} K h g e =
     record {
@@ -247,9 +254,10 @@ call-scan {A} {B} {one} {k} {nums} K h g e =
     counted (Unread fault index) = refl
 
     go : (x : Scan)
-        → onScan x (λ at. onValue (valueOf 0 8 nums at) (λ n next. scanOf (repeat n one) nums next)) ≡ onLead
+        → onScan x (λ at. onValue (valueOf 0 mostArguments nums at) (λ n next. scanOf (repeat n one) nums next))
+        ≡ onLead
         (callLead nums x) K
-    go (Past next) = counted (valueOf 0 8 nums next)
+    go (Past next) = counted (valueOf 0 mostArguments nums next)
     go (Fault fault index) = refl
 
 pub scans-field : (version : ℕ) (nums : List ℕ)
@@ -291,7 +299,7 @@ module _ (version : ℕ) (nums : List ℕ) (operand : Reader Expr) (h : Keeps op
       (at + 1))
   lead-as tagBits i at =
       rw (← add-one at, scans-literal nums .scan (at + 1))
-      (lead-two after 0 0 (keeps-between 1 64) (λ w. keeps-number) (scans-self (between 1 64) nums)
+      (lead-two after 0 0 (keeps-between 1 widest) (λ w. keeps-number) (scans-self (between 1 widest) nums)
       (λ w. scans-self number nums) (λ w n. scans-none operand _) .scan (at + 1))
   lead-as (tagPlace tagLocal) i at =
       rw (← add-one at) (lead-scan after 0 0 (keeps-place version tagLocal) (scans-place version nums .0)
@@ -314,11 +322,12 @@ module _ (version : ℕ) (nums : List ℕ) (operand : Reader Expr) (h : Keeps op
       rw (← add-one at) (lead-scan after 2 0 (keeps-stands _) (scans-self _ nums)
       (λ o. two-operands (λ a b. scans-pure _)) .scan (at + 1))
   lead-as tagCast i at =
-      rw (← add-one at) (lead-scan after 1 0 (keeps-between 1 64) (scans-self _ nums)
+      rw (← add-one at) (lead-scan after 1 0 (keeps-between 1 widest) (scans-self _ nums)
       (λ w. one-operand (λ a. scans-pure _)) .scan (at + 1))
   lead-as tagSlice i at =
-      rw (← add-one at, scans-two (keeps-between 0 63) .scan (at + 1))
-      (lead-two after 1 0 (keeps-between 0 63) (λ u. keeps-between 0 63) (scans-self _ nums) (λ u. scans-self _ nums)
+      rw (← add-one at, scans-two (keeps-between 0 highestBound) .scan (at + 1))
+      (lead-two after 1 0 (keeps-between 0 highestBound) (λ u. keeps-between 0 highestBound) (scans-self _ nums)
+      (λ u. scans-self _ nums)
       (λ u v. one-operand (λ a. scans-pure _)) .scan (at + 1))
   lead-as tagConcatenation i at = rw (← add-one at) (two-operands (λ a b. scans-pure _) .scan (at + 1))
   lead-as tagCall i at = rw (← add-one at) (call-scan after h (λ f xs. scans-pure _) (λ next n. refl) .scan (at + 1))
@@ -415,9 +424,10 @@ module _ (version depth : ℕ) (nums : List ℕ) (at : ℕ) (P : Expr → List E
     tree-as tagBinary =
         agree-lead P parts nums (at + 1) 2 0 (keeps-stands _) λ o. alike-two P operand _ (N .binary-node o)
     tree-as tagCast =
-        agree-lead P parts nums (at + 1) 1 0 (keeps-between 1 64) λ w. alike-one P operand _ (N .cast-node w)
+        agree-lead P parts nums (at + 1) 1 0 (keeps-between 1 widest) λ w. alike-one P operand _ (N .cast-node w)
     tree-as tagSlice =
-        agree-two P parts nums (at + 1) 1 0 (keeps-between 0 63) λ u v. alike-one P operand _ (N .slice-node u v)
+        agree-two P parts nums (at + 1) 1 0 (keeps-between 0 highestBound) λ u v.
+        alike-one P operand _ (N .slice-node u v)
     tree-as tagConcatenation = behind-tag P parts nums at 2 0 (alike-two P operand _ (N .concatenation-node))
     tree-as tagCall =
         agree-call P parts nums (at + 1) operand _ λ f n. alike-all P (repeat n operand) _ (N .call-node f)
@@ -580,7 +590,8 @@ module _ (version depth count : ℕ) (nums : List ℕ) (at : ℕ) (found : List 
     unfolding layExprs
     exprs-past end mid a x v p = record {
       rest = λ last r u. w .rest last r
-          (all-past exprAt layExpr (readExpr version depth) nums next left (keeps-expr version depth) (starts-expr version depth) end
+          (all-past exprAt layExpr (readExpr version depth) nums next left (keeps-expr version depth)
+          (starts-expr version depth) end
           now mid last a r r x v p u refl);
     }
 

@@ -167,7 +167,8 @@ lays-next {A} {B} {C} {first} {second} make {layFirst} {laySecond} lay start bot
 -- so many, one after the other
 module _ {A : Type 0} (start : A → ℕ) (lay : A → ℕ → List ℕ → List ℕ) (one : Reader A) (nums : List ℕ) (at count : ℕ)
   where
-    pub all-none : (found : List ℕ) → count ≡ 0 → Lays (repeat count one) (layAll start lay) nums at found found (Past at)
+    pub all-none : (found : List ℕ) → count ≡ 0
+        → Lays (repeat count one) (layAll start lay) nums at found found (Past at)
     unfolding repeat pure Laid layAll
     all-none found e = record { scan = repeat-none one nums count at e; laid = rw e refl }
 
@@ -196,12 +197,14 @@ module _ {A : Type 0} (start : A → ℕ) (lay : A → ℕ → List ℕ → List
         go (suc k) y = lays-fault (λ a. repeat k one >>= λ rest. pure (a ∷ rest)) (layAll start lay) found w p
 
 -- a list of which some are left: what the rest lays, all lay
-pub record Pending {A : Type 0} (one : Reader A) (lays : List A → ℕ → List ℕ → List ℕ) (count : ℕ) (nums : List ℕ) (at : ℕ)
+pub record Pending {A : Type 0} (one : Reader A) (lays : List A → ℕ → List ℕ → List ℕ) (count : ℕ) (nums : List ℕ)
+    (at : ℕ)
     (found : List ℕ) (left next : ℕ) (now : List ℕ) : Type 0 where
   pub rest : (last : List ℕ) (r : Scan) → Lays (repeat left one) lays nums next now last r
       → Lays (repeat count one) lays nums at found last r
 
-pub pending-first : {A : Type 0} (one : Reader A) (lays : List A → ℕ → List ℕ → List ℕ) (count : ℕ) (nums : List ℕ) (at : ℕ)
+pub pending-first : {A : Type 0} (one : Reader A) (lays : List A → ℕ → List ℕ → List ℕ) (count : ℕ) (nums : List ℕ)
+    (at : ℕ)
     (found : List ℕ) → Pending one lays count nums at found count at found
 pending-first one lays count nums at found = record { rest = λ last r w. w }
 

@@ -48,7 +48,8 @@ lines-expr version depth = record {
       (starts-expr version depth .started (drop at nums) at) (orders-expr version depth .ordered nums at);
 }
   where
-    go : (at : ℕ) (x : Got Expr) → Given (λ e. exprAt e ≡ at) x → OrderedGot OrderedExpr x → LinedAt layExpr EndedExpr at x
+    go : (at : ℕ) (x : Got Expr) → Given (λ e. exprAt e ≡ at) x → OrderedGot OrderedExpr x
+        → LinedAt layExpr EndedExpr at x
     go at (got e left next) s o = rw (← s) (layer-expr e next o)
     go at (bad fault index) s o = tt
 
@@ -59,7 +60,8 @@ lines-stmt version depth = record {
       (starts-stmt version depth .started (drop at nums) at) (orders-stmt version depth .ordered nums at);
 }
   where
-    go : (at : ℕ) (x : Got Stmt) → Given (λ s. stmtAt s ≡ at) x → OrderedGot OrderedStmt x → LinedAt layStmt EndedStmt at x
+    go : (at : ℕ) (x : Got Stmt) → Given (λ s. stmtAt s ≡ at) x → OrderedGot OrderedStmt x
+        → LinedAt layStmt EndedStmt at x
     go at (got s left next) q o = rw (← q) (layer-stmt s next o)
     go at (bad fault index) q o = tt
 
@@ -309,7 +311,8 @@ pub expr-end : (version depth : ℕ) (nums slots : List ℕ) (at : ℕ) (e : Exp
     → EndedExpr e end slots → getD slots at 0 ≡ end
 unfolding Given
 expr-end version depth nums slots at e left end q h =
-    let s : Given (λ e. exprAt e ≡ at) (got e left end) = rw q at (starts-expr version depth .started (drop at nums) at) in
+    let s : Given (λ e. exprAt e ≡ at) (got e left end) = rw q at
+    (starts-expr version depth .started (drop at nums) at) in
     rw (← s) (own-expr e end slots h)
 
 pub stmt-end : (version depth : ℕ) (nums slots : List ℕ) (at : ℕ) (s : Stmt) (left : List ℕ) (end : ℕ)
@@ -317,7 +320,8 @@ pub stmt-end : (version depth : ℕ) (nums slots : List ℕ) (at : ℕ) (s : Stm
     → EndedStmt s end slots → getD slots at 0 ≡ end
 unfolding Given
 stmt-end version depth nums slots at s left end q h =
-    let b : Given (λ s. stmtAt s ≡ at) (got s left end) = rw q at (starts-stmt version depth .started (drop at nums) at) in
+    let b : Given (λ s. stmtAt s ≡ at) (got s left end) = rw q at
+    (starts-stmt version depth .started (drop at nums) at) in
     rw (← b) (own-stmt s end slots h)
 
 -- from what the scan of a program promises

@@ -63,7 +63,8 @@ orders-repeat {A} {start} {R} {one} (suc n) h s o =
         → ((i : ℕ) → OrderedGot (OrderedAll start R) (repeat n one (drop i nums) i))
         → OrderedGot (OrderedAll start R) (andThen x (λ a. repeat n one >>= λ rest. pure (a ∷ rest)))
     go nums (got a left next) at k r ih =
-        rw (k .rest) (inner next a (repeat n one (drop next nums) next) r (begins-repeat n s .begun (drop next nums) next)
+        rw (k .rest)
+        (inner next a (repeat n one (drop next nums) next) r (begins-repeat n s .begun (drop next nums) next)
         (ih next))
     go nums (bad fault index) at k r ih = tt
 
@@ -78,7 +79,8 @@ orders-construct : {A B : Type 0} (start : B → ℕ → ℕ) (R : A → ℕ →
     → OrderedGot R x
 unfolding Agree OrderedGot BegunAt forget
 orders-construct start R S at next (bad fault index) y h p e b s = tt
-orders-construct start R S at next (got a left m) (bad fault index) h p e b s = let z : _≡_ {A = ℕ} 0 1 = cc in absurd (omega arith)
+orders-construct start R S at next (got a left m) (bad fault index) h p e b s =
+    let z : _≡_ {A = ℕ} 0 1 = cc in absurd (omega arith)
 orders-construct start R S at next (got a left m) (got c rest end) h p e b s =
     let same : m ≡ end = cc in
     rw same (p .order end (rw b h) s)
@@ -144,7 +146,8 @@ after-expr version Operands nums at = after-here at 2 0
 after-expr version Call nums at = after-call nums at
 after-expr version Unlisted nums at = tt
 
-after-stmt : (version depth : ℕ) (f : StmtForm) (nums : List ℕ) (at : ℕ) → AfterTag at (stmtLead version depth f nums at)
+after-stmt : (version depth : ℕ) (f : StmtForm) (nums : List ℕ) (at : ℕ)
+    → AfterTag at (stmtLead version depth f nums at)
 unfolding stmtLead AfterTag
 after-stmt version depth Bare nums at = after-here at 0 0
 after-stmt version depth Assign nums at = after-by _ nums at 1 0 (keeps-target version depth)
@@ -188,7 +191,8 @@ module _ (version depth : ℕ) (o : Orders OrderedExpr (readExpr version depth))
   unfolding AfterTag AgreeOn readOperands onLead scanOf
   expr-by-lead nums at (Off f i) h l p = fault-orders OrderedExpr _ f i (l .expr depth)
   expr-by-lead nums at (On next operands statements) h l p =
-      orders-construct (firstAt exprAt) OrderedExpr OrderedExprs at next _ (repeat operands (readExpr version depth) (drop next nums) next) h p (l .expr depth)
+      orders-construct (firstAt exprAt) OrderedExpr OrderedExprs at next _
+      (repeat operands (readExpr version depth) (drop next nums) next) h p (l .expr depth)
       (begins-repeat operands (starts-expr version depth) .begun (drop next nums) next)
       (orders-repeat operands (keeps-expr version depth) (starts-expr version depth) o .ordered nums next)
 
@@ -247,7 +251,8 @@ stmt-nodes version at found = record {
   empty-node = record { order = λ end h o. h };
   assign-node = λ next p e q l. record { order = λ end h o. (omega arith, (rw q l, o .0 .0)) };
   if-node = λ c a b. record { order = λ end h o. (h, (o .0 .0, (o .1 .0, o .1 .1 .0))) };
-  block-node = λ ss. record { order = λ end h o. (rw (stmts-at version ss end) h, stmts-ordered version ss end (o .1)) };
+  block-node = λ ss.
+      record { order = λ end h o. (rw (stmts-at version ss end) h, stmts-ordered version ss end (o .1)) };
   call-node = λ f xs. record { order = λ end h o. (rw (args-at version xs end) h, args-ordered version xs end (o .0)) };
   apply-node = λ t. record { order = λ end h o. h };
   value-node = λ e. record { order = λ end h o. (h, o .0 .0) };
@@ -321,7 +326,8 @@ module _ (version depth : ℕ) (o : Orders OrderedStmt (readStmt version depth))
   unfolding AfterTag AgreeOn onLead scanOf
   stmt-by-lead nums at (Off f i) mid h l p = fault-orders OrderedStmt _ f i (l .stmt)
   stmt-by-lead nums at (On next operands statements) mid h l p =
-      orders-construct partsAt OrderedStmt OrderedParts at next _ (readParts version depth operands statements (drop next nums) next) h p
+      orders-construct partsAt OrderedStmt OrderedParts at next _
+      (readParts version depth operands statements (drop next nums) next) h p
       (l .stmt ∙ sym (parts-scan version depth operands statements nums next))
       (parts-begin version depth operands statements .begun (drop next nums) next)
       (parts-ordered version depth operands statements o .ordered nums next)

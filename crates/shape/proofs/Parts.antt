@@ -8,8 +8,10 @@ use native.Mathlib.Omega.{arith}
 use native.Mathlib.Numerals.{sub-one}
 use lib.ListN.{length, getD, drop, getElem?}
 use lib.Dec.{leb, leb·zero}
+use Rattle.rules.specs.Words.{widest}
 use Rattle.rules.specs.Syntax.{Ty, Parameter, Stmt, Key, Numeral, Table, Callable}
 use borrow.Author.Tests.{le-leb}
+use Rattle.rules.specs.Reading.{mostFields, mostParameters, mostLocals, mostKeys, mostActions, mostArguments}
 use Rattle.rules.specs.Reading.{Got, got, bad, Reader, andThen, _>>=_, pure, here, number, within, between, standsFor, repeat, listOf, deepest}
 use Rattle.rules.specs.Reading.{kindAction, kindFunction, directions, keyKinds, callableKinds, bitsOf, typeOf, orHeader, globalTypeOf}
 use Rattle.rules.specs.Reading.{readExpr, readStmt, readHeader, readGlobal, readParameter, readReturns, readCallable, readNumeral, readKey, readTable}
@@ -63,17 +65,17 @@ unfolding isSome bitsOf
 some-bits version none = refl
 some-bits version (some n) = refl
 
-spans-type : (version : ℕ) → Spans (typeOf version) 0 64
+spans-type : (version : ℕ) → Spans (typeOf version) 0 widest
 unfolding typeOf isSome
 spans-type version = record { span = go }
   where
-    go : (n : ℕ) → isSome (typeOf version n) ≡ (leb 0 n && leb n 64)
+    go : (n : ℕ) → isSome (typeOf version n) ≡ (leb 0 n && leb n widest)
     go zero = refl
     go (suc n) =
-        some-bits version (within 1 64 (suc n)) ∙ some-within 1 64 (suc n)
+        some-bits version (within 1 widest (suc n)) ∙ some-within 1 widest (suc n)
         ∙ rw (le-leb 1 (suc n) (omega arith), leb·zero (suc n))
 
-pub type-is : (version : ℕ) (nums : List ℕ) (at : ℕ) (r : Scan) → r ≡ scanOf (between 0 64) nums at
+pub type-is : (version : ℕ) (nums : List ℕ) (at : ℕ) (r : Scan) → r ≡ scanOf (between 0 widest) nums at
     → r ≡ scanOf (standsFor (typeOf version)) nums at
 type-is version nums at r e = e ∙ sym (spans-scan nums at (spans-type version))
 
@@ -100,22 +102,22 @@ module _ (version : ℕ) (nums : List ℕ) where
   scans-key = scans-here λ at. scans-then (keeps-stands _) (scans-self _ nums) λ kind.
       scans-last (keeps-expr version deepest) (scans-self _ nums) λ e. scans-pure _
 
-  scans-header : Scans (readHeader version) nums (listScan (itemScan version WidthItem nums) 1 16 nums)
+  scans-header : Scans (readHeader version) nums (listScan (itemScan version WidthItem nums) 1 mostFields nums)
   unfolding readHeader itemScan
   scans-header =
-      scans-here λ at. scans-last (keeps-list 1 16 (keeps-between 1 64))
-      (scans-items 1 16 (keeps-between 1 64) (scans-self _ nums)) λ ws. scans-pure _
+      scans-here λ at. scans-last (keeps-list 1 mostFields (keeps-between 1 widest))
+      (scans-items 1 mostFields (keeps-between 1 widest) (scans-self _ nums)) λ ws. scans-pure _
 
-  pub header-is : (at : ℕ) (r : Scan) → r ≡ listScan (itemScan version WidthItem nums) 1 16 nums at
+  pub header-is : (at : ℕ) (r : Scan) → r ≡ listScan (itemScan version WidthItem nums) 1 mostFields nums at
       → r ≡ scanOf (readHeader version) nums at
   header-is at r e = e ∙ sym (scans-header .scan at)
 
-  scans-parameters : Scans (listOf 0 8 (readParameter version)) nums
+  scans-parameters : Scans (listOf 0 mostParameters (readParameter version)) nums
       (listScan (itemScan version ParameterItem nums) 0 8 nums)
   unfolding itemScan
   scans-parameters = scans-items 0 8 (keeps-parameter version) (scans-self _ nums)
 
-  scans-locals : Scans (listOf 0 8 (standsFor (typeOf version))) nums
+  scans-locals : Scans (listOf 0 mostLocals (standsFor (typeOf version))) nums
       (listScan (itemScan version TypeItem nums) 0 8 nums)
   unfolding itemScan
   scans-locals = scans-items 0 8 (keeps-stands _) (scans-self _ nums)
@@ -125,7 +127,7 @@ module _ (version : ℕ) (nums : List ℕ) where
   unfolding itemScan
   scans-numerals least = scans-items least 8 (keeps-numeral version) (scans-self _ nums)
 
-  frame-keeps : Keeps (listOf 0 8 (standsFor (typeOf version)))
+  frame-keeps : Keeps (listOf 0 mostLocals (standsFor (typeOf version)))
   frame-keeps = keeps-list 0 8 (keeps-stands _)
 
   scans-frame : Scans (readFrame version) nums
@@ -145,7 +147,8 @@ module _ (version : ℕ) (nums : List ℕ) where
 
   behind-head : ℕ → Option Ty → Reader Callable
   behind-head i returns =
-      listOf 0 8 (readParameter version) >>= λ parameters. listOf 0 8 (standsFor (typeOf version)) >>= λ locals.
+      listOf 0 mostParameters (readParameter version) >>= λ parameters.
+      listOf 0 mostLocals (standsFor (typeOf version)) >>= λ locals.
       readStmt version deepest >>= λ body.
       pure (record { at = i; returns = returns; parameters = parameters; locals = locals; body = body })
 
@@ -224,7 +227,7 @@ module _ (version : ℕ) (nums : List ℕ) (at : ℕ) where
       (λ h. no-value version (getD nums at 0) (typeOf version (getD nums at 0)) (f h)
       ∙ some-header version (getD nums at 0) ∙ sym (some-within 128 135 (getD nums at 0)))
 
-  pub global-past : (n : ℕ) (a : Scan) → a ≡ scanOf (between 0 64) nums at → a ≡ Past n
+  pub global-past : (n : ℕ) (a : Scan) → a ≡ scanOf (between 0 widest) nums at → a ≡ Past n
       → Past n ≡ scanOf (readGlobal version) nums at
   global-past n a e p =
       sym p ∙ e ∙ sym (spans-scan nums at (spans-type version))
@@ -232,7 +235,7 @@ module _ (version : ℕ) (nums : List ℕ) (at : ℕ) where
       (spans-scan nums at (spans-type version) ∙ sym e ∙ p)))
       ∙ sym (scans-global .scan at)
 
-  pub global-else : (f i : ℕ) (a r : Scan) → a ≡ scanOf (between 0 64) nums at → a ≡ Fault f i
+  pub global-else : (f i : ℕ) (a r : Scan) → a ≡ scanOf (between 0 widest) nums at → a ≡ Fault f i
       → r ≡ scanOf (between 128 135) nums at
       → r ≡ scanOf (readGlobal version) nums at
   global-else f i a r e p q =
@@ -315,18 +318,18 @@ module _ (version : ℕ) (nums : List ℕ) (at : ℕ) (found : List ℕ) where
   unfolding layKeys
   keys-fault count f i mid a x w p = all-fault keyAt layKey (readKey version) nums at count f i found mid a x w p
 
-  pub key-list : (n next : ℕ) (filled : List ℕ) (v : Value) (r : Scan) → v ≡ valueOf 1 4 nums at → v ≡ Of n next
+  pub key-list : (n next : ℕ) (filled : List ℕ) (v : Value) (r : Scan) → v ≡ valueOf 1 mostKeys nums at → v ≡ Of n next
       → Lays (repeat n (readKey version)) layKeys nums next found filled r
-      → Lays (listOf 1 4 (readKey version)) layKeys nums at found filled r
+      → Lays (listOf 1 mostKeys (readKey version)) layKeys nums at found filled r
   key-list n next filled v r q p w = lays-counted (readKey version) layKeys 1 4 nums at n next found filled v r q p w
 
-  pub key-list-fault : (f i : ℕ) (v : Value) → v ≡ valueOf 1 4 nums at → v ≡ Unread f i
-      → Lays (listOf 1 4 (readKey version)) layKeys nums at found found (Fault f i)
+  pub key-list-fault : (f i : ℕ) (v : Value) → v ≡ valueOf 1 mostKeys nums at → v ≡ Unread f i
+      → Lays (listOf 1 mostKeys (readKey version)) layKeys nums at found found (Fault f i)
   key-list-fault f i v q p = lays-uncounted (readKey version) layKeys 1 4 nums at f i found found v q p
 
   -- tables
   pub choices-past : (n : ℕ) (filled : List ℕ) (a r : Scan)
-      → Lays (listOf 1 4 (readKey version)) layKeys nums at found filled a → a ≡ Past n
+      → Lays (listOf 1 mostKeys (readKey version)) layKeys nums at found filled a → a ≡ Past n
       → r ≡ listScan (itemScan version NumeralItem nums) 1 8 nums n
       → Lays (readChoices version) layChoices nums at found filled r
   unfolding readChoices layChoices noEnds
@@ -336,7 +339,7 @@ module _ (version : ℕ) (nums : List ℕ) (at : ℕ) (found : List ℕ) where
       (lays-scan filled (q ∙ sym (scans-numerals version nums 1 .scan n)))
 
   pub choices-fault : (f i : ℕ) (filled : List ℕ) (a : Scan)
-      → Lays (listOf 1 4 (readKey version)) layKeys nums at found filled a
+      → Lays (listOf 1 mostKeys (readKey version)) layKeys nums at found filled a
       → a ≡ Fault f i → Lays (readChoices version) layChoices nums at found filled (Fault f i)
   unfolding readChoices
   choices-fault f i filled a w p = lays-fault _ layChoices found w p
@@ -348,7 +351,10 @@ module _ (version : ℕ) (nums : List ℕ) (at : ℕ) (found : List ℕ) where
 
   pub begins-default : Begins (λ q end. q .0 .at) (readDefault version)
   unfolding readDefault BegunAt Given numeralAt _>>=_ andThen here pure
-  begins-default = record { begun = λ left i. go i (readNumeral version left i) (starts-numeral version .started left i) }
+  begins-default = record {
+    begun = λ left i.
+        go i (readNumeral version left i) (starts-numeral version .started left i);
+  }
     where
       inner : (i c : ℕ) (d : Numeral) (y : Got (List Numeral)) → d .at ≡ i
           → BegunAt (λ q end. q .0 .at) i (andThen y (λ xs. pure {A = Numeral × (ℕ × List Numeral)} (d, (c, xs))))
@@ -357,9 +363,9 @@ module _ (version : ℕ) (nums : List ℕ) (at : ℕ) (found : List ℕ) where
 
       go : (i : ℕ) (x : Got Numeral) → Given (λ d. d .at ≡ i) x
           → BegunAt (λ q end. q .0 .at) i
-          (andThen x (λ d. here >>= λ c. listOf 0 8 (readNumeral version) >>= λ xs. pure
+          (andThen x (λ d. here >>= λ c. listOf 0 mostArguments (readNumeral version) >>= λ xs. pure
           {A = Numeral × (ℕ × List Numeral)} (d, (c, xs))))
-      go i (got d left next) e = inner i next d (listOf 0 8 (readNumeral version) left next) e
+      go i (got d left next) e = inner i next d (listOf 0 mostArguments (readNumeral version) left next) e
       go i (bad fault index) e = tt
 
   unfoldable pub makeTable : List Key × List Numeral → Numeral × (ℕ × List Numeral) → Table
@@ -373,8 +379,8 @@ module _ (version : ℕ) (nums : List ℕ) (at : ℕ) (found : List ℕ) where
   }
 
   default-then : (ks : List Key) (ns : List Numeral) (left : List ℕ) (i : ℕ)
-      → (readNumeral version >>= λ d. here >>= λ c. listOf 0 8 (readNumeral version) >>= λ xs. pure
-      (makeTable (ks, ns) (d, (c, xs)))) left i
+      → (readNumeral version >>= λ d. here >>= λ c. listOf 0 mostArguments (readNumeral version) >>= λ xs.
+      pure (makeTable (ks, ns) (d, (c, xs)))) left i
       ≡ (readDefault version >>= λ q. pure (makeTable (ks, ns) q)) left i
   unfolding readDefault _>>=_ andThen here pure
   default-then ks ns left i = go (readNumeral version left i)
@@ -387,20 +393,20 @@ module _ (version : ℕ) (nums : List ℕ) (at : ℕ) (found : List ℕ) where
       inner d c (bad fault index) = refl
 
       go : (x : Got Numeral)
-          → andThen x (λ d. here >>= λ c. listOf 0 8 (readNumeral version) >>= λ xs. pure
-          (makeTable (ks, ns) (d, (c, xs))))
-          ≡ andThen (andThen x (λ d. here >>= λ c. listOf 0 8 (readNumeral version) >>= λ xs. pure
+          → andThen x (λ d. here >>= λ c. listOf 0 mostArguments (readNumeral version) >>= λ xs.
+          pure (makeTable (ks, ns) (d, (c, xs))))
+          ≡ andThen (andThen x (λ d. here >>= λ c. listOf 0 mostArguments (readNumeral version) >>= λ xs. pure
           {A = Numeral × (ℕ × List Numeral)} (d, (c, xs)))) (λ q. pure (makeTable (ks, ns) q))
-      go (got d left next) = inner d next (listOf 0 8 (readNumeral version) left next)
+      go (got d left next) = inner d next (listOf 0 mostArguments (readNumeral version) left next)
       go (bad fault index) = refl
 
   pub in-two : readTable version (drop at nums) at
       ≡ (readChoices version >>= λ p. readDefault version >>= λ q. pure (makeTable p q)) (drop at nums) at
   unfolding readTable readChoices here _>>=_ andThen makeTable
   in-two =
-      pair-then (listOf 1 4 (readKey version)) (listOf 1 8 (readNumeral version))
-      (λ ks ns. readNumeral version >>= λ d. here >>= λ c. listOf 0 8 (readNumeral version) >>= λ xs. pure
-      (makeTable (ks, ns) (d, (c, xs)))) (drop at nums) at
+      pair-then (listOf 1 mostKeys (readKey version)) (listOf 1 mostActions (readNumeral version))
+      (λ ks ns. readNumeral version >>= λ d. here >>= λ c. listOf 0 mostArguments (readNumeral version) >>= λ xs.
+      pure (makeTable (ks, ns) (d, (c, xs)))) (drop at nums) at
       ∙ then-same (readChoices version) (drop at nums) at _ _ (λ p left i. default-then (p .0) (p .1) left i)
 
   pub table-past : (n : ℕ) (filled : List ℕ) (a r : Scan)
@@ -436,9 +442,10 @@ module _ (version : ℕ) (nums : List ℕ) (at : ℕ) (found : List ℕ) where
       → behind-head version nums at returns left i ≡ (readFramed >>= λ q. pure (makeCallable returns q)) left i
   unfolding behind-head readFrame readFramed makeCallable
   framed returns left i =
-      pair-then (listOf 0 8 (readParameter version)) (listOf 0 8 (standsFor (typeOf version)))
+      pair-then (listOf 0 mostParameters (readParameter version)) (listOf 0 mostLocals (standsFor (typeOf version)))
       (λ ps ls. readStmt version deepest >>= λ body. pure (makeCallable returns ((ps, ls), body))) left i
-      ∙ pair-then (readFrame version) (readStmt version deepest) (λ f body. pure (makeCallable returns (f, body))) left i
+      ∙ pair-then (readFrame version) (readStmt version deepest)
+      (λ f body. pure (makeCallable returns (f, body))) left i
 
   pub in-three : readCallable version (drop at nums) at
       ≡ (readReturning version >>= λ returns. readFramed >>= λ q. pure (makeCallable returns q)) (drop at nums) at
@@ -510,7 +517,7 @@ pub ruleset parts = (
 -- items and parts by their kind, and lists of items
 module _ (version : ℕ) (nums : List ℕ) (at : ℕ) (r : Scan) where
   module _ (item : Item) where
-    pub width-item : item ≡ WidthItem → r ≡ scanOf (between 1 64) nums at → r ≡ itemScan version item nums at
+    pub width-item : item ≡ WidthItem → r ≡ scanOf (between 1 widest) nums at → r ≡ itemScan version item nums at
     unfolding itemScan
     width-item e q = rw e q
 

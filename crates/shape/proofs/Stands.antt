@@ -6,6 +6,7 @@ use Prim.Native.Nat.{ℕ, suc, _-_, _≤_, _<_}
 use native.Mathlib.Omega.{arith}
 use lib.ListN.{length, getD, drop}
 use Rattle.rules.specs.Syntax.{Expr, Stmt, Program}
+use Rattle.rules.specs.Reading.{mostCallables, mostTables}
 use Rattle.rules.specs.Reading.{Got, got, bad, Reader, andThen, _>>=_, pure, standsFor, repeat, listOf, deepest, versionOf, toArgs, toStmts, readExpr, readStmt, readCallable, readTable, readAfterVersion, readProgram}
 use Rattle.rules.proofs.Readers.{Kept, Keeps, keeps-repeat, keeps-expr, keeps-stmt, keeps-then, keeps-pure, keeps-stands, keeps-list, keeps-callable, keeps-program, Given, Starts}
 use Rattle.shape.specs.Scans.{forget, scanOf}
@@ -222,7 +223,8 @@ pub first-expr : (version depth k : ℕ) (nums ends : List ℕ) (at end : ℕ)
     → Stands (repeat (suc k) (readExpr version depth)) (EndedAll exprAt EndedExpr) nums ends at end
     → FirstOf (readExpr version depth) exprAt EndedExpr k nums ends at end
 first-expr version depth k nums ends at end w =
-    let s : Split (readExpr version depth) (repeat k (readExpr version depth)) EndedExpr (EndedAll exprAt EndedExpr) nums
+    let s : Split (readExpr version depth) (repeat k (readExpr version depth)) EndedExpr
+    (EndedAll exprAt EndedExpr) nums
     ends at end
     = stands-head k nums ends at end (keeps-expr version depth) (starts-expr version depth) w in
     let e : getD ends at 0 ≡ s .mid = stands-expr version depth nums ends at (s .mid) (s .before) in
@@ -232,7 +234,8 @@ pub first-stmt : (version depth k : ℕ) (nums ends : List ℕ) (at end : ℕ)
     → Stands (repeat (suc k) (readStmt version depth)) (EndedAll stmtAt EndedStmt) nums ends at end
     → FirstOf (readStmt version depth) stmtAt EndedStmt k nums ends at end
 first-stmt version depth k nums ends at end w =
-    let s : Split (readStmt version depth) (repeat k (readStmt version depth)) EndedStmt (EndedAll stmtAt EndedStmt) nums
+    let s : Split (readStmt version depth) (repeat k (readStmt version depth)) EndedStmt
+    (EndedAll stmtAt EndedStmt) nums
     ends at end
     = stands-head k nums ends at end (keeps-stmt version depth) (starts-stmt version depth) w in
     let e : getD ends at 0 ≡ s .mid = stands-stmt version depth nums ends at (s .mid) (s .before) in
@@ -284,11 +287,13 @@ rest-split version nums ends at end w =
 
 defined-split : (version : ℕ) (nums ends : List ℕ) (at end : ℕ)
     → Stands (readDefined version) (EndedDefined version) nums ends at end
-    → Split (listOf 0 16 (readCallable version)) (listOf 0 8 (readTable version)) (EndedAll callableAt EndedCallable)
+    → Split (listOf 0 mostCallables (readCallable version)) (listOf 0 mostTables (readTable version))
+    (EndedAll callableAt EndedCallable)
     (EndedAll tableAt EndedTable) nums ends at end
 unfolding readDefined EndedDefined
 defined-split version nums ends at end w =
-    stands-split (λ cs ts. (cs, ts)) (λ ts end. firstAt tableAt ts end - 1) (keeps-list 0 16 (keeps-callable version))
+    stands-split (λ cs ts. (cs, ts)) (λ ts end. firstAt tableAt ts end - 1)
+    (keeps-list 0 mostCallables (keeps-callable version))
     (begins-list 0 8 (starts-tables version)) (λ cs ts end slots p. p) w
 
 -- a program: its callables, its tables, its body
@@ -296,9 +301,10 @@ pub record ProgramStands (version : ℕ) (nums ends : List ℕ) (end : ℕ) : Ty
   pub callablesAt : ℕ
   pub tablesAt : ℕ
   pub bodyAt : ℕ
-  pub callables : Stands (listOf 0 16 (readCallable version)) (EndedAll callableAt EndedCallable) nums ends callablesAt
+  pub callables : Stands (listOf 0 mostCallables (readCallable version))
+      (EndedAll callableAt EndedCallable) nums ends callablesAt
       tablesAt
-  pub tables : Stands (listOf 0 8 (readTable version)) (EndedAll tableAt EndedTable) nums ends tablesAt bodyAt
+  pub tables : Stands (listOf 0 mostTables (readTable version)) (EndedAll tableAt EndedTable) nums ends tablesAt bodyAt
   pub body : Stands (readStmt version deepest) EndedStmt nums ends bodyAt end
 
 pub stands-after : (version : ℕ) (nums ends : List ℕ) (at end : ℕ)
@@ -309,9 +315,11 @@ stands-after version nums ends at end w =
     = stands-skip (tree version) (keeps-declared version)
     (λ d q end slots p. ((p .callables, p .tables), p .body))
     (stands-as (three version (drop at nums) at) w) in
-    let r : Split (readDefined version) (readStmt version deepest) (EndedDefined version) EndedStmt nums ends (d .mid) end
+    let r : Split (readDefined version) (readStmt version deepest) (EndedDefined version) EndedStmt nums ends
+    (d .mid) end
     = rest-split version nums ends (d .mid) end (d .behind) in
-    let c : Split (listOf 0 16 (readCallable version)) (listOf 0 8 (readTable version)) (EndedAll callableAt EndedCallable)
+    let c : Split (listOf 0 mostCallables (readCallable version)) (listOf 0 mostTables (readTable version))
+    (EndedAll callableAt EndedCallable)
     (EndedAll tableAt EndedTable) nums ends (d .mid) (r .mid)
     = defined-split version nums ends (d .mid) (r .mid) (r .before) in
     record {

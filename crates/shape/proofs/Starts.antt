@@ -551,7 +551,8 @@ module _ (version : ℕ) (nums : List ℕ) (at n m f i : ℕ) (found mid third f
   after-declared w p = lays-as (three version (drop at nums) at) (lays-fault _ directoryOf found w p)
 
 -- the version, and the program
-module _ (lay : Program → ℕ → List ℕ → List ℕ) (nums : List ℕ) (f i : ℕ) (found filled : List ℕ) (v : Value) (q : v ≡ valueOf 1 1 nums 0) where
+module _ (lay : Program → ℕ → List ℕ → List ℕ) (nums : List ℕ) (f i : ℕ) (found filled : List ℕ) (v : Value)
+    (q : v ≡ valueOf 1 1 nums 0) where
   pub version-past : (n next : ℕ) (r : Scan) → v ≡ Of n next
       → Lays (readAfterVersion n) lay nums next found filled r
       → Lays readProgram lay nums 0 found filled r

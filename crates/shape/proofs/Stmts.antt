@@ -10,7 +10,7 @@ use lib.ListN.{length, getD, drop, set, getElem?}
 use lib.Dec.{ltb}
 use borrow.Author.Tests.{ltb-true, ltb-false}
 use Rattle.rules.specs.Syntax.{Expr, Stmt, empty, assign, ifElse, block, callStmt, apply, returnValue, return, exit, setValid, setInvalid, Place}
-use Rattle.rules.specs.Reading.{Got, got, bad, Reader, andThen, _>>=_, pure, here, number, meaning, lookedUp, standsFor, repeat, tooDeep}
+use Rattle.rules.specs.Reading.{Got, got, bad, Reader, andThen, _>>=_, pure, here, number, meaning, lookedUp, standsFor, repeat, tooDeep, mostMembers}
 use Rattle.rules.specs.Reading.{PlaceTag, tagLocal, tagParameter, tagGlobal, tagField}
 use Rattle.rules.specs.Reading.{StmtTag, tagEmpty, tagAssign, tagIf, tagBlock, tagCallStmt, tagApply, tagReturnValue, tagReturn, tagExit, tagSetValid, tagSetInvalid}
 use Rattle.rules.specs.Reading.{exprTags, placeTagOf, stmtTags, toArgs, toStmts, readPlace, readExpr, readTarget, readStmtAs, readStmt}
@@ -222,7 +222,8 @@ module _ (version depth : ℕ) (nums : List ℕ) (at : ℕ) (form : StmtForm) (r
   unfolding stmtLead
   if-lead f q = rw f q
 
-  pub block-lead : form ≡ Block → r ≡ blockLead (valueOf 0 64 nums (at + 1)) → r ≡ stmtLead version depth form nums at
+  pub block-lead : form ≡ Block → r ≡ blockLead (valueOf 0 mostMembers nums (at + 1))
+      → r ≡ stmtLead version depth form nums at
   unfolding stmtLead
   block-lead f q = rw f q
 
@@ -261,7 +262,7 @@ module _ (version depth : ℕ) (nums : List ℕ) (at : ℕ) (form : StmtForm) (r
   unfolding stmtLaid
   if-form f q = record { lead = if-lead version depth nums at form r f q; laid = rw f }
 
-  pub block-form : form ≡ Block → r ≡ blockLead (valueOf 0 64 nums (at + 1))
+  pub block-form : form ≡ Block → r ≡ blockLead (valueOf 0 mostMembers nums (at + 1))
       → LeadsForm version depth form nums at found found r
   unfolding stmtLaid
   block-form f q = record { lead = block-lead version depth nums at form r f q; laid = rw f }
@@ -339,8 +340,9 @@ module _ (version : ℕ) (nums : List ℕ) (operand : Reader Expr) (target : Rea
       (scans-then i (scans-self inner nums) λ a. scans-last i (scans-self inner nums) λ b. scans-pure _)
       (scans-two i)) .scan (at + 1))
   lead-as tagBlock j depth at e =
-      rw (← add-one at) (scans-last (keeps-list 0 64 i) (scans-list 0 64 i) (λ ss. scans-pure _) .scan (at + 1)
-      ∙ block-scan (valueOf 0 64 nums (at + 1)))
+      rw (← add-one at)
+      (scans-last (keeps-list 0 mostMembers i) (scans-list 0 mostMembers i) (λ ss. scans-pure _) .scan (at + 1)
+      ∙ block-scan (valueOf 0 mostMembers nums (at + 1)))
   lead-as tagCallStmt j depth at e =
       rw (← add-one at) (call-scan after h (λ f xs. scans-pure _) after-operands .scan (at + 1))
   lead-as tagApply j depth at e =
@@ -426,7 +428,8 @@ stmts-laid version (s ∷ ss) end slots =
     rw (stmts-at version ss end) (stmts-laid version ss end (layStmt s (firstAt stmtAt ss end) slots))
 
 -- a target takes its tag and a number at least
-target-later : (version depth : ℕ) (nums : List ℕ) (at : ℕ) → Latest (suc at) (readTarget version depth (drop at nums) at)
+target-later : (version depth : ℕ) (nums : List ℕ) (at : ℕ)
+    → Latest (suc at) (readTarget version depth (drop at nums) at)
 unfolding readTarget tooDeep here _>>=_ andThen standsFor meaning Latest
 target-later version zero nums at = go (drop at nums)
   where
@@ -446,7 +449,8 @@ target-later version (suc depth) nums at = go (ltb at (length nums)) refl
 
     inside : (x : Option PlaceTag) → Latest (suc at) (andThen (meaning 4 x (drop (suc at) nums) at) rest)
     inside none = tt
-    inside (some tag) = kept-latest nums (suc at) (rest tag (drop (suc at) nums) (suc at)) (keeps-rest tag .kept nums (suc at))
+    inside (some tag) = kept-latest nums (suc at) (rest tag (drop (suc at) nums) (suc at))
+        (keeps-rest tag .kept nums (suc at))
 
     go : (b : Bool) → ltb at (length nums) ≡ b
         → Latest (suc at) (andThen (lookedUp 4 what (drop at nums) at) rest)
@@ -554,7 +558,8 @@ module _ (version depth : ℕ) (nums : List ℕ) (at : ℕ) (found : List ℕ)
       agree-call Tree parts nums (at + 1) operand _ λ f n. operands-alike n
       (alike-all (λ a xs. Tree a (xs, [])) (repeat n operand) _ (N .call-node f))
   tree-as tagApply =
-      agree-none Tree parts nums (at + 1) _ ([], []) _ _ _ (gives-then _ λ t. gives-pure _ _ (N .apply-node t)) none-read
+      agree-none Tree parts nums (at + 1) _ ([], []) _ _ _
+      (gives-then _ λ t. gives-pure _ _ (N .apply-node t)) none-read
   tree-as tagReturnValue =
       behind-tag Tree parts nums at 1 0
       (operands-alike 1 (alike-one (λ a xs. Tree a (xs, [])) operand _ (N .value-node)))
@@ -563,7 +568,8 @@ module _ (version depth : ℕ) (nums : List ℕ) (at : ℕ) (found : List ℕ)
   tree-as tagExit =
       agree-none Tree parts nums (at + 1) _ ([], []) _ _ _ (gives-pure _ _ (N .exit-node)) none-read
   tree-as tagSetValid =
-      agree-none Tree parts nums (at + 1) _ ([], []) _ _ _ (gives-then _ λ g. gives-pure _ _ (N .valid-node g)) none-read
+      agree-none Tree parts nums (at + 1) _ ([], []) _ _ _
+      (gives-then _ λ g. gives-pure _ _ (N .valid-node g)) none-read
   tree-as tagSetInvalid =
       agree-none Tree parts nums (at + 1) _ ([], []) _ _ _ (gives-then _ λ g. gives-pure _ _ (N .invalid-node g))
       none-read
@@ -627,7 +633,8 @@ module _ (version depth : ℕ) (nums : List ℕ) (at : ℕ) (found : List ℕ) w
   unfolding readStmt
   stmt-deep r e q = rw e (lays-deep layStmt nums at found found r q)
 
-  module _ (first : List ℕ) (lead : Lead) (x : depth ≡ 0 → ⊥) (l : LeadsStmt version (depth - 1) nums at found first lead) where
+  module _ (first : List ℕ) (lead : Lead) (x : depth ≡ 0 → ⊥)
+      (l : LeadsStmt version (depth - 1) nums at found first lead) where
     pub stmt-off : (f i : ℕ) → lead ≡ Off f i → Lays (readStmt version depth) layStmt nums at found first (Fault f i)
     unfolding onLead
     stmt-off f i p =
@@ -695,7 +702,8 @@ module _ (version depth count : ℕ) (nums : List ℕ) (at : ℕ) (found : List 
     unfolding layMembers
     stmts-past end mid a x v p = record {
       rest = λ last r u. w .rest last r
-          (all-past stmtAt layStmt (readStmt version depth) nums next left (keeps-stmt version depth) (starts-stmt version depth) end
+          (all-past stmtAt layStmt (readStmt version depth) nums next left (keeps-stmt version depth)
+          (starts-stmt version depth) end
           now mid last a r r x v p u refl);
     }
 

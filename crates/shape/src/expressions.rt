@@ -2,7 +2,7 @@
 ghost use mathlib.Core.Path.{_≡_};
 ghost use Prim.Native.Nat.{_<_, _≤_};
 ghost use lib.ListN.{length, getElem?};
-ghost use Rattle.rules.specs.Reading.{number, between, standsFor, repeat, operators, readExpr};
+ghost use Rattle.rules.specs.Reading.{number, between, standsFor, repeat, operators, readExpr, mostArguments, highestBound};
 ghost use Rattle.shape.specs.Walks.{Lays};
 ghost use Rattle.shape.specs.Scans.{scanOf};
 ghost use Rattle.shape.specs.Ends.{mostNumbers, layExpr};
@@ -74,7 +74,7 @@ pub(crate) fn call_lead(nums: &[u64], at: usize) -> Lead
 
 // A list of arguments up to the first of them.
 fn arguments_lead(nums: &[u64], at: usize) -> Lead
-    ensures { λ r. ⌜ r ≡ argumentsLead (valueOf 0 8 (now (nums .entry)) at) ⌝ }
+    ensures { λ r. ⌜ r ≡ argumentsLead (valueOf 0 mostArguments (now (nums .entry)) at) ⌝ }
 {
     let count = value_in(nums, 0, MOST_ARGUMENTS, at);
     match count {
@@ -100,7 +100,7 @@ fn literal_at(nums: &[u64], at: usize) -> Scan
 
 // The two bounds of a slice.
 fn bounds_at(nums: &[u64], at: usize) -> Scan
-    ensures { λ r. ⌜ r ≡ scanOf (repeat 2 (between 0 63)) (now (nums .entry)) at ⌝ }
+    ensures { λ r. ⌜ r ≡ scanOf (repeat 2 (between 0 highestBound)) (now (nums .entry)) at ⌝ }
 {
     let high = number_in(nums, 0, HIGHEST_BOUND, at);
     match high {

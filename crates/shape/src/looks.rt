@@ -1,6 +1,7 @@
 // Looks at one number or two: whether it is there, and within its range.
 ghost use mathlib.Core.Path.{_≡_};
 ghost use Prim.Native.Nat.{ℕ};
+ghost use Rattle.rules.specs.Words.{widest};
 ghost use Rattle.rules.specs.Reading.{number, between, standsFor, repeat, tooDeep, typeOf};
 ghost use Rattle.shape.specs.Scans.{scanOf};
 ghost use Rattle.shape.specs.Leads.{valueOf};
@@ -81,7 +82,7 @@ pub(crate) fn two_numbers(nums: &[u64], at: usize) -> Scan
 
 // A width.
 pub(crate) fn width_at(nums: &[u64], at: usize) -> Scan
-    ensures { λ r. ⌜ r ≡ scanOf (between 1 64) (now (nums .entry)) at ⌝ }
+    ensures { λ r. ⌜ r ≡ scanOf (between 1 widest) (now (nums .entry)) at ⌝ }
 {
     number_in(nums, 1, WIDEST, at)
 }

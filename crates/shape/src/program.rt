@@ -3,7 +3,7 @@ ghost use Prim.Native.Nat.{_+_, _<_, _≤_};
 ghost use lib.ListN.{length};
 ghost use Rattle.rules.specs.Reading.{deepest, readStmt, readAfterVersion, readProgram};
 ghost use Rattle.shape.specs.Walks.{Walked, WalkedList, Lays, readDeclared, layDeclared, readDefined, layDefined, layBody, LaysPart, LaysParts, LaysList, noEnds, endsDefined};
-ghost use Rattle.shape.specs.Directory.{directoryOf};
+ghost use Rattle.shape.specs.Directory.{directoryOf, slotCount};
 ghost use Rattle.shape.specs.Parts.{partScan};
 ghost use Rattle.shape.specs.Ends.{mostNumbers, layStmt, endsOf};
 use super::BODY;
@@ -61,7 +61,7 @@ fn parts_at(
     directory: &mut [u64; SLOTS],
     ends: &mut [u64; NUMBERS],
 ) -> Scan
-    requires { ⌜ (slot + count ≤ 70) × (length (now nums) ≤ mostNumbers) ⌝ }
+    requires { ⌜ (slot + count ≤ slotCount) × (length (now nums) ≤ mostNumbers) ⌝ }
     ensures { λ r. ⌜ Walked (partScan version part (now (nums .entry))) count at slot (now (directory .entry)) (now (directory .exit)) r ⌝ }
     ensures { λ r. ⌜ LaysParts version part count (now (nums .entry)) at (now (ends .entry)) (now (ends .exit)) r ⌝ }
 {
@@ -99,7 +99,7 @@ fn part_list_at(
     directory: &mut [u64; SLOTS],
     ends: &mut [u64; NUMBERS],
 ) -> Scan
-    requires { ⌜ (slot + most < 70) × (length (now nums) ≤ mostNumbers) ⌝ }
+    requires { ⌜ (slot + most < slotCount) × (length (now nums) ≤ mostNumbers) ⌝ }
     ensures { λ r. ⌜ WalkedList (partScan version part (now (nums .entry))) most (now (nums .entry)) at slot (now (directory .entry)) (now (directory .exit)) r ⌝ }
     ensures { λ r. ⌜ LaysList version part most (now (nums .entry)) at (now (ends .entry)) (now (ends .exit)) r ⌝ }
 {

@@ -2,7 +2,7 @@
 ghost use mathlib.Core.Path.{_≡_};
 ghost use Prim.Native.Nat.{_<_, _≤_};
 ghost use lib.ListN.{length};
-ghost use Rattle.rules.specs.Reading.{repeat, readTarget, readStmt};
+ghost use Rattle.rules.specs.Reading.{repeat, readTarget, readStmt, mostMembers};
 ghost use Rattle.shape.specs.Walks.{Lays};
 ghost use Rattle.shape.specs.Scans.{scanOf};
 ghost use Rattle.shape.specs.Ends.{mostNumbers, layStmt};
@@ -111,7 +111,7 @@ fn target_lead(
 
 // A block up to the first of its members.
 fn block_lead(nums: &[u64], at: usize) -> Lead
-    ensures { λ r. ⌜ r ≡ blockLead (valueOf 0 64 (now (nums .entry)) at) ⌝ }
+    ensures { λ r. ⌜ r ≡ blockLead (valueOf 0 mostMembers (now (nums .entry)) at) ⌝ }
 {
     let count = value_in(nums, 0, MOST_MEMBERS, at);
     match count {

@@ -2,7 +2,7 @@
 ghost use mathlib.Core.Path.{_≡_};
 ghost use Prim.Native.Nat.{_≤_};
 ghost use lib.ListN.{length, getElem?};
-ghost use Rattle.rules.specs.Reading.{standsFor, repeat, listOf, keyKinds, readKey, readTable};
+ghost use Rattle.rules.specs.Reading.{standsFor, repeat, listOf, keyKinds, readKey, readTable, mostKeys};
 ghost use Rattle.shape.specs.Walks.{Lays};
 ghost use Rattle.shape.specs.Parts.{readChoices, layKeys, layChoices, readDefault};
 ghost use Rattle.shape.specs.Scans.{scanOf};
@@ -60,7 +60,7 @@ fn keys_at(nums: &[u64], version: u64, count: u64, at: usize, ends: &mut [u64; N
 // The end of a list of keys.
 fn key_list_at(nums: &[u64], version: u64, at: usize, ends: &mut [u64; NUMBERS]) -> Scan
     requires { ⌜ length (now nums) ≤ mostNumbers ⌝ }
-    ensures { λ r. ⌜ Lays (listOf 1 4 (readKey version)) layKeys (now (nums .entry)) at (now (ends .entry)) (now (ends .exit)) r ⌝ }
+    ensures { λ r. ⌜ Lays (listOf 1 mostKeys (readKey version)) layKeys (now (nums .entry)) at (now (ends .entry)) (now (ends .exit)) r ⌝ }
 {
     let count = value_in(nums, 1, MOST_KEYS, at);
     match count {
