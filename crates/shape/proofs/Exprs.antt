@@ -28,7 +28,7 @@ use Rattle.shape.specs.declared.expressions.ExprForm.the-variants.{Numbe
 use Rattle.shape.proofs.Laws.{on-past, on-fault, Scans, scans-self, scans-then, scans-pure, scans-last, scans-as, scan-here, stands-is, stands-none, stands-out}
 use Rattle.shape.proofs.Laws.{none-past, scans-none, scans-one, scans-two, list-scan, spans-scan, spans-list}
 use Rattle.shape.proofs.Agrees.{alike-one, alike-two, alike-all, agree-lead, agree-two, agree-none, agree-call, behind-tag, tag-in}
-use Rattle.shape.proofs.Lays.{Done, lays-done, lays-none, lays-deep, all-none, all-past, all-fault, Pending, pending-first}
+use Rattle.shape.proofs.Lays.{Done, lays-done, lays-none, lays-deep, pendings}
 
 -- the numbers behind a tag
 module _ (nums : List ℕ) (at n number₁ index : ℕ) (a r : Scan) where
@@ -369,7 +369,7 @@ args-at version (x ∷ xs) end = refl
 
 pub args-laid : (version : ℕ) (xs : List Expr) (end : ℕ) (slots : List ℕ)
     → layArgs (toArgs version xs) end slots ≡ layExprs xs end slots
-unfolding layArgs toArgs layExprs layAll
+unfolding layArgs toArgs layAll
 args-laid version [] end slots = refl
 args-laid version (x ∷ xs) end slots =
     rw (args-at version xs end) (args-laid version xs end (layExpr x (firstAt exprAt xs end) slots))
@@ -447,7 +447,7 @@ module _ (version depth : ℕ) (nums : List ℕ) (at : ℕ) (P : Expr → List E
         go (some tag) = rw (← add-one at) (tree-as tag)
 
 made-nodes : (version at : ℕ) (slots : List ℕ) → ExprNodes version at (Made layExpr layExprs at slots slots)
-unfolding layExpr layExprs layAll firstAt
+unfolding layExpr layAll firstAt
 made-nodes version at slots = record {
   bool-node = λ n. record { made = λ end. refl };
   bits-node = λ w n. record { made = λ end. refl };
@@ -573,35 +573,6 @@ module _ (version depth : ℕ) (nums : List ℕ) (at : ℕ) (found : List ℕ) w
       lays-none (readExpr version depth) layExpr nums at f i found found
       (sym (rw (one-less depth x, p) at (l .expr (depth - 1))))
 
--- so many, one after the other
-module _ (version depth count : ℕ) (nums : List ℕ) (at : ℕ) (found : List ℕ) where
-  pub exprs-first : Pending (readExpr version depth) layExprs count nums at found count at found
-  exprs-first = pending-first (readExpr version depth) layExprs count nums at found
-
-  module _ (left next : ℕ) (now : List ℕ)
-      (w : Pending (readExpr version depth) layExprs count nums at found left next now) where
-    pub exprs-none : left ≡ 0 → Lays (repeat count (readExpr version depth)) layExprs nums at found now (Past next)
-    unfolding layExprs
-    exprs-none e = w .rest now (Past next) (all-none exprAt layExpr (readExpr version depth) nums next left now e)
-
-    pub exprs-past : (end : ℕ) (mid : List ℕ) (a : Scan) → (left ≡ 0 → ⊥)
-        → Lays (readExpr version depth) layExpr nums next now mid a → a ≡ Past end
-        → Pending (readExpr version depth) layExprs count nums at found (left - 1) end mid
-    unfolding layExprs
-    exprs-past end mid a x v p = record {
-      rest = λ last r u. w .rest last r
-          (all-past exprAt layExpr (readExpr version depth) nums next left (keeps-expr version depth)
-          (starts-expr version depth) end
-          now mid last a r r x v p u refl);
-    }
-
-    pub exprs-fault : (f i : ℕ) (mid : List ℕ) (a : Scan) → (left ≡ 0 → ⊥)
-        → Lays (readExpr version depth) layExpr nums next now mid a → a ≡ Fault f i
-        → Lays (repeat count (readExpr version depth)) layExprs nums at found mid (Fault f i)
-    unfolding layExprs
-    exprs-fault f i mid a x v p =
-        w .rest mid (Fault f i) (all-fault exprAt layExpr (readExpr version depth) nums next left f i now mid a x v p)
-
 -- a tag has a slot
 pub slot-in : (version : ℕ) (nums : List ℕ) (at next operands statements : ℕ) (lead : Lead)
     → length nums ≤ mostNumbers → LeadsExpr version nums at lead
@@ -616,4 +587,4 @@ slot-fits version nums at next operands statements lead h l p =
     omega (arith, slot-in version nums at next operands statements lead h l p)
 
 pub ruleset exprSteps =
-    (expr-deep, expr-on, expr-inside, expr-off, exprs-first, exprs-none, exprs-past, exprs-fault, slot-in, slot-fits)
+    (expr-deep, expr-on, expr-inside, expr-off, keeps-expr, starts-expr, pendings, slot-in, slot-fits)

@@ -203,10 +203,28 @@ pub record Pending {A : Type 0} (one : Reader A) (lays : List A → ℕ → List
   pub rest : (last : List ℕ) (r : Scan) → Lays (repeat left one) lays nums next now last r
       → Lays (repeat count one) lays nums at found last r
 
-pub pending-first : {A : Type 0} (one : Reader A) (lays : List A → ℕ → List ℕ → List ℕ) (count : ℕ) (nums : List ℕ)
-    (at : ℕ)
-    (found : List ℕ) → Pending one lays count nums at found count at found
-pending-first one lays count nums at found = record { rest = λ last r w. w }
+module _ {A : Type 0} (one : Reader A) (count : ℕ) (nums : List ℕ) (at : ℕ) (found : List ℕ) where
+  pub pending-first : (lays : List A → ℕ → List ℕ → List ℕ) → Pending one lays count nums at found count at found
+  pending-first lays = record { rest = λ last r w. w }
+
+  module _ (start : A → ℕ) (lay : A → ℕ → List ℕ → List ℕ) (left next : ℕ) (now : List ℕ)
+      (w : Pending one (layAll start lay) count nums at found left next now) where
+    pub pending-none : left ≡ 0 → Lays (repeat count one) (layAll start lay) nums at found now (Past next)
+    pending-none e = w .rest now (Past next) (all-none start lay one nums next left now e)
+
+    module _ (mid : List ℕ) (a : Scan) (x : left ≡ 0 → ⊥) (v : Lays one lay nums next now mid a) where
+      pub pending-past : (end : ℕ) → a ≡ Past end → Keeps one → Starts start one
+          → Pending one (layAll start lay) count nums at found (left - 1) end mid
+      pending-past end p h s = record {
+        rest = λ last r u. w .rest last r
+            (all-past start lay one nums next left h s end now mid last a r r x v p u refl);
+      }
+
+      pub pending-fault : (f i : ℕ) → a ≡ Fault f i
+          → Lays (repeat count one) (layAll start lay) nums at found mid (Fault f i)
+      pending-fault f i p = w .rest mid (Fault f i) (all-fault start lay one nums next left f i now mid a x v p)
+
+pub ruleset pendings = (pending-first, pending-none, pending-past, pending-fault)
 
 -- a reader of what lays nothing
 pub lays-scan : {A : Type 0} {read : Reader A} {nums : List ℕ} {at : ℕ} {r : Scan} (found : List ℕ)

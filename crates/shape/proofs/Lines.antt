@@ -6,6 +6,7 @@ use Prim.Native.Nat.{ℕ, zero, suc, _-_, _≤_}
 use native.Mathlib.Omega.{arith}
 use lib.ListN.{length, getD, drop, getElem?}
 use Rattle.rules.specs.Syntax.{Expr, Stmt, Callable, Key, Numeral, Table, Program}
+use Rattle.rules.specs.Reading.{mostCallables, mostTables, mostActions, mostArguments}
 use Rattle.rules.specs.Reading.{Got, got, bad, Reader, andThen, _>>=_, pure, here, between, standsFor, repeat, listOf, deepest, keyKinds, versionOf}
 use Rattle.rules.specs.Reading.{readExpr, readStmt, readKey, readTable, readCallable, readAfterVersion, readProgram}
 use Rattle.rules.proofs.Readers.{Kept, Keeps, keeps-stands, keeps-between, keeps-list, keeps-expr, keeps-stmt, keeps-key, keeps-numeral, keeps-callable, keeps-table, keeps-program, keeps-then, keeps-pure, keeps-here, Given, Starts, starts-callable}
@@ -172,7 +173,7 @@ module _ (version : ℕ) where
   }
 
   lines-keys : Lines layKeys EndedKeys (listOf 1 4 (readKey version))
-  unfolding layKeys EndedKeys
+  unfolding EndedKeys
   lines-keys = lines-list keyAt layKey EndedKey (keeps-key version) (starts-key version) lines-key 1 4
 
   lines-choices : Lines layChoices EndedChoices (readChoices version)
@@ -180,17 +181,17 @@ module _ (version : ℕ) where
   lines-choices = record {
     lined = λ nums at. lined-next (λ ks ns. (ks, ns)) layChoices EndedChoices (keeps-list 1 4 (keeps-key version)) nums
         at (λ ns end. firstAt numeralAt ns end - 1) (λ ks ns next slots. refl) (λ ks ns next slots p. p .0)
-        (begins-list 1 8 (starts-numeral version)) lines-keys
-        (lines-none (keeps-list 1 8 (keeps-numeral version)));
+        (begins-list 1 mostActions (starts-numeral version)) lines-keys
+        (lines-none (keeps-list 1 mostActions (keeps-numeral version)));
   }
 
   keeps-default : Keeps (readDefault version)
   unfolding readDefault
   keeps-default = keeps-then (keeps-numeral version) λ d. keeps-then keeps-here λ c. keeps-then
-      (keeps-list 0 8 (keeps-numeral version)) λ xs. keeps-pure _
+      (keeps-list 0 mostArguments (keeps-numeral version)) λ xs. keeps-pure _
 
   lines-table : Lines layTable EndedTable (readTable version)
-  unfolding layChoices layKeys layTable makeTable noEnds EndedChoices EndedKeys EndedTable
+  unfolding layChoices layTable makeTable noEnds EndedChoices EndedKeys EndedTable
   lines-table = record {
     lined = λ nums at. rw (in-two version nums at [])
         (lined-next (makeTable version nums at []) layTable EndedTable (keeps-choices version nums at []) nums at
@@ -233,10 +234,11 @@ module _ (version : ℕ) where
   unfolding readDefined endsDefined EndedDefined
   lines-defined = record {
     lined = λ nums at. lined-next (λ cs ts. (cs, ts)) endsDefined EndedDefined
-        (keeps-list 0 16 (keeps-callable version)) nums at (λ ts end. firstAt tableAt ts end - 1)
-        (λ cs ts next slots. refl) (λ cs ts next slots p. p) (begins-list 0 8 (starts-tables version))
-        (lines-list callableAt layCallable EndedCallable (keeps-callable version) starts-callables lines-callable 0 16)
-        (lines-list tableAt layTable EndedTable (keeps-table version) (starts-tables version) lines-table 0 8);
+        (keeps-list 0 mostCallables (keeps-callable version)) nums at (λ ts end. firstAt tableAt ts end - 1)
+        (λ cs ts next slots. refl) (λ cs ts next slots p. p) (begins-list 0 mostTables (starts-tables version))
+        (lines-list callableAt layCallable EndedCallable
+        (keeps-callable version) starts-callables lines-callable 0 mostCallables)
+        (lines-list tableAt layTable EndedTable (keeps-table version) (starts-tables version) lines-table 0 mostTables);
   }
 
   unfoldable pub EndedRest : Defined version × Stmt → ℕ → List ℕ → Type 0

@@ -7,7 +7,9 @@ use native.Mathlib.Omega.{arith}
 use lib.ListN.{length, getD, drop}
 use lib.Dec.{ltb}
 use borrow.Author.Tests.{ltb-true, ltb-false}
+use Rattle.rules.specs.Words.{widest}
 use Rattle.rules.specs.Syntax.{Expr, Stmt}
+use Rattle.rules.specs.Reading.{mostArguments, mostMembers, highestBound}
 use Rattle.rules.specs.Reading.{Got, got, bad, Reader, andThen, _>>=_, pure, number, between, repeat, tooDeep, toArgs, toStmts, readExpr, readStmt}
 use Rattle.rules.proofs.Readers.{Kept, Keeps, keeps-number, keeps-between, keeps-stands, keeps-repeat, keeps-then, keeps-expr, keeps-target, keeps-stmt, Starts}
 use Rattle.shape.specs.Scans.{forget, scanOf}
@@ -118,12 +120,14 @@ after-call nums at = go (number (drop (at + 1) nums) (at + 1)) (keeps-number .ke
 
     go : (x : Got ℕ) → Kept nums (at + 1) x → AfterTag at (callLead nums (forget x))
     go (got f left next) k =
-        inner next (between 0 8 (drop next nums) next) (omega (arith, k .later)) (keeps-between 0 8 .kept nums next)
+        inner next (between 0 mostArguments (drop next nums) next) (omega (arith, k .later))
+        (keeps-between 0 mostArguments .kept nums next)
     go (bad fault index) k = tt
 
-after-block : (nums : List ℕ) (at : ℕ) → AfterTag at (blockLead (valueOf 0 64 nums (at + 1)))
+after-block : (nums : List ℕ) (at : ℕ) → AfterTag at (blockLead (valueOf 0 mostMembers nums (at + 1)))
 unfolding AfterTag blockLead valueOf valued Kept
-after-block nums at = go (between 0 64 (drop (at + 1) nums) (at + 1)) (keeps-between 0 64 .kept nums (at + 1))
+after-block nums at = go (between 0 mostMembers (drop (at + 1) nums) (at + 1))
+    (keeps-between 0 mostMembers .kept nums (at + 1))
   where
     go : (x : Got ℕ) → Kept nums (at + 1) x → AfterTag at (blockLead (valued x))
     go (got n left next) k = omega (arith, k .later)
@@ -131,7 +135,7 @@ after-block nums at = go (between 0 64 (drop (at + 1) nums) (at + 1)) (keeps-bet
 
 keeps-literal : Keeps readLiteral
 unfolding readLiteral
-keeps-literal = keeps-then (keeps-between 1 64) λ w. keeps-number
+keeps-literal = keeps-then (keeps-between 1 widest) λ w. keeps-number
 
 after-expr : (version : ℕ) (f : ExprForm) (nums : List ℕ) (at : ℕ) → AfterTag at (exprLead version f nums at)
 unfolding exprLead AfterTag
@@ -140,8 +144,8 @@ after-expr version Field nums at = after-by _ nums at 0 0 (keeps-repeat 2 keeps-
 after-expr version Literal nums at = after-by _ nums at 0 0 keeps-literal
 after-expr version Operand nums at = after-here at 1 0
 after-expr version Binary nums at = after-by _ nums at 2 0 (keeps-stands _)
-after-expr version Cast nums at = after-by _ nums at 1 0 (keeps-between 1 64)
-after-expr version Slice nums at = after-by _ nums at 1 0 (keeps-repeat 2 (keeps-between 0 63))
+after-expr version Cast nums at = after-by _ nums at 1 0 (keeps-between 1 widest)
+after-expr version Slice nums at = after-by _ nums at 1 0 (keeps-repeat 2 (keeps-between 0 highestBound))
 after-expr version Operands nums at = after-here at 2 0
 after-expr version Call nums at = after-call nums at
 after-expr version Unlisted nums at = tt

@@ -21,7 +21,7 @@ use Rattle.shape.specs.Leads.{onScan, valueOf, onValue}
 use Rattle.shape.specs.Parts.{repeatScan, listScan, itemScan, readReturning, readFrame, layKeys, readChoices, layChoices, readDefault, partScan}
 use Rattle.shape.specs.Ends.{firstAt, keyAt, layExpr, layStmt, layKey, layCallable, numeralAt, layTable}
 use Rattle.shape.specs.Walks.{Lays, noEnds, partEnds, LaysPart}
-use Rattle.shape.proofs.Lays.{lays-then, lays-fault, lays-as, lays-none, lays-scan, BegunAt, Begins, begins-list, lays-next, all-none, all-past, all-fault, lays-counted, lays-uncounted, pair-then, then-same, then-assoc}
+use Rattle.shape.proofs.Lays.{lays-then, lays-fault, lays-as, lays-none, lays-scan, BegunAt, Begins, begins-list, lays-next, pendings, lays-counted, lays-uncounted, pair-then, then-same, then-assoc}
 use Rattle.shape.specs.declared.Scan.{Scan}
 use Rattle.shape.specs.declared.Scan.the-variants.{Past, Fault}
 use Rattle.shape.specs.declared.looks.Value.{Value}
@@ -113,37 +113,41 @@ module _ (version : ℕ) (nums : List ℕ) where
   header-is at r e = e ∙ sym (scans-header .scan at)
 
   scans-parameters : Scans (listOf 0 mostParameters (readParameter version)) nums
-      (listScan (itemScan version ParameterItem nums) 0 8 nums)
+      (listScan (itemScan version ParameterItem nums) 0 mostParameters nums)
   unfolding itemScan
-  scans-parameters = scans-items 0 8 (keeps-parameter version) (scans-self _ nums)
+  scans-parameters = scans-items 0 mostParameters (keeps-parameter version) (scans-self _ nums)
 
   scans-locals : Scans (listOf 0 mostLocals (standsFor (typeOf version))) nums
-      (listScan (itemScan version TypeItem nums) 0 8 nums)
+      (listScan (itemScan version TypeItem nums) 0 mostLocals nums)
   unfolding itemScan
-  scans-locals = scans-items 0 8 (keeps-stands _) (scans-self _ nums)
+  scans-locals = scans-items 0 mostLocals (keeps-stands _) (scans-self _ nums)
 
-  scans-numerals : (least : ℕ)
-      → Scans (listOf least 8 (readNumeral version)) nums (listScan (itemScan version NumeralItem nums) least 8 nums)
+  scans-numerals : (least most : ℕ)
+      → Scans (listOf least most (readNumeral version)) nums
+      (listScan (itemScan version NumeralItem nums) least most nums)
   unfolding itemScan
-  scans-numerals least = scans-items least 8 (keeps-numeral version) (scans-self _ nums)
+  scans-numerals least most = scans-items least most (keeps-numeral version) (scans-self _ nums)
 
   frame-keeps : Keeps (listOf 0 mostLocals (standsFor (typeOf version)))
-  frame-keeps = keeps-list 0 8 (keeps-stands _)
+  frame-keeps = keeps-list 0 mostLocals (keeps-stands _)
 
   scans-frame : Scans (readFrame version) nums
-      (λ at. onScan (listScan (itemScan version ParameterItem nums) 0 8 nums at)
-      (listScan (itemScan version TypeItem nums) 0 8 nums))
+      (λ at. onScan (listScan (itemScan version ParameterItem nums) 0 mostParameters nums at)
+      (listScan (itemScan version TypeItem nums) 0 mostLocals nums))
   unfolding readFrame
   scans-frame =
-      scans-then (keeps-list 0 8 (keeps-parameter version)) scans-parameters λ ps. scans-last frame-keeps scans-locals
+      scans-then (keeps-list 0 mostParameters (keeps-parameter version)) scans-parameters λ ps.
+      scans-last frame-keeps scans-locals
       λ ls. scans-pure _
 
   scans-default : Scans (readDefault version) nums
-      (λ at. onScan (scanOf (readNumeral version) nums at) (listScan (itemScan version NumeralItem nums) 0 8 nums))
+      (λ at. onScan (scanOf (readNumeral version) nums at)
+      (listScan (itemScan version NumeralItem nums) 0 mostArguments nums))
   unfolding readDefault
   scans-default =
       scans-then (keeps-numeral version) (scans-self _ nums) λ d. scans-here λ c.
-      scans-last (keeps-list 0 8 (keeps-numeral version)) (scans-numerals 0) λ xs. scans-pure _
+      scans-last (keeps-list 0 mostArguments (keeps-numeral version)) (scans-numerals 0 mostArguments) λ xs.
+      scans-pure _
 
   behind-head : ℕ → Option Ty → Reader Callable
   behind-head i returns =
@@ -158,7 +162,8 @@ module _ (version : ℕ) (nums : List ℕ) where
 
   pub keeps-frame : Keeps (readFrame version)
   unfolding readFrame
-  keeps-frame = keeps-then (keeps-list 0 8 (keeps-parameter version)) λ ps. keeps-then frame-keeps λ ls. keeps-pure _
+  keeps-frame = keeps-then (keeps-list 0 mostParameters (keeps-parameter version)) λ ps. keeps-then frame-keeps λ ls.
+      keeps-pure _
 
 -- a callable's head
 module _ (version : ℕ) (nums : List ℕ) (at n next : ℕ) (v : Value) (e : v ≡ valueOf 0 1 nums at) where
@@ -255,17 +260,17 @@ module _ (version : ℕ) (nums : List ℕ) (at n f i : ℕ) (a r : Scan) where
       → Fault f i ≡ scanOf (readParameter version) nums at
   parameter-fault q p = seq-fault _ _ _ (scans-parameter version nums .scan at) a q f i p
 
-  pub frame-past : a ≡ listScan (itemScan version ParameterItem nums) 0 8 nums at → a ≡ Past n
-      → r ≡ listScan (itemScan version TypeItem nums) 0 8 nums n
+  pub frame-past : a ≡ listScan (itemScan version ParameterItem nums) 0 mostParameters nums at → a ≡ Past n
+      → r ≡ listScan (itemScan version TypeItem nums) 0 mostLocals nums n
       → r ≡ scanOf (readFrame version) nums at
   frame-past q p h = seq-past _ _ _ (scans-frame version nums .scan at) a q n r p h
 
-  pub frame-fault : a ≡ listScan (itemScan version ParameterItem nums) 0 8 nums at → a ≡ Fault f i
+  pub frame-fault : a ≡ listScan (itemScan version ParameterItem nums) 0 mostParameters nums at → a ≡ Fault f i
       → Fault f i ≡ scanOf (readFrame version) nums at
   frame-fault q p = seq-fault _ _ _ (scans-frame version nums .scan at) a q f i p
 
   pub default-past : a ≡ scanOf (readNumeral version) nums at → a ≡ Past n
-      → r ≡ listScan (itemScan version NumeralItem nums) 0 8 nums n
+      → r ≡ listScan (itemScan version NumeralItem nums) 0 mostArguments nums n
       → r ≡ scanOf (readDefault version) nums at
   default-past q p h = seq-past _ _ _ (scans-default version nums .scan at) a q n r p h
 
@@ -299,44 +304,26 @@ module _ (version : ℕ) (nums : List ℕ) (at : ℕ) (found : List ℕ) where
       lays-none (readKey version) layKey nums at f i found found
       (seq-fault _ _ _ (scans-key version nums .scan at) a q f i p)
 
-  pub keys-none : (count : ℕ) → count ≡ 0 → Lays (repeat count (readKey version)) layKeys nums at found found (Past at)
-  unfolding layKeys
-  keys-none count e = all-none keyAt layKey (readKey version) nums at count found e
-
-  pub keys-past : (count next : ℕ) (mid filled : List ℕ) (a r : Scan) → (count ≡ 0 → ⊥)
-      → Lays (readKey version) layKey nums at found mid a
-      → a ≡ Past next → Lays (repeat (count - 1) (readKey version)) layKeys nums next mid filled r
-      → Lays (repeat count (readKey version)) layKeys nums at found filled r
-  unfolding layKeys
-  keys-past count next mid filled a r x w p v =
-      all-past keyAt layKey (readKey version) nums at count (keeps-key version) (starts-key version) next found mid
-      filled a r r x w p v refl
-
-  pub keys-fault : (count f i : ℕ) (mid : List ℕ) (a : Scan) → (count ≡ 0 → ⊥)
-      → Lays (readKey version) layKey nums at found mid a
-      → a ≡ Fault f i → Lays (repeat count (readKey version)) layKeys nums at found mid (Fault f i)
-  unfolding layKeys
-  keys-fault count f i mid a x w p = all-fault keyAt layKey (readKey version) nums at count f i found mid a x w p
-
   pub key-list : (n next : ℕ) (filled : List ℕ) (v : Value) (r : Scan) → v ≡ valueOf 1 mostKeys nums at → v ≡ Of n next
       → Lays (repeat n (readKey version)) layKeys nums next found filled r
       → Lays (listOf 1 mostKeys (readKey version)) layKeys nums at found filled r
-  key-list n next filled v r q p w = lays-counted (readKey version) layKeys 1 4 nums at n next found filled v r q p w
+  key-list n next filled v r q p w = lays-counted
+      (readKey version) layKeys 1 mostKeys nums at n next found filled v r q p w
 
   pub key-list-fault : (f i : ℕ) (v : Value) → v ≡ valueOf 1 mostKeys nums at → v ≡ Unread f i
       → Lays (listOf 1 mostKeys (readKey version)) layKeys nums at found found (Fault f i)
-  key-list-fault f i v q p = lays-uncounted (readKey version) layKeys 1 4 nums at f i found found v q p
+  key-list-fault f i v q p = lays-uncounted (readKey version) layKeys 1 mostKeys nums at f i found found v q p
 
   -- tables
   pub choices-past : (n : ℕ) (filled : List ℕ) (a r : Scan)
       → Lays (listOf 1 mostKeys (readKey version)) layKeys nums at found filled a → a ≡ Past n
-      → r ≡ listScan (itemScan version NumeralItem nums) 1 8 nums n
+      → r ≡ listScan (itemScan version NumeralItem nums) 1 mostActions nums n
       → Lays (readChoices version) layChoices nums at found filled r
   unfolding readChoices layChoices noEnds
   choices-past n filled a r w p q =
       lays-next (λ ks ns. (ks, ns)) layChoices (λ ns end. firstAt numeralAt ns end - 1) (λ ks ns end slots. refl)
-      (keeps-list 1 4 (keeps-key version)) (begins-list 1 8 (starts-numeral version)) w p
-      (lays-scan filled (q ∙ sym (scans-numerals version nums 1 .scan n)))
+      (keeps-list 1 mostKeys (keeps-key version)) (begins-list 1 mostActions (starts-numeral version)) w p
+      (lays-scan filled (q ∙ sym (scans-numerals version nums 1 mostActions .scan n)))
 
   pub choices-fault : (f i : ℕ) (filled : List ℕ) (a : Scan)
       → Lays (listOf 1 mostKeys (readKey version)) layKeys nums at found filled a
@@ -346,8 +333,8 @@ module _ (version : ℕ) (nums : List ℕ) (at : ℕ) (found : List ℕ) where
 
   pub keeps-choices : Keeps (readChoices version)
   unfolding readChoices
-  keeps-choices = keeps-then (keeps-list 1 4 (keeps-key version)) λ ks. keeps-then
-      (keeps-list 1 8 (keeps-numeral version)) λ ns. keeps-pure _
+  keeps-choices = keeps-then (keeps-list 1 mostKeys (keeps-key version)) λ ks. keeps-then
+      (keeps-list 1 mostActions (keeps-numeral version)) λ ns. keeps-pure _
 
   pub begins-default : Begins (λ q end. q .0 .at) (readDefault version)
   unfolding readDefault BegunAt Given numeralAt _>>=_ andThen here pure
@@ -413,7 +400,7 @@ module _ (version : ℕ) (nums : List ℕ) (at : ℕ) (found : List ℕ) where
       → Lays (readChoices version) layChoices nums at found filled a → a ≡ Past n
       → r ≡ scanOf (readDefault version) nums n
       → Lays (readTable version) layTable nums at found filled r
-  unfolding layChoices layKeys layTable makeTable noEnds
+  unfolding layChoices layTable makeTable noEnds
   table-past n filled a r w p q =
       lays-as in-two
       (lays-next makeTable layTable (λ q end. q .0 .at) (λ p q end slots. refl) keeps-choices begins-default w p
@@ -481,6 +468,8 @@ module _ (version : ℕ) (nums : List ℕ) (at : ℕ) (found : List ℕ) where
       → Lays (readCallable version) layCallable nums at found found (Fault f i)
   callable-fault f i a q p = lays-as in-three (lays-fault _ layCallable found (lays-scan found q) p)
 
+pub ruleset keys = (keeps-key, starts-key, pendings)
+
 pub ruleset parts = (
   numeral-is,
   direction-is,
@@ -490,9 +479,6 @@ pub ruleset parts = (
   parameter-fault,
   key-past,
   key-fault,
-  keys-none,
-  keys-past,
-  keys-fault,
   key-list,
   key-list-fault,
   header-is,
@@ -589,6 +575,26 @@ module _ (one : ℕ → Scan) (count at : ℕ) where
       → Fault f i ≡ repeatScan one count at
   items-fault f i a x q p = seq-fault _ _ _ (items-more x) a q f i p
 
+-- so many items of which some are left: what the rest scans to, all scan to
+pub record Remaining (one : ℕ → Scan) (count at left next : ℕ) : Type 0 where
+  pub rest : repeatScan one left next ≡ repeatScan one count at
+
+pub remaining-first : (one : ℕ → Scan) (count at : ℕ) → Remaining one count at count at
+remaining-first one count at = record { rest = refl }
+
+module _ (one : ℕ → Scan) (count at left next : ℕ) (w : Remaining one count at left next) where
+  pub remaining-none : left ≡ 0 → Past next ≡ repeatScan one count at
+  remaining-none e = items-none one left next e ∙ w .rest
+
+  pub remaining-past : (n : ℕ) (a : Scan) → (left ≡ 0 → ⊥) → a ≡ one next → a ≡ Past n
+      → Remaining one count at (left - 1) n
+  remaining-past n a x q p =
+      record { rest = items-past one left next n a (repeatScan one (left - 1) n) x q p refl ∙ w .rest }
+
+  pub remaining-fault : (f i : ℕ) (a : Scan) → (left ≡ 0 → ⊥) → a ≡ one next → a ≡ Fault f i
+      → Fault f i ≡ repeatScan one count at
+  remaining-fault f i a x q p = items-fault one left next f i a x q p ∙ w .rest
+
 module _ (one : ℕ → Scan) (least most : ℕ) (nums : List ℕ) (at : ℕ) (v : Value)
     (q : v ≡ valueOf least most nums at) where
   pub list-of : (n next : ℕ) (r : Scan) → v ≡ Of n next → r ≡ repeatScan one n next
@@ -600,7 +606,4 @@ module _ (one : ℕ → Scan) (least most : ℕ) (nums : List ℕ) (at : ℕ) (v
   unfolding listScan onValue
   list-fault f i p = rw (← q, p)
 
-pub count-falls : (k t : ℕ) → k ≡ t → (k ≡ 0 → ⊥) → k - 1 < t
-count-falls k t e x = omega arith
-
-pub ruleset lists = (items-none, items-past, items-fault, list-of, list-fault, count-falls)
+pub ruleset lists = (remaining-first, remaining-none, remaining-past, remaining-fault, list-of, list-fault)

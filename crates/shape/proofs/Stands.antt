@@ -294,7 +294,7 @@ unfolding readDefined EndedDefined
 defined-split version nums ends at end w =
     stands-split (λ cs ts. (cs, ts)) (λ ts end. firstAt tableAt ts end - 1)
     (keeps-list 0 mostCallables (keeps-callable version))
-    (begins-list 0 8 (starts-tables version)) (λ cs ts end slots p. p) w
+    (begins-list 0 mostTables (starts-tables version)) (λ cs ts end slots p. p) w
 
 -- a program: its callables, its tables, its body
 pub record ProgramStands (version : ℕ) (nums ends : List ℕ) (end : ℕ) : Type 0 where

@@ -7,13 +7,14 @@ use native.Mathlib.Numerals.{add-one, sub-one}
 use lib.ListN.{length, drop, set, replicate, length-map}
 use lib.Seq.{sets}
 use Rattle.rules.specs.Syntax.{Stmt, HeaderTy, Global, Callable, Table, Program}
-use Rattle.rules.specs.Reading.{Got, got, bad, Reader, andThen, _>>=_, pure, between, repeat, listOf, deepest}
+use Rattle.rules.specs.Reading.{Got, got, bad, Reader, andThen, _>>=_, pure, between, repeat, listOf, deepest, mostHeaders, mostGlobals, mostCallables, mostTables}
 use Rattle.rules.specs.Reading.{readStmt, readHeader, readGlobal, readCallable, readTable, readAfterVersion, versionOf, readProgram}
 use Rattle.rules.proofs.Readers.{Kept, Keeps, keeps-then, keeps-pure, keeps-between, keeps-list, keeps-header, keeps-global, keeps-callable, keeps-table, Given, Starts, starts-header, starts-global, starts-callable, starts-table}
 use Rattle.shape.specs.Scans.{forget, scanOf}
 use Rattle.shape.specs.Leads.{valued, valueOf}
 use Rattle.shape.specs.Parts.{listScan, partScan}
-use Rattle.shape.specs.Directory.{stmtAt, listed, declared, defined, directoryOf, directoryLeft}
+use Rattle.shape.specs.Directory.{headersSlot, globalsSlot, callablesSlot, tablesSlot, bodySlot, endSlot}
+use Rattle.shape.specs.Directory.{slotCount, stmtAt, listed, declared, defined, directoryOf, directoryLeft}
 use Rattle.shape.specs.Ends.{mostNumbers, layStmt, firstAt, layAll, callableAt, layCallable, tableAt, layTable, endsOf, endsLeft, ScansProgram}
 use Rattle.shape.specs.Walks.{startsAfter, starts, Walked, laidList, WalkedList, Laid, Lays, noEnds, partEnds, LaysPart, endsAfter, partsEnds, LaysParts, listEnds, LaysList, endsDefined}
 use Rattle.shape.specs.Walks.{readDeclared, layDeclared, readDefined, layDefined, layBody}
@@ -26,7 +27,7 @@ use Rattle.shape.specs.declared.program.Part.the-variants.{HeaderPart, G
 use Rattle.shape.proofs.Laws.{AtMost, value-most, scans-self}
 use Rattle.shape.proofs.Stmts.{starts-stmt}
 use Rattle.shape.proofs.Lays.{lays-then, lays-fault, lays-as, lays-like, lays-same, BegunAt, Begins, begins-repeat, begins-list, lays-next, pair-then, then-same}
-use Rattle.shape.proofs.Parts.{scans-items, items-none, items-past, items-fault, list-of, list-fault, count-falls}
+use Rattle.shape.proofs.Parts.{scans-items, items-none, items-past, items-fault, list-of, list-fault}
 
 -- so many parts, and where they begin
 module _ (one : ℕ → Scan) (count at slot : ℕ) (found : List ℕ) where
@@ -54,9 +55,6 @@ module _ (one : ℕ → Scan) (count at slot : ℕ) (found : List ℕ) where
       → Walked one count at slot found (set found slot at) (Fault f i)
   unfolding startsAfter
   walked-fault f i a x q p = record { scan = items-fault one count at f i a x q p; laid = rw (starts-more x, ← q, p) }
-
-pub room-after : (slot count : ℕ) → slot + count ≤ 70 → (count ≡ 0 → ⊥) → slot + 1 + (count - 1) ≤ 70
-room-after slot count h x = omega arith
 
 -- and what they lay into the ends
 module _ (version : ℕ) (part : Part) (count : ℕ) (nums : List ℕ) (at : ℕ) (found : List ℕ) where
@@ -88,8 +86,71 @@ module _ (version : ℕ) (part : Part) (count : ℕ) (nums : List ℕ) (at : ℕ
       go zero y = absurd (y refl)
       go (suc k) y = rw (← w .scan, p) tt
 
-pub ruleset walks =
-    (walked-none, walked-past, walked-fault, ends-none, ends-past, ends-fault, room-after, count-falls)
+-- so many parts of which some are left: what the rest walks, all walk, and there is room for it
+pub record Walking (one : ℕ → Scan) (count at slot : ℕ) (found : List ℕ) (left next entry : ℕ) (now : List ℕ) : Type 0
+  where
+    pub room : entry + left ≤ slotCount
+    pub rest : (last : List ℕ) (r : Scan) → Walked one left next entry now last r
+        → Walked one count at slot found last r
+
+pub walking-first : (one : ℕ → Scan) (count at slot : ℕ) (found : List ℕ) → slot + count ≤ slotCount
+    → Walking one count at slot found count at slot found
+walking-first one count at slot found h = record { room = h; rest = λ last r w. w }
+
+module _ (one : ℕ → Scan) (count at slot : ℕ) (found : List ℕ) (left next entry : ℕ) (now : List ℕ)
+    (w : Walking one count at slot found left next entry now) where
+  pub walking-none : left ≡ 0 → Walked one count at slot found now (Past next)
+  walking-none e = w .rest now (Past next) (walked-none one left next entry now e)
+
+  module _ (x : left ≡ 0 → ⊥) where
+    pub walking-room : entry < slotCount
+    walking-room = omega (arith, w .room)
+
+    pub walking-past : (n : ℕ) (a : Scan) → a ≡ one next → a ≡ Past n
+        → Walking one count at slot found (left - 1) n (entry + 1) (set now entry next)
+    walking-past n a q p = record {
+      room = omega (arith, w .room);
+      rest = λ last r u. w .rest last r (walked-past one left next entry now n a r last x q p u);
+    }
+
+    pub walking-fault : (f i : ℕ) (a : Scan) → a ≡ one next → a ≡ Fault f i
+        → Walked one count at slot found (set now entry next) (Fault f i)
+    walking-fault f i a q p = w .rest (set now entry next) (Fault f i)
+        (walked-fault one left next entry now f i a x q p)
+
+pub record Laying (version : ℕ) (part : Part) (count : ℕ) (nums : List ℕ) (at : ℕ) (found : List ℕ) (left next : ℕ)
+    (now : List ℕ) : Type 0 where
+  pub rest : (last : List ℕ) (r : Scan) → LaysParts version part left nums next now last r
+      → LaysParts version part count nums at found last r
+
+module _ (version : ℕ) (part : Part) (count : ℕ) (nums : List ℕ) (at : ℕ) (found : List ℕ) where
+  pub laying-first : Laying version part count nums at found count at found
+  laying-first = record { rest = λ last r w. w }
+
+  module _ (left next : ℕ) (now : List ℕ) (w : Laying version part count nums at found left next now) where
+    pub laying-none : left ≡ 0 → LaysParts version part count nums at found now (Past next)
+    laying-none e = w .rest now (Past next) (ends-none version part left nums next now e)
+
+    module _ (mid : List ℕ) (a : Scan) (x : left ≡ 0 → ⊥) (v : LaysPart version part nums next now mid a) where
+      pub laying-past : (n : ℕ) → a ≡ Past n → Laying version part count nums at found (left - 1) n mid
+      laying-past n p = record {
+        rest = λ last r u. w .rest last r (ends-past version part left nums next now n mid last a r x v p u);
+      }
+
+      pub laying-fault : (f i : ℕ) → a ≡ Fault f i → LaysParts version part count nums at found mid (Fault f i)
+      laying-fault f i p = w .rest mid (Fault f i) (ends-fault version part left nums next now f i mid a x v p)
+
+pub ruleset walks = (
+  walking-first,
+  walking-none,
+  walking-room,
+  walking-past,
+  walking-fault,
+  laying-first,
+  laying-none,
+  laying-past,
+  laying-fault,
+)
 
 -- a list of parts
 module _ (one : ℕ → Scan) (most : ℕ) (nums : List ℕ) (at slot : ℕ) (found : List ℕ) (v : Value)
@@ -118,8 +179,8 @@ module _ (version : ℕ) (part : Part) (most : ℕ) (nums : List ℕ) (at : ℕ)
   list-no-ends f i p = record { laid = rw (← q, p) tt }
 
 pub list-room : (most : ℕ) (nums : List ℕ) (at slot n next : ℕ) (v : Value) → v ≡ valueOf 0 most nums at
-    → v ≡ Of n next → slot + most < 70
-    → slot + 1 + n ≤ 70
+    → v ≡ Of n next → slot + most < slotCount
+    → slot + 1 + n ≤ slotCount
 unfolding AtMost
 list-room most nums at slot n next v q p h = omega (arith, rw (← q, p) at (value-most 0 most nums at))
 
@@ -185,37 +246,37 @@ list-scans : {A : Type 0} (one : Reader A) (nums : List ℕ) (most at : ℕ) →
 list-scans one nums most at h = scans-items 0 most h (scans-self one nums) .scan at
 
 module _ (version : ℕ) (nums : List ℕ) (at : ℕ) (found mid : List ℕ) (a : Scan) where
-  headers-lay : WalkedList (partScan version HeaderPart nums) 8 nums at 0 found mid a
-      → Lays (listOf 0 8 (readHeader version)) (λ xs next slots. listed slots 0
+  headers-lay : WalkedList (partScan version HeaderPart nums) mostHeaders nums at headersSlot found mid a
+      → Lays (listOf 0 mostHeaders (readHeader version)) (λ xs next slots. listed slots headersSlot
       (map (λ h. h .at) xs)) nums at found mid a
   unfolding partScan
   headers-lay w =
-      lays-list nums (keeps-header version) (starts-header version) 8 at 0 found mid a w
-      (list-scans _ nums 8 at (keeps-header version))
+      lays-list nums (keeps-header version) (starts-header version) mostHeaders at headersSlot found mid a w
+      (list-scans _ nums mostHeaders at (keeps-header version))
 
-  globals-lay : WalkedList (partScan version GlobalPart nums) 32 nums at 9 found mid a
-      → Lays (listOf 0 32 (readGlobal version)) (λ xs next slots. listed slots 9
+  globals-lay : WalkedList (partScan version GlobalPart nums) mostGlobals nums at globalsSlot found mid a
+      → Lays (listOf 0 mostGlobals (readGlobal version)) (λ xs next slots. listed slots globalsSlot
       (map (λ g. g .at) xs)) nums at found mid a
   unfolding partScan
   globals-lay w =
-      lays-list nums (keeps-global version) (starts-global version) 32 at 9 found mid a w
-      (list-scans _ nums 32 at (keeps-global version))
+      lays-list nums (keeps-global version) (starts-global version) mostGlobals at globalsSlot found mid a w
+      (list-scans _ nums mostGlobals at (keeps-global version))
 
-  callables-lay : WalkedList (partScan version CallablePart nums) 16 nums at 42 found mid a
-      → Lays (listOf 0 16 (readCallable version))
-      (λ xs next slots. listed slots 42 (map (λ c. c .at) xs)) nums at found mid a
+  callables-lay : WalkedList (partScan version CallablePart nums) mostCallables nums at callablesSlot found mid a
+      → Lays (listOf 0 mostCallables (readCallable version))
+      (λ xs next slots. listed slots callablesSlot (map (λ c. c .at) xs)) nums at found mid a
   unfolding partScan
   callables-lay w =
-      lays-list nums (keeps-callable version) (starts-callable version) 16 at 42 found mid a w
-      (list-scans _ nums 16 at (keeps-callable version))
+      lays-list nums (keeps-callable version) (starts-callable version) mostCallables at callablesSlot found mid a w
+      (list-scans _ nums mostCallables at (keeps-callable version))
 
-  tables-lay : WalkedList (partScan version TablePart nums) 8 nums at 59 found mid a
-      → Lays (listOf 0 8 (readTable version)) (λ xs next slots. listed slots 59
+  tables-lay : WalkedList (partScan version TablePart nums) mostTables nums at tablesSlot found mid a
+      → Lays (listOf 0 mostTables (readTable version)) (λ xs next slots. listed slots tablesSlot
       (map (λ t. t .at) xs)) nums at found mid a
   unfolding partScan
   tables-lay w =
-      lays-list nums (keeps-table version) (starts-table version) 8 at 59 found mid a w
-      (list-scans _ nums 8 at (keeps-table version))
+      lays-list nums (keeps-table version) (starts-table version) mostTables at tablesSlot found mid a w
+      (list-scans _ nums mostTables at (keeps-table version))
 
 -- and into the ends
 module _ {A : Type 0} {one : Reader A} (nums : List ℕ) (h : Keeps one) (start : A → ℕ) (s : Starts start one)
@@ -279,107 +340,119 @@ unfolding listEnds
 list-laid version part most nums at found filled r w n next e = rw e at (w .laid)
 
 module _ (version : ℕ) (nums : List ℕ) (at : ℕ) (found filled : List ℕ) (slots slots₂ : List ℕ) (r : Scan) where
-  header-ends : WalkedList (partScan version HeaderPart nums) 8 nums at 0 slots slots₂ r
-      → LaysList version HeaderPart 8 nums at found filled r
-      → Lays (listOf 0 8 (readHeader version)) noEnds nums at found filled r
+  header-ends : WalkedList (partScan version HeaderPart nums) mostHeaders nums at headersSlot slots slots₂ r
+      → LaysList version HeaderPart mostHeaders nums at found filled r
+      → Lays (listOf 0 mostHeaders (readHeader version)) noEnds nums at found filled r
   unfolding partScan partEnds
   header-ends w l = lays-like (lay-nothing (λ (h : HeaderTy). h .at)) (record {
-    scan = w .scan ∙ sym (list-scans _ nums 8 at (keeps-header version));
-    laid = list-ends-lay nums (keeps-header version) (λ h. h .at) (starts-header version) noEnds 8 at found filled _
-        refl (list-laid version HeaderPart 8 nums at found filled r l);
+    scan = w .scan ∙ sym (list-scans _ nums mostHeaders at (keeps-header version));
+    laid = list-ends-lay nums (keeps-header version) (λ h. h .at)
+        (starts-header version) noEnds mostHeaders at found filled _
+        refl (list-laid version HeaderPart mostHeaders nums at found filled r l);
   })
 
-  global-ends : WalkedList (partScan version GlobalPart nums) 32 nums at 9 slots slots₂ r
-      → LaysList version GlobalPart 32 nums at found filled r
-      → Lays (listOf 0 32 (readGlobal version)) noEnds nums at found filled r
+  global-ends : WalkedList (partScan version GlobalPart nums) mostGlobals nums at globalsSlot slots slots₂ r
+      → LaysList version GlobalPart mostGlobals nums at found filled r
+      → Lays (listOf 0 mostGlobals (readGlobal version)) noEnds nums at found filled r
   unfolding partScan partEnds
   global-ends w l = lays-like (lay-nothing (λ (g : Global). g .at)) (record {
-    scan = w .scan ∙ sym (list-scans _ nums 32 at (keeps-global version));
-    laid = list-ends-lay nums (keeps-global version) (λ g. g .at) (starts-global version) noEnds 32 at found filled _
-        refl (list-laid version GlobalPart 32 nums at found filled r l);
+    scan = w .scan ∙ sym (list-scans _ nums mostGlobals at (keeps-global version));
+    laid = list-ends-lay nums (keeps-global version) (λ g. g .at)
+        (starts-global version) noEnds mostGlobals at found filled _
+        refl (list-laid version GlobalPart mostGlobals nums at found filled r l);
   })
 
-  callable-ends : WalkedList (partScan version CallablePart nums) 16 nums at 42 slots slots₂ r
-      → LaysList version CallablePart 16 nums at found filled r
-      → Lays (listOf 0 16 (readCallable version)) (layAll callableAt layCallable) nums at found filled r
+  callable-ends : WalkedList (partScan version CallablePart nums) mostCallables nums at callablesSlot slots slots₂ r
+      → LaysList version CallablePart mostCallables nums at found filled r
+      → Lays (listOf 0 mostCallables (readCallable version)) (layAll callableAt layCallable) nums at found filled r
   unfolding partScan partEnds callableAt
   callable-ends w l = record {
-    scan = w .scan ∙ sym (list-scans _ nums 16 at (keeps-callable version));
-    laid = list-ends-lay nums (keeps-callable version) callableAt (starts-callable version) layCallable 16 at found
-        filled _ refl (list-laid version CallablePart 16 nums at found filled r l);
+    scan = w .scan ∙ sym (list-scans _ nums mostCallables at (keeps-callable version));
+    laid = list-ends-lay nums (keeps-callable version) callableAt
+        (starts-callable version) layCallable mostCallables at found
+        filled _ refl (list-laid version CallablePart mostCallables nums at found filled r l);
   }
 
-  table-ends : WalkedList (partScan version TablePart nums) 8 nums at 59 slots slots₂ r
-      → LaysList version TablePart 8 nums at found filled r
-      → Lays (listOf 0 8 (readTable version)) (layAll tableAt layTable) nums at found filled r
+  table-ends : WalkedList (partScan version TablePart nums) mostTables nums at tablesSlot slots slots₂ r
+      → LaysList version TablePart mostTables nums at found filled r
+      → Lays (listOf 0 mostTables (readTable version)) (layAll tableAt layTable) nums at found filled r
   unfolding partScan partEnds tableAt
   table-ends w l = record {
-    scan = w .scan ∙ sym (list-scans _ nums 8 at (keeps-table version));
-    laid = list-ends-lay nums (keeps-table version) tableAt (starts-table version) layTable 8 at found filled _ refl
-        (list-laid version TablePart 8 nums at found filled r l);
+    scan = w .scan ∙ sym (list-scans _ nums mostTables at (keeps-table version));
+    laid = list-ends-lay nums (keeps-table version) tableAt
+        (starts-table version) layTable mostTables at found filled _ refl
+        (list-laid version TablePart mostTables nums at found filled r l);
   }
 
 module _ (version : ℕ) (nums : List ℕ) (at n f i : ℕ) (found mid filled slots slots₂ slots₃ : List ℕ)
     (a r : Scan) where
-  pub declared-ends : WalkedList (partScan version HeaderPart nums) 8 nums at 0 slots slots₂ a
-      → LaysList version HeaderPart 8 nums at found mid a → a ≡ Past n
-      → WalkedList (partScan version GlobalPart nums) 32 nums n 9 slots₂ slots₃ r
-      → LaysList version GlobalPart 32 nums n mid filled r
+  pub declared-ends : WalkedList (partScan version HeaderPart nums) mostHeaders nums at headersSlot slots slots₂ a
+      → LaysList version HeaderPart mostHeaders nums at found mid a → a ≡ Past n
+      → WalkedList (partScan version GlobalPart nums) mostGlobals nums n globalsSlot slots₂ slots₃ r
+      → LaysList version GlobalPart mostGlobals nums n mid filled r
       → Lays (readDeclared version) noEnds nums at found filled r
   unfolding readDeclared noEnds
   declared-ends w l p v m =
-      lays-then (λ hs gs. (hs, gs)) noEnds (λ hs gs m next slots. refl) (keeps-list 0 8 (keeps-header version))
+      lays-then (λ hs gs. (hs, gs)) noEnds (λ hs gs m next slots. refl)
+      (keeps-list 0 mostHeaders (keeps-header version))
       (header-ends version nums at found mid slots slots₂ a w l) p
       (global-ends version nums n mid filled slots₂ slots₃ r v m)
 
-  pub declared-no-ends : WalkedList (partScan version HeaderPart nums) 8 nums at 0 slots slots₂ a
-      → LaysList version HeaderPart 8 nums at found mid a → a ≡ Fault f i
+  pub declared-no-ends : WalkedList (partScan version HeaderPart nums) mostHeaders nums at headersSlot slots slots₂ a
+      → LaysList version HeaderPart mostHeaders nums at found mid a → a ≡ Fault f i
       → Lays (readDeclared version) noEnds nums at found mid (Fault f i)
   unfolding readDeclared
   declared-no-ends w l p = lays-fault _ noEnds found (header-ends version nums at found mid slots slots₂ a w l) p
 
-  pub defined-ends : WalkedList (partScan version CallablePart nums) 16 nums at 42 slots slots₂ a
-      → LaysList version CallablePart 16 nums at found mid a → a ≡ Past n
-      → WalkedList (partScan version TablePart nums) 8 nums n 59 slots₂ slots₃ r
-      → LaysList version TablePart 8 nums n mid filled r
+  pub defined-ends : WalkedList (partScan version CallablePart nums) mostCallables nums at callablesSlot slots slots₂ a
+      → LaysList version CallablePart mostCallables nums at found mid a → a ≡ Past n
+      → WalkedList (partScan version TablePart nums) mostTables nums n tablesSlot slots₂ slots₃ r
+      → LaysList version TablePart mostTables nums n mid filled r
       → Lays (readDefined version) endsDefined nums at found filled r
   unfolding readDefined endsDefined
   defined-ends w l p v m =
       lays-next (λ cs ts. (cs, ts)) endsDefined (λ ts end. firstAt tableAt ts end - 1) (λ cs ts next slots. refl)
-      (keeps-list 0 16 (keeps-callable version)) (begins-list 0 8 (starts-tables version))
+      (keeps-list 0 mostCallables (keeps-callable version)) (begins-list 0 mostTables (starts-tables version))
       (callable-ends version nums at found mid slots slots₂ a w l) p
       (table-ends version nums n mid filled slots₂ slots₃ r v m)
 
-  pub defined-no-ends : WalkedList (partScan version CallablePart nums) 16 nums at 42 slots slots₂ a
-      → LaysList version CallablePart 16 nums at found mid a → a ≡ Fault f i
+  pub defined-no-ends : WalkedList
+      (partScan version CallablePart nums) mostCallables nums at callablesSlot slots slots₂ a
+      → LaysList version CallablePart mostCallables nums at found mid a → a ≡ Fault f i
       → Lays (readDefined version) endsDefined nums at found mid (Fault f i)
   unfolding readDefined
   defined-no-ends w l p =
       lays-fault _ endsDefined found (callable-ends version nums at found mid slots slots₂ a w l) p
 
 module _ (version : ℕ) (nums : List ℕ) (at n f i : ℕ) (found mid filled : List ℕ) (a r : Scan) where
-  pub declared-past : WalkedList (partScan version HeaderPart nums) 8 nums at 0 found mid a → a ≡ Past n
-      → WalkedList (partScan version GlobalPart nums) 32 nums n 9 mid filled r
+  pub declared-past : WalkedList (partScan version HeaderPart nums) mostHeaders nums at headersSlot found mid a → a
+      ≡ Past n
+      → WalkedList (partScan version GlobalPart nums) mostGlobals nums n globalsSlot mid filled r
       → Lays (readDeclared version) layDeclared nums at found filled r
   unfolding readDeclared layDeclared declared
   declared-past w p v =
-      lays-then (λ hs gs. (hs, gs)) layDeclared (λ hs gs m next slots. refl) (keeps-list 0 8 (keeps-header version))
+      lays-then (λ hs gs. (hs, gs)) layDeclared (λ hs gs m next slots. refl)
+      (keeps-list 0 mostHeaders (keeps-header version))
       (headers-lay version nums at found mid a w) p (globals-lay version nums n mid filled r v)
 
-  pub declared-fault : WalkedList (partScan version HeaderPart nums) 8 nums at 0 found mid a → a ≡ Fault f i
+  pub declared-fault : WalkedList (partScan version HeaderPart nums) mostHeaders nums at headersSlot found mid a → a
+      ≡ Fault f i
       → Lays (readDeclared version) layDeclared nums at found mid (Fault f i)
   unfolding readDeclared
   declared-fault w p = lays-fault _ layDeclared found (headers-lay version nums at found mid a w) p
 
-  pub defined-past : WalkedList (partScan version CallablePart nums) 16 nums at 42 found mid a → a ≡ Past n
-      → WalkedList (partScan version TablePart nums) 8 nums n 59 mid filled r
+  pub defined-past : WalkedList (partScan version CallablePart nums) mostCallables nums at callablesSlot found mid a
+      → a ≡ Past n
+      → WalkedList (partScan version TablePart nums) mostTables nums n tablesSlot mid filled r
       → Lays (readDefined version) layDefined nums at found filled r
   unfolding readDefined layDefined defined
   defined-past w p v =
-      lays-then (λ cs ts. (cs, ts)) layDefined (λ cs ts m next slots. refl) (keeps-list 0 16 (keeps-callable version))
+      lays-then (λ cs ts. (cs, ts)) layDefined (λ cs ts m next slots. refl)
+      (keeps-list 0 mostCallables (keeps-callable version))
       (callables-lay version nums at found mid a w) p (tables-lay version nums n mid filled r v)
 
-  pub defined-fault : WalkedList (partScan version CallablePart nums) 16 nums at 42 found mid a → a ≡ Fault f i
+  pub defined-fault : WalkedList (partScan version CallablePart nums) mostCallables nums at callablesSlot found mid a
+      → a ≡ Fault f i
       → Lays (readDefined version) layDefined nums at found mid (Fault f i)
   unfolding readDefined
   defined-fault w p = lays-fault _ layDefined found (callables-lay version nums at found mid a w) p
@@ -399,17 +472,17 @@ pub ruleset declarations = (
 module _ (version : ℕ) (nums : List ℕ) (at : ℕ) (found : List ℕ) (a : Scan) (q : a ≡ scanOf
     (readStmt version deepest) nums at) where
   pub body-past : (end : ℕ) → a ≡ Past end
-      → Lays (readStmt version deepest) layBody nums at found (set (set found 68 at) 69 end) (Past end)
+      → Lays (readStmt version deepest) layBody nums at found (set (set found bodySlot at) endSlot end) (Past end)
   unfolding scanOf forget Laid Given layBody
   body-past end p =
       record {
         scan = sym p ∙ q;
         laid = go (readStmt version deepest (drop at nums) at)
-            (starts-stmt version 32 .started (drop at nums) at) (sym q ∙ p);
+            (starts-stmt version deepest .started (drop at nums) at) (sym q ∙ p);
       }
     where
       go : (y : Got Stmt) → Given (λ s. stmtAt s ≡ at) y → forget y ≡ Past end
-          → Laid y layBody found (set (set found 68 at) 69 end)
+          → Laid y layBody found (set (set found bodySlot at) endSlot end)
       go (bad fault index) g e = tt
       go (got s left next) g e =
           let same : next ≡ end = cc in
@@ -463,34 +536,37 @@ module _ (version : ℕ) where
   inTwo d = readDefined version >>= λ f. readStmt version deepest >>= λ body. pure (tree d (f, body))
 
   inOne : Declared → Reader Program
-  inOne d = listOf 0 16 (readCallable version) >>= λ callables. listOf 0 8 (readTable version) >>= λ tables.
+  inOne d = listOf 0 mostCallables (readCallable version) >>= λ callables.
+      listOf 0 mostTables (readTable version) >>= λ tables.
       readStmt version deepest >>= λ body. pure (tree d ((callables, tables), body))
 
   one-two-three : (d : Declared) (left : List ℕ) (at : ℕ)
       → inOne d left at ≡ (readRest >>= λ q. pure (tree d q)) left at
   unfolding inOne inTwo readRest readDefined
   one-two-three d left at =
-      pair-then (listOf 0 16 (readCallable version)) (listOf 0 8 (readTable version))
+      pair-then (listOf 0 mostCallables (readCallable version)) (listOf 0 mostTables (readTable version))
       (λ callables tables. readStmt version deepest >>= λ body. pure (tree d ((callables, tables), body))) left at
       ∙ pair-then (readDefined version) (readStmt version deepest) (λ f body. pure (tree d (f, body))) left at
 
   pub three : (left : List ℕ) (at : ℕ) → readAfterVersion version left at ≡ inThree left at
   unfolding inThree inOne tree readAfterVersion readDeclared
   three left at =
-      pair-then (listOf 0 8 (readHeader version)) (listOf 0 32 (readGlobal version))
+      pair-then (listOf 0 mostHeaders (readHeader version)) (listOf 0 mostGlobals (readGlobal version))
       (λ headers globals. inOne (headers, globals)) left at
       ∙ then-same (readDeclared version) left at inOne (λ d. readRest >>= λ q. pure (tree d q)) one-two-three
 
   pub keeps-declared : Keeps (readDeclared version)
   unfolding readDeclared
   keeps-declared =
-      keeps-then (keeps-list 0 8 (keeps-header version)) λ hs. keeps-then (keeps-list 0 32 (keeps-global version))
+      keeps-then (keeps-list 0 mostHeaders (keeps-header version)) λ hs.
+      keeps-then (keeps-list 0 mostGlobals (keeps-global version))
       λ gs. keeps-pure _
 
   pub keeps-defined : Keeps (readDefined version)
   unfolding readDefined
   keeps-defined =
-      keeps-then (keeps-list 0 16 (keeps-callable version)) λ cs. keeps-then (keeps-list 0 8 (keeps-table version))
+      keeps-then (keeps-list 0 mostCallables (keeps-callable version)) λ cs.
+      keeps-then (keeps-list 0 mostTables (keeps-table version))
       λ ts. keeps-pure _
 
 module _ (version : ℕ) (nums : List ℕ) (at n m f i : ℕ) (found mid third filled : List ℕ) (a b r : Scan) where

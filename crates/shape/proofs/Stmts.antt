@@ -34,7 +34,7 @@ use Rattle.shape.proofs.Laws.{on-past, on-fault, on-same, on-last, Scan
 use Rattle.shape.proofs.Laws.{none-past, deep-missing, deep-same, repeat-none, scans-one, scans-two}
 use Rattle.shape.proofs.Exprs.{above, one-less, lead-scan, scans-list, call-scan, scans-field, scans-place, args-laid, starts-expr, construct}
 use Rattle.shape.proofs.Agrees.{Alike, alike-then, alike-one, alike-two, alike-all, alike-assoc, alike-map, agree-none, agree-members, agree-call, behind-tag, tag-in, Latest, kept-latest}
-use Rattle.shape.proofs.Lays.{lays-none, lays-deep, begins-repeat, lays-next, all-none, all-past, all-fault, Pending, pending-first}
+use Rattle.shape.proofs.Lays.{lays-none, lays-deep, begins-repeat, lays-next, pendings}
 
 -- a target's form by its tag
 pub place-of : (version n tag : ℕ) (f : PlaceForm) → n ≡ tag → f ≡ placeForm version tag → f ≡ placeForm version n
@@ -422,7 +422,7 @@ stmts-at version (s ∷ ss) end = refl
 
 pub stmts-laid : (version : ℕ) (ss : List Stmt) (end : ℕ) (slots : List ℕ)
     → layStmts (toStmts version ss) end slots ≡ layMembers ss end slots
-unfolding layStmts toStmts layMembers layAll
+unfolding layStmts toStmts layAll
 stmts-laid version [] end slots = refl
 stmts-laid version (s ∷ ss) end slots =
     rw (stmts-at version ss end) (stmts-laid version ss end (layStmt s (firstAt stmtAt ss end) slots))
@@ -591,7 +591,7 @@ module _ (version depth : ℕ) (nums : List ℕ) (at : ℕ) (found : List ℕ)
 
 made-nodes : (version at : ℕ) (found : List ℕ)
     → StmtNodes version at found (λ mid. Made layStmt layParts at found mid)
-unfolding layStmt layParts layMembers layExprs layAll firstAt
+unfolding layStmt layParts layAll firstAt
 made-nodes version at found = record {
   empty-node = record { made = λ end. refl };
   assign-node = λ next p e q h. record { made = λ end. rw q };
@@ -685,35 +685,6 @@ module _ (version depth : ℕ) (nums : List ℕ) (at : ℕ) (found : List ℕ) w
         stmt-member-fault f i q =
             lays-none (readStmt version depth) layStmt nums at f i found last (sym q ∙ stmt-scan-on)
 
--- so many, one after the other
-module _ (version depth count : ℕ) (nums : List ℕ) (at : ℕ) (found : List ℕ) where
-  pub stmts-first : Pending (readStmt version depth) layMembers count nums at found count at found
-  stmts-first = pending-first (readStmt version depth) layMembers count nums at found
-
-  module _ (left next : ℕ) (now : List ℕ)
-      (w : Pending (readStmt version depth) layMembers count nums at found left next now) where
-    pub stmts-none : left ≡ 0 → Lays (repeat count (readStmt version depth)) layMembers nums at found now (Past next)
-    unfolding layMembers
-    stmts-none e = w .rest now (Past next) (all-none stmtAt layStmt (readStmt version depth) nums next left now e)
-
-    pub stmts-past : (end : ℕ) (mid : List ℕ) (a : Scan) → (left ≡ 0 → ⊥)
-        → Lays (readStmt version depth) layStmt nums next now mid a → a ≡ Past end
-        → Pending (readStmt version depth) layMembers count nums at found (left - 1) end mid
-    unfolding layMembers
-    stmts-past end mid a x v p = record {
-      rest = λ last r u. w .rest last r
-          (all-past stmtAt layStmt (readStmt version depth) nums next left (keeps-stmt version depth)
-          (starts-stmt version depth) end
-          now mid last a r r x v p u refl);
-    }
-
-    pub stmts-fault : (f i : ℕ) (mid : List ℕ) (a : Scan) → (left ≡ 0 → ⊥)
-        → Lays (readStmt version depth) layStmt nums next now mid a → a ≡ Fault f i
-        → Lays (repeat count (readStmt version depth)) layMembers nums at found mid (Fault f i)
-    unfolding layMembers
-    stmts-fault f i mid a x v p =
-        w .rest mid (Fault f i) (all-fault stmtAt layStmt (readStmt version depth) nums next left f i now mid a x v p)
-
 pub slot-in : (version depth : ℕ) (nums : List ℕ) (at next operands statements : ℕ) (found mid : List ℕ) (lead : Lead)
     → length nums ≤ mostNumbers → LeadsStmt version depth nums at found mid lead
     → lead ≡ On next operands statements → at < mostNumbers
@@ -734,8 +705,7 @@ pub ruleset stmtSteps = (
   stmt-off,
   slot-in,
   slot-fits,
-  stmts-first,
-  stmts-none,
-  stmts-past,
-  stmts-fault,
+  keeps-stmt,
+  starts-stmt,
+  pendings,
 )

@@ -114,11 +114,11 @@ pub record Made {A B : Type 0} (lay : A → ℕ → List ℕ → List ℕ) (layP
     (found mid : List ℕ) (a : A) (b : B) : Type 0 where
   pub made : (end : ℕ) → lay a end found ≡ set (layParts b end mid) at end
 
-unfoldable pub layExprs : List Expr → ℕ → List ℕ → List ℕ
-layExprs xs end slots = layAll exprAt layExpr xs end slots
+abbrev pub layExprs : List Expr → ℕ → List ℕ → List ℕ
+layExprs = layAll exprAt layExpr
 
-unfoldable pub layMembers : List Stmt → ℕ → List ℕ → List ℕ
-layMembers ss end slots = layAll stmtAt layStmt ss end slots
+abbrev pub layMembers : List Stmt → ℕ → List ℕ → List ℕ
+layMembers = layAll stmtAt layStmt
 
 unfoldable pub readOperands : ℕ → ℕ → ℕ → ℕ → Reader (List Expr)
 readOperands version depth operands statements = repeat operands (readExpr version depth)

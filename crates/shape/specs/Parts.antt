@@ -45,8 +45,8 @@ readFrame version =
     pure (parameters, locals)
 
 -- a table's keys and actions; its default with its arguments
-unfoldable pub layKeys : List Key → ℕ → List ℕ → List ℕ
-layKeys ks end slots = layAll keyAt layKey ks end slots
+abbrev pub layKeys : List Key → ℕ → List ℕ → List ℕ
+layKeys = layAll keyAt layKey
 
 unfoldable pub readChoices : ℕ → Reader (List Key × List Numeral)
 readChoices version =

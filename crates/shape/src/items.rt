@@ -62,15 +62,19 @@ fn item_at(nums: &[u64], version: u64, item: Item, at: usize) -> Scan
 fn items_at(nums: &[u64], version: u64, item: Item, count: u64, at: usize) -> Scan
     ensures { λ r. ⌜ r ≡ repeatScan (itemScan version item (now (nums .entry))) count at ⌝ }
 {
-    if count == 0 {
-        Scan::Past(at)
-    } else {
-        let first = item_at(nums, version, item, at);
-        match first {
-            Scan::Past(next) => items_at(nums, version, item, count - 1, next),
-            Scan::Fault { number, index } => Scan::Fault { number, index },
+    let mut next = at;
+    let mut left = count;
+    while left != 0 {
+        let one = item_at(nums, version, item, next);
+        match one {
+            Scan::Past(end) => {
+                next = end;
+                left -= 1;
+            }
+            Scan::Fault { number, index } => return Scan::Fault { number, index },
         }
     }
+    Scan::Past(next)
 }
 
 // The end of a list of `least` to `most` items: their count, then the items.

@@ -65,27 +65,22 @@ fn parts_at(
     ensures { λ r. ⌜ Walked (partScan version part (now (nums .entry))) count at slot (now (directory .entry)) (now (directory .exit)) r ⌝ }
     ensures { λ r. ⌜ LaysParts version part count (now (nums .entry)) at (now (ends .entry)) (now (ends .exit)) r ⌝ }
 {
-    if count == 0 {
-        Scan::Past(at)
-    } else {
-        directory[slot] = at as u64;
-        let first = part_at(nums, version, part, at, ends);
-        match first {
-            Scan::Past(next) => {
-                parts_at(
-                    nums,
-                    version,
-                    part,
-                    count - 1,
-                    next,
-                    slot + 1,
-                    directory,
-                    ends,
-                )
+    let mut next = at;
+    let mut entry = slot;
+    let mut left = count;
+    while left != 0 {
+        directory[entry] = next as u64;
+        let one = part_at(nums, version, part, next, ends);
+        match one {
+            Scan::Past(end) => {
+                next = end;
+                entry += 1;
+                left -= 1;
             }
-            Scan::Fault { number, index } => Scan::Fault { number, index },
+            Scan::Fault { number, index } => return Scan::Fault { number, index },
         }
     }
+    Scan::Past(next)
 }
 
 // The end of a list of at most so many parts. Its count and where each begins go into the directory, from `slot` on.

@@ -46,15 +46,19 @@ fn keys_at(nums: &[u64], version: u64, count: u64, at: usize, ends: &mut [u64; N
     requires { ⌜ length (now nums) ≤ mostNumbers ⌝ }
     ensures { λ r. ⌜ Lays (repeat count (readKey version)) layKeys (now (nums .entry)) at (now (ends .entry)) (now (ends .exit)) r ⌝ }
 {
-    if count == 0 {
-        Scan::Past(at)
-    } else {
-        let first = key_at(nums, version, at, ends);
-        match first {
-            Scan::Past(next) => keys_at(nums, version, count - 1, next, ends),
-            Scan::Fault { number, index } => Scan::Fault { number, index },
+    let mut next = at;
+    let mut left = count;
+    while left != 0 {
+        let one = key_at(nums, version, next, ends);
+        match one {
+            Scan::Past(end) => {
+                next = end;
+                left -= 1;
+            }
+            Scan::Fault { number, index } => return Scan::Fault { number, index },
         }
     }
+    Scan::Past(next)
 }
 
 // The end of a list of keys.
