@@ -586,5 +586,6 @@ pub slot-fits : (version : ℕ) (nums : List ℕ) (at next operands statements :
 slot-fits version nums at next operands statements lead h l p =
     omega (arith, slot-in version nums at next operands statements lead h l p)
 
-pub ruleset exprSteps =
-    (expr-deep, expr-on, expr-inside, expr-off, keeps-expr, starts-expr, pendings, slot-in, slot-fits)
+pub ruleset exprSteps = (expr-deep, expr-on, expr-inside, expr-off, slot-in, slot-fits)
+
+pub ruleset exprLists = (keeps-expr, starts-expr, pendings)

@@ -697,15 +697,7 @@ pub slot-fits : (version depth : ℕ) (nums : List ℕ) (at next operands statem
 slot-fits version depth nums at next operands statements found mid lead h l p =
     omega (arith, slot-in version depth nums at next operands statements found mid lead h l p)
 
-pub ruleset stmtSteps = (
-  stmt-deep,
-  stmt-on,
-  stmt-operand-fault,
-  stmt-member-fault,
-  stmt-off,
-  slot-in,
-  slot-fits,
-  keeps-stmt,
-  starts-stmt,
-  pendings,
-)
+pub ruleset stmtSteps =
+    (stmt-deep, stmt-on, stmt-operand-fault, stmt-member-fault, stmt-off, slot-in, slot-fits)
+
+pub ruleset stmtLists = (keeps-stmt, starts-stmt, pendings)

@@ -5,7 +5,7 @@ use borrow.Author.Needs.{needs}
 use Rattle.rules.specs.Reading.{readExpr}
 use Rattle.shape.specs.Leads.{layExprs}
 use Rattle.shape.proofs.Lays.{Pending}
-use Rattle.shape.proofs.Exprs.{exprSteps}
+use Rattle.shape.proofs.Exprs.{exprSteps, exprLists}
 use Prim.Native.Nat.{ℕ, _<_}
 use borrow.Fn.Kinds.{In}
 use borrow.Fn.PlainCycle.{Measures, is, falls, and}
@@ -97,31 +97,31 @@ module _ (t : ℕ) where
   scan-expr-returns-4 c = search (exprSteps, needs)
 
   scan-exprs-loop-holds : scan-exprs-lts.Need-loop-holds scan-exprs-claims (scan-exprs-at t) scan-exprs.Post scan-exprs-Inv-loop scan-exprs-μ-loop
-  scan-exprs-loop-holds c = search (exprSteps, needs)
+  scan-exprs-loop-holds c = search (exprLists, needs)
 
   scan-exprs-scan-expr-requires : scan-exprs-lts.Need-scan-expr-requires scan-exprs-claims (scan-exprs-at t) scan-exprs.Post scan-exprs-Inv-loop scan-exprs-μ-loop
-  scan-exprs-scan-expr-requires c κs = search (exprSteps, needs)
+  scan-exprs-scan-expr-requires c κs = search (exprLists, needs)
 
   scan-exprs-enum-known-one : scan-exprs-lts.Need-enum-known-one scan-exprs-claims (scan-exprs-at t) scan-exprs.Post scan-exprs-Inv-loop scan-exprs-μ-loop
-  scan-exprs-enum-known-one c = search (exprSteps, needs)
+  scan-exprs-enum-known-one c = search (exprLists, needs)
 
   scan-exprs-sub-left : scan-exprs-lts.Need-sub-left scan-exprs-claims (scan-exprs-at t) scan-exprs.Post scan-exprs-Inv-loop scan-exprs-μ-loop
-  scan-exprs-sub-left c = search (exprSteps, needs)
+  scan-exprs-sub-left c = search (exprLists, needs)
 
   scan-exprs-loop-less : scan-exprs-lts.Need-loop-less scan-exprs-claims (scan-exprs-at t) scan-exprs.Post scan-exprs-Inv-loop scan-exprs-μ-loop
-  scan-exprs-loop-less c = search (exprSteps, needs)
+  scan-exprs-loop-less c = search (exprLists, needs)
 
   scan-exprs-loop-again : scan-exprs-lts.Need-loop-again scan-exprs-claims (scan-exprs-at t) scan-exprs.Post scan-exprs-Inv-loop scan-exprs-μ-loop
-  scan-exprs-loop-again c = search (exprSteps, needs)
+  scan-exprs-loop-again c = search (exprLists, needs)
 
   scan-exprs-enum-known-one-2 : scan-exprs-lts.Need-enum-known-one-2 scan-exprs-claims (scan-exprs-at t) scan-exprs.Post scan-exprs-Inv-loop scan-exprs-μ-loop
-  scan-exprs-enum-known-one-2 c = search (exprSteps, needs)
+  scan-exprs-enum-known-one-2 c = search (exprLists, needs)
 
   scan-exprs-returns : scan-exprs-lts.Need-returns scan-exprs-claims (scan-exprs-at t) scan-exprs.Post scan-exprs-Inv-loop scan-exprs-μ-loop
-  scan-exprs-returns c = search (exprSteps, needs)
+  scan-exprs-returns c = search (exprLists, needs)
 
   scan-exprs-returns-2 : scan-exprs-lts.Need-returns-2 scan-exprs-claims (scan-exprs-at t) scan-exprs.Post scan-exprs-Inv-loop scan-exprs-μ-loop
-  scan-exprs-returns-2 c = search (exprSteps, needs)
+  scan-exprs-returns-2 c = search (exprLists, needs)
 
 pub +scan-expr+scan-exprs-spec : {M : Type 1} → statement M
 +scan-expr+scan-exprs-spec = close μ-scan-expr μ-scan-exprs (λ t. scan-expr-lts.spec (scan-expr-claims t)

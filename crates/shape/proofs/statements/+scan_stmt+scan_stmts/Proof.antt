@@ -5,7 +5,7 @@ use borrow.Author.Needs.{needs}
 use Rattle.rules.specs.Reading.{readStmt}
 use Rattle.shape.specs.Leads.{layMembers}
 use Rattle.shape.proofs.Lays.{Pending}
-use Rattle.shape.proofs.Stmts.{stmtSteps}
+use Rattle.shape.proofs.Stmts.{stmtSteps, stmtLists}
 use Prim.Native.Nat.{ℕ, _<_}
 use borrow.Fn.Kinds.{In}
 use borrow.Fn.PlainCycle.{Measures, is, falls, and}
@@ -116,31 +116,31 @@ module _ (t : ℕ) where
   scan-stmt-returns-5 c = search (stmtSteps, needs)
 
   scan-stmts-loop-holds : scan-stmts-lts.Need-loop-holds scan-stmts-claims (scan-stmts-at t) scan-stmts.Post scan-stmts-Inv-loop scan-stmts-μ-loop
-  scan-stmts-loop-holds c = search (stmtSteps, needs)
+  scan-stmts-loop-holds c = search (stmtLists, needs)
 
   scan-stmts-scan-stmt-requires : scan-stmts-lts.Need-scan-stmt-requires scan-stmts-claims (scan-stmts-at t) scan-stmts.Post scan-stmts-Inv-loop scan-stmts-μ-loop
-  scan-stmts-scan-stmt-requires c κs = search (stmtSteps, needs)
+  scan-stmts-scan-stmt-requires c κs = search (stmtLists, needs)
 
   scan-stmts-enum-known-one : scan-stmts-lts.Need-enum-known-one scan-stmts-claims (scan-stmts-at t) scan-stmts.Post scan-stmts-Inv-loop scan-stmts-μ-loop
-  scan-stmts-enum-known-one c = search (stmtSteps, needs)
+  scan-stmts-enum-known-one c = search (stmtLists, needs)
 
   scan-stmts-sub-left : scan-stmts-lts.Need-sub-left scan-stmts-claims (scan-stmts-at t) scan-stmts.Post scan-stmts-Inv-loop scan-stmts-μ-loop
-  scan-stmts-sub-left c = search (stmtSteps, needs)
+  scan-stmts-sub-left c = search (stmtLists, needs)
 
   scan-stmts-loop-less : scan-stmts-lts.Need-loop-less scan-stmts-claims (scan-stmts-at t) scan-stmts.Post scan-stmts-Inv-loop scan-stmts-μ-loop
-  scan-stmts-loop-less c = search (stmtSteps, needs)
+  scan-stmts-loop-less c = search (stmtLists, needs)
 
   scan-stmts-loop-again : scan-stmts-lts.Need-loop-again scan-stmts-claims (scan-stmts-at t) scan-stmts.Post scan-stmts-Inv-loop scan-stmts-μ-loop
-  scan-stmts-loop-again c = search (stmtSteps, needs)
+  scan-stmts-loop-again c = search (stmtLists, needs)
 
   scan-stmts-enum-known-one-2 : scan-stmts-lts.Need-enum-known-one-2 scan-stmts-claims (scan-stmts-at t) scan-stmts.Post scan-stmts-Inv-loop scan-stmts-μ-loop
-  scan-stmts-enum-known-one-2 c = search (stmtSteps, needs)
+  scan-stmts-enum-known-one-2 c = search (stmtLists, needs)
 
   scan-stmts-returns : scan-stmts-lts.Need-returns scan-stmts-claims (scan-stmts-at t) scan-stmts.Post scan-stmts-Inv-loop scan-stmts-μ-loop
-  scan-stmts-returns c = search (stmtSteps, needs)
+  scan-stmts-returns c = search (stmtLists, needs)
 
   scan-stmts-returns-2 : scan-stmts-lts.Need-returns-2 scan-stmts-claims (scan-stmts-at t) scan-stmts.Post scan-stmts-Inv-loop scan-stmts-μ-loop
-  scan-stmts-returns-2 c = search (stmtSteps, needs)
+  scan-stmts-returns-2 c = search (stmtLists, needs)
 
 pub +scan-stmt+scan-stmts-spec : {M : Type 1} → statement M
 +scan-stmt+scan-stmts-spec = close μ-scan-stmt μ-scan-stmts (λ t. scan-stmt-lts.spec (scan-stmt-claims t)
