@@ -19,8 +19,10 @@ use Rattle.shape.specs.Walks.{noEnds, readDefined, endsDefined}
 use Rattle.shape.proofs.Lays.{BegunAt, Begins, begins-repeat, begins-list}
 use Rattle.shape.proofs.Exprs.{starts-expr}
 use Rattle.shape.proofs.Stmts.{starts-stmt}
-use Rattle.shape.proofs.Parts.{starts-key, starts-numeral, keeps-choices, begins-default, makeTable, in-two, Frame, makeCallable, readFramed, in-three, keeps-returning, keeps-frame}
-use Rattle.shape.proofs.Starts.{starts-tables, Defined, tree, readRest, endsRest, inThree, three, keeps-declared, keeps-defined, begins-body}
+use Rattle.shape.proofs.Parts.{keeps-returning, keeps-frame}
+use Rattle.shape.proofs.Holders.{starts-key, starts-numeral, keeps-choices, begins-default, makeTable, in-two, Frame, makeCallable, readFramed, in-three}
+use Rattle.shape.proofs.Starts.{starts-tables, begins-body}
+use Rattle.shape.proofs.Programs.{Defined, tree, readRest, endsRest, inThree, three, keeps-declared, keeps-defined}
 use Rattle.shape.proofs.Ended.{OrderedExpr, OrderedStmt, Layer, layer-none, layer-both, layer-wide, layer-expr, layer-stmt, own-expr, own-stmt}
 use Rattle.shape.proofs.Orders.{OrderedGot, orders-expr, orders-stmt}
 

@@ -25,8 +25,10 @@ use Rattle.shape.proofs.Stmts.{StmtNodes, stmt-agrees, stmts-at, starts
 use Rattle.shape.proofs.Stmts as stmts
 use Rattle.shape.proofs.Ended.{own-expr, own-stmt}
 use Rattle.shape.proofs.Orders.{parts-scan}
-use Rattle.shape.proofs.Parts.{makeCallable, readFramed, in-three, keeps-returning, keeps-frame}
-use Rattle.shape.proofs.Starts.{starts-tables, tree, readRest, inThree, three, keeps-declared, keeps-defined, begins-body}
+use Rattle.shape.proofs.Parts.{keeps-returning, keeps-frame}
+use Rattle.shape.proofs.Holders.{makeCallable, readFramed, in-three}
+use Rattle.shape.proofs.Starts.{starts-tables, begins-body}
+use Rattle.shape.proofs.Programs.{tree, readRest, inThree, three, keeps-declared, keeps-defined}
 use Rattle.shape.proofs.Lines.{NoEnded, EndedFramed, EndedDefined, EndedRest, scan-ended}
 
 -- what a reader gives from an index to another, with its ends laid

@@ -1,5 +1,5 @@
 -- What carries it: the laws of the numbers behind a tag.
-use Rattle.shape.proofs.Exprs.{numbers}
+use Rattle.shape.proofs.Tags.{numbers}
 use borrow.Author.Needs.{needs}
 use Rattle.shape.proofs.expressions.bounds_at.Statement.{statement}
 use Rattle.shape.proofs.expressions.bounds_at.Tie as tie

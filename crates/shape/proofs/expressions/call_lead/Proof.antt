@@ -1,5 +1,5 @@
 -- What carries it: the laws of leads.
-use Rattle.shape.proofs.Exprs.{leads}
+use Rattle.shape.proofs.Tags.{leads}
 use borrow.Author.Needs.{needs}
 use Rattle.shape.proofs.expressions.call_lead.Statement.{statement}
 use Rattle.shape.proofs.expressions.call_lead.Tie as tie

@@ -1,6 +1,6 @@
 -- What carries it: the list of tags, number by number.
 use Rattle.shape.specs.Leads.{exprForm, formOf}
-use Rattle.shape.proofs.Exprs.{forms}
+use Rattle.shape.proofs.Tags.{forms}
 use borrow.Author.Needs.{needs}
 use Rattle.shape.proofs.expressions.expr_form.Statement.{statement}
 use Rattle.shape.proofs.expressions.expr_form.Tie as tie

@@ -1,5 +1,5 @@
 -- What carries it: the lead of each form.
-use Rattle.shape.proofs.Exprs.{exprLeads}
+use Rattle.shape.proofs.Tags.{exprLeads}
 use borrow.Author.Needs.{needs}
 use Rattle.shape.proofs.expressions.expr_form_lead.Statement.{statement}
 use Rattle.shape.proofs.expressions.expr_form_lead.Tie as tie

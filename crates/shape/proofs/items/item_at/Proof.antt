@@ -1,5 +1,5 @@
 -- What carries it: the scan of each kind of item.
-use Rattle.shape.proofs.Parts.{kinds}
+use Rattle.shape.proofs.Listings.{kinds}
 use borrow.Author.Needs.{needs}
 use Rattle.shape.proofs.items.item_at.Statement.{statement}
 use Rattle.shape.proofs.items.item_at.Tie as tie

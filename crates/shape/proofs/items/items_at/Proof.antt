@@ -1,6 +1,6 @@
 -- What carries it: what is left of the items scans to what all of them do.
 use Rattle.shape.specs.Parts.{itemScan}
-use Rattle.shape.proofs.Parts.{Remaining, lists}
+use Rattle.shape.proofs.Listings.{Remaining, lists}
 use borrow.Author.Needs.{needs}
 use Rattle.shape.proofs.items.items_at.Statement.{statement}
 use Rattle.shape.proofs.items.items_at.Tie as tie

@@ -1,5 +1,5 @@
 -- What carries it: a list is its count and its members.
-use Rattle.shape.proofs.Parts.{lists}
+use Rattle.shape.proofs.Listings.{lists}
 use borrow.Author.Needs.{needs}
 use Rattle.shape.proofs.items.list_at.Statement.{statement}
 use Rattle.shape.proofs.items.list_at.Tie as tie

@@ -1,5 +1,5 @@
 -- What carries it: the scan of each kind of part.
-use Rattle.shape.proofs.Parts.{kinds}
+use Rattle.shape.proofs.Listings.{kinds}
 use borrow.Author.Needs.{needs}
 use Rattle.shape.proofs.program.part_at.Statement.{statement}
 use Rattle.shape.proofs.program.part_at.Tie as tie

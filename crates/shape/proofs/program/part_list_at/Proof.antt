@@ -1,5 +1,5 @@
 -- What carries it: a list of parts is its count and the parts.
-use Rattle.shape.proofs.Starts.{listWalks}
+use Rattle.shape.proofs.Walking.{listWalks}
 use borrow.Author.Needs.{needs}
 use Rattle.shape.proofs.program.part_list_at.Statement.{statement}
 use Rattle.shape.proofs.program.part_list_at.Tie as tie

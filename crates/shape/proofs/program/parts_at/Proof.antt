@@ -1,6 +1,6 @@
 -- What carries it: what is left of the parts walks and lays what all of them do.
 use Rattle.shape.specs.Parts.{partScan}
-use Rattle.shape.proofs.Starts.{Walking, Laying, walks}
+use Rattle.shape.proofs.Walking.{Walking, Laying, walks}
 use borrow.Author.Needs.{needs}
 use Rattle.shape.proofs.program.parts_at.Statement.{statement}
 use Rattle.shape.proofs.program.parts_at.Tie as tie

@@ -1,5 +1,5 @@
 -- What carries it: the laws of leads.
-use Rattle.shape.proofs.Stmts.{blocks}
+use Rattle.shape.proofs.Targets.{blocks}
 use borrow.Author.Needs.{needs}
 use Rattle.shape.proofs.statements.block_lead.Statement.{statement}
 use Rattle.shape.proofs.statements.block_lead.Tie as tie

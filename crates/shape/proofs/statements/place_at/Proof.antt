@@ -1,5 +1,5 @@
 -- What carries it: what stands behind a target's tag.
-use Rattle.shape.proofs.Stmts.{places}
+use Rattle.shape.proofs.Targets.{places}
 use borrow.Author.Needs.{needs}
 use Rattle.shape.proofs.statements.place_at.Statement.{statement}
 use Rattle.shape.proofs.statements.place_at.Tie as tie

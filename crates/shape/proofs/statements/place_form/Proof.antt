@@ -1,7 +1,7 @@
 -- What carries it: the list of tags, number by number.
 use Rattle.rules.specs.Reading.{placeTagOf}
 use Rattle.shape.specs.Leads.{placeForm, placeFormOf}
-use Rattle.shape.proofs.Stmts.{placeForms}
+use Rattle.shape.proofs.Targets.{placeForms}
 use borrow.Author.Needs.{needs}
 use Rattle.shape.proofs.statements.place_form.Statement.{statement}
 use Rattle.shape.proofs.statements.place_form.Tie as tie

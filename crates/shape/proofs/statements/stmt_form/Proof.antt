@@ -1,6 +1,6 @@
 -- What carries it: the list of tags, number by number.
 use Rattle.shape.specs.Leads.{stmtForm, stmtFormOf}
-use Rattle.shape.proofs.Stmts.{stmtForms}
+use Rattle.shape.proofs.Targets.{stmtForms}
 use borrow.Author.Needs.{needs}
 use Rattle.shape.proofs.statements.stmt_form.Statement.{statement}
 use Rattle.shape.proofs.statements.stmt_form.Tie as tie

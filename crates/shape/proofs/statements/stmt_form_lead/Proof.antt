@@ -1,5 +1,5 @@
 -- What carries it: the lead of each form.
-use Rattle.shape.proofs.Stmts.{stmtLeads}
+use Rattle.shape.proofs.Targets.{stmtLeads}
 use borrow.Author.Needs.{needs}
 use Rattle.shape.proofs.statements.stmt_form_lead.Statement.{statement}
 use Rattle.shape.proofs.statements.stmt_form_lead.Tie as tie

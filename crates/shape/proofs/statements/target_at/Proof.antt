@@ -1,5 +1,5 @@
 -- What carries it: a target is its tag and what stands behind it.
-use Rattle.shape.proofs.Stmts.{targets}
+use Rattle.shape.proofs.Targets.{targets}
 use borrow.Author.Needs.{needs}
 use Rattle.shape.proofs.statements.target_at.Statement.{statement}
 use Rattle.shape.proofs.statements.target_at.Tie as tie

@@ -1,5 +1,5 @@
 -- What carries it: a target that reads is inside the list.
-use Rattle.shape.proofs.Stmts.{targetLeads}
+use Rattle.shape.proofs.Targets.{targetLeads}
 use borrow.Author.Needs.{needs}
 use Rattle.shape.proofs.statements.target_lead.Statement.{statement}
 use Rattle.shape.proofs.statements.target_lead.Tie as tie

@@ -2,7 +2,7 @@
 use Rattle.rules.specs.Reading.{readKey}
 use Rattle.shape.specs.Parts.{layKeys}
 use Rattle.shape.proofs.Lays.{Pending}
-use Rattle.shape.proofs.Parts.{keys}
+use Rattle.shape.proofs.Holders.{keys}
 use borrow.Author.Needs.{needs}
 use Rattle.shape.proofs.tables.keys_at.Statement.{statement}
 use Rattle.shape.proofs.tables.keys_at.Tie as tie
