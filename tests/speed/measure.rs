@@ -13,12 +13,7 @@ const RUNS: usize = 400;
 
 extern "C" {
     fn nentuvar_read(bytes: *const u8, length: usize, slots: *mut u64, count: usize) -> usize;
-    fn nentuvar_scan(
-        nums: *const u64,
-        count: usize,
-        directory: *mut [u64; SLOTS],
-        ends: *mut [u64; MOST],
-    ) -> usize;
+    fn nentuvar_scan(nums: *const u64, count: usize, directory: *mut [u64; SLOTS], ends: *mut [u64; MOST]) -> usize;
 }
 
 /// How many numbers the bytes hold, read into the slots.
