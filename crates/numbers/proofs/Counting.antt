@@ -4,17 +4,17 @@ use mathlib.Core.Path.{_≡_, refl, sym, _∙_}
 use Prim.Native.Nat.{ℕ, suc, _+_, _<_, _≤_}
 use native.Mathlib.Nat.{add-zero, zero-add}
 use native.Mathlib.Omega.{arith}
-use lib.ListN.{length, drop}
+use lib.ListN.{length, drop, getD}
 use Rattle.rules.specs.declared.ReadAnswer.{ReadAnswer}
 use Rattle.rules.specs.declared.ReadAnswer.the-variants.{Count}
 use Rattle.rules.specs.Numbers.{Stream, numbers, broken, withFirst, streamFrom, mostBytes}
 use Rattle.rules.specs.Answers.{ofRead, withRoom, readStream, readSays}
 use Rattle.rules.proofs.Codec.{stream-sized, stream-empty, stream-long}
 use Rattle.numbers.specs.declared.Number.{Number}
-use Rattle.numbers.specs.declared.Number.the-variants.{Whole, End, Cut, Wrong}
+use Rattle.numbers.specs.declared.Number.the-variants.{Whole, Cut, Wrong}
 use Rattle.numbers.specs.Parts.{streamAt, NumberAt}
 use Rattle.numbers.proofs.Room.{room-told, room-refused}
-use Rattle.numbers.proofs.Within.{number-ahead}
+use Rattle.numbers.proofs.Within.{stream-none, number-one, number-ahead}
 
 -- the answer for a stream behind so many numbers
 pub answerBehind : ℕ → Stream → ℕ → List ℕ
@@ -61,11 +61,6 @@ module _ (bytes : List ℕ) (room count at : ℕ) (c : Counting bytes room count
         ofRead a ≡ readStream (streamFrom 0 0 0 bytes) room
     answered says = says ∙ rw (found .reads) at (c .leads)
 
-    pub counting-end : r ≡ End → ofRead a ≡ withRoom count room (1 ∷ count ∷ []) →
-        ofRead a ≡ readStream (streamFrom 0 0 0 bytes) room
-    unfolding streamAt answerBehind
-    counting-end e says = answered (rw (e, add-zero count) says)
-
     pub counting-cut : r ≡ Cut → ofRead a ≡ 0 ∷ 2 ∷ at ∷ [] → ofRead a ≡ readStream (streamFrom 0 0 0 bytes) room
     unfolding streamAt answerBehind
     counting-cut e says = answered (rw e says)
@@ -73,6 +68,17 @@ module _ (bytes : List ℕ) (room count at : ℕ) (c : Counting bytes room count
     pub counting-wrong : r ≡ Wrong → ofRead a ≡ 0 ∷ 3 ∷ at ∷ [] → ofRead a ≡ readStream (streamFrom 0 0 0 bytes) room
     unfolding streamAt answerBehind
     counting-wrong e says = answered (rw e says)
+
+module _ (bytes : List ℕ) (room count at : ℕ) (c : Counting bytes room count at) where
+  pub counting-one : at < length bytes → getD bytes at 0 < 128 → Counting bytes room (count + 1) (at + 1)
+  counting-one inside small =
+      let byte : ℕ = getD bytes at 0 in
+      counting-more bytes room count at c (Whole byte (at + 1)) (number-one bytes at inside small) byte (at + 1) refl
+
+  pub counting-end : (a : ReadAnswer) → length bytes ≤ at → ofRead a ≡ withRoom count room (1 ∷ count ∷ []) →
+      ofRead a ≡ readStream (streamFrom 0 0 0 bytes) room
+  unfolding answerBehind
+  counting-end a end says = says ∙ rw (stream-none bytes at end, add-zero count) at (c .leads)
 
 -- the tests behind the count and before it
 pub count-room : (count room : ℕ) → count ≤ room → ofRead (Count count) ≡ withRoom count room (1 ∷ count ∷ [])
@@ -100,6 +106,7 @@ module _ (bytes : List ℕ) (room : ℕ) (a : ReadAnswer) where
 pub ruleset counts = (
   counting-start,
   number-ahead,
+  counting-one,
   counting-more,
   counting-end,
   counting-cut,

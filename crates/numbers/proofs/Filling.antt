@@ -4,16 +4,16 @@ use mathlib.Core.Path.{_≡_, refl, sym, _∙_}
 use Prim.Native.Nat.{ℕ, _+_, _<_, _≤_}
 use native.Mathlib.Numerals.{add-one}
 use native.Mathlib.Omega.{arith}
-use lib.ListN.{length, drop, set, length-set}
+use lib.ListN.{length, drop, getD, set, length-set}
 use lib.Seq.{sets}
-use Rattle.rules.specs.Numbers.{Stream, numbers, streamFrom}
+use Rattle.rules.specs.Numbers.{Stream, numbers, broken, streamFrom}
 use Rattle.rules.specs.Answers.{leftByStream, readLeaves}
 use Rattle.rules.proofs.Codec.{stream-reads, First, first-is, first-of}
 use Rattle.numbers.specs.declared.Number.{Number}
-use Rattle.numbers.specs.declared.Number.the-variants.{Whole, End, Cut, Wrong}
+use Rattle.numbers.specs.declared.Number.the-variants.{Whole, Cut, Wrong}
 use Rattle.numbers.specs.Parts.{streamAt, NumberAt, Readable, readable}
 use Rattle.numbers.proofs.Room.{filled-stored}
-use Rattle.numbers.proofs.Within.{number-ahead}
+use Rattle.numbers.proofs.Within.{stream-none, number-one, number-ahead}
 
 -- the numbers `rest` are still to be stored, from slot `index` on
 pub record Filling (bytes slots₀ slots : List ℕ) (index at : ℕ) : Type 0 where
@@ -33,14 +33,6 @@ filling-start bytes slots (readable ns r h) =
       same = refl;
       leads = filled-stored ns slots h ∙ sym (rw r);
     }
-
-none-left : (bytes : List ℕ) (at : ℕ) (r : Number) (rest : List ℕ) → ((value next : ℕ) → r ≡ Whole value next → ⊥) →
-    streamAt bytes at r ≡ numbers rest → rest ≡ []
-unfolding streamAt
-none-left bytes at (Whole value next) rest n e = absurd (n value next refl)
-none-left bytes at End rest n e = cc
-none-left bytes at Cut rest n e = let z : _≡_ {A = ℕ} 0 1 = cc in absurd (omega arith)
-none-left bytes at Wrong rest n e = let z : _≡_ {A = ℕ} 0 1 = cc in absurd (omega arith)
 
 module _ (bytes slots₀ slots : List ℕ) (index at : ℕ) (f : Filling bytes slots₀ slots index at)
     (r : Number) (found : NumberAt bytes at r) where
@@ -72,7 +64,47 @@ module _ (bytes slots₀ slots : List ℕ) (index at : ℕ) (f : Filling bytes s
               leads = rw (add-one index) (rw v at leads);
             }
 
-  pub filling-done : ((value next : ℕ) → r ≡ Whole value next → ⊥) → slots ≡ readLeaves bytes slots₀
-  filling-done n = rw (none-left bytes at r (f .rest) n (sym (found .reads) ∙ f .reads)) at (f .leads)
+  -- what is cut off or wrong is no number of a stream that reads
+  pub filling-cut : r ≡ Cut → slots ≡ readLeaves bytes slots₀
+  unfolding streamAt
+  filling-cut e =
+      let never : broken 2 at ≡ numbers (f .rest) = sym (found .reads ∙ rw e) ∙ f .reads in
+      let z : _≡_ {A = ℕ} 0 1 = cc in absurd (omega arith)
 
-pub ruleset fillings = (filling-start, filling-room, filling-more, number-ahead)
+  pub filling-wrong : r ≡ Wrong → slots ≡ readLeaves bytes slots₀
+  unfolding streamAt
+  filling-wrong e =
+      let never : broken 3 at ≡ numbers (f .rest) = sym (found .reads ∙ rw e) ∙ f .reads in
+      let z : _≡_ {A = ℕ} 0 1 = cc in absurd (omega arith)
+
+module _ (bytes slots₀ slots : List ℕ) (index at : ℕ) (f : Filling bytes slots₀ slots index at) where
+  module _ (inside : at < length bytes) (small : getD bytes at 0 < 128) where
+    abbrev byte : ℕ
+    byte = getD bytes at 0
+
+    one : NumberAt bytes at (Whole byte (at + 1))
+    one = number-one bytes at inside small
+
+    pub filling-one-room : index < length slots
+    filling-one-room = filling-room bytes slots₀ slots index at f (Whole byte (at + 1)) one byte (at + 1) refl
+
+    pub filling-one : Filling bytes slots₀ (set slots index (getD bytes at 0)) (index + 1) (at + 1)
+    filling-one = filling-more bytes slots₀ slots index at f (Whole byte (at + 1)) one byte (at + 1) refl
+
+  pub filling-done : length bytes ≤ at → slots ≡ readLeaves bytes slots₀
+  filling-done end =
+      let none : numbers [] ≡ numbers (f .rest) = sym (stream-none bytes at end) ∙ f .reads in
+      let nothing : f .rest ≡ [] = cc in
+      rw nothing at (f .leads)
+
+pub ruleset fillings = (
+  filling-start,
+  filling-one-room,
+  filling-one,
+  filling-room,
+  filling-more,
+  filling-cut,
+  filling-wrong,
+  filling-done,
+  number-ahead,
+)

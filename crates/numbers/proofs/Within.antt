@@ -1,5 +1,5 @@
 -- Reading one number byte by byte: what was read so far, and that no sum or product on the way passes 2^64.
-use mathlib.Core.List.{List, _∷_}
+use mathlib.Core.List.{List, [], _∷_}
 use mathlib.Core.Logic.{⊎-elim}
 use mathlib.Core.Path.{_≡_, refl, sym, ap, _∙_}
 use Prim.Native.Nat.{ℕ, zero, suc, _+_, _-_, _*_, _^_, _<_, _≤_}
@@ -11,12 +11,12 @@ use lib.ListN.{length, drop, getD, drop-of-length-le}
 use lib.Seq.{drop-cons}
 use mir.Syntax.{w8, w64}
 use mir.Val.{Fits}
-use Rattle.rules.specs.Numbers.{more, last, broken, endAt, streamFrom, groupOf}
-use Rattle.rules.proofs.Codec.{ByteIs, is-more, is-last, is-wrong, byte-is, stream-more, stream-last, stream-wrong}
+use Rattle.rules.specs.Numbers.{more, last, numbers, broken, endAt, streamFrom, groupOf}
+use Rattle.rules.proofs.Codec.{ends-first, group-ends, ByteIs, is-more, is-last, is-wrong, byte-is, stream-more, stream-last, stream-wrong}
 use Rattle.numbers.specs.declared.Group.{Group}
 use Rattle.numbers.specs.declared.Group.the-variants as group
 use Rattle.numbers.specs.declared.Number.{Number}
-use Rattle.numbers.specs.declared.Number.the-variants.{Whole, End, Cut, Wrong}
+use Rattle.numbers.specs.declared.Number.the-variants.{Whole, Cut, Wrong}
 use Rattle.numbers.specs.Parts.{ofGroup, streamAt, NumberAt}
 
 -- in the number that begins at `place`: the bytes before `at` give `value`, and the next group counts `weight` times
@@ -150,28 +150,35 @@ unfolding endAt
 cut-at place zero n = absurd (n refl)
 cut-at place (suc before) n = refl
 
+pub stream-none : (bytes : List ℕ) (at : ℕ) → length bytes ≤ at → streamFrom at 0 0 (drop at bytes) ≡ numbers []
+unfolding streamFrom endAt
+stream-none bytes at end = rw (drop-of-length-le bytes end)
+
 module _ (bytes : List ℕ) (place at value weight : ℕ) (w : Within bytes place at value weight)
-    (end : length bytes ≤ at) where
+    (inside : place < length bytes) (end : length bytes ≤ at) where
   leads-end : streamFrom place 0 0 (drop place bytes) ≡ endAt place (at - place)
   unfolding streamFrom
   leads-end = sym (w .leads) ∙ rw (drop-of-length-le bytes end)
 
-  pub number-end : at ≡ place → NumberAt bytes place End
-  unfolding streamAt endAt
-  number-end e =
-      let none : at - place ≡ 0 = omega arith in
+  pub number-cut : NumberAt bytes place Cut
+  unfolding streamAt
+  number-cut =
       record {
-        reads = leads-end ∙ rw none;
+        reads = leads-end ∙ cut-at place (at - place) (λ none. omega arith);
         on = λ v n q. let z : _≡_ {A = ℕ} 0 1 = cc in absurd (omega arith);
       }
 
-  pub number-cut : (at ≡ place → ⊥) → NumberAt bytes place Cut
-  unfolding streamAt
-  number-cut n =
-      record {
-        reads = leads-end ∙ cut-at place (at - place) (λ none. n (omega arith));
-        on = λ v n q. let z : _≡_ {A = ℕ} 0 1 = cc in absurd (omega arith);
-      }
+-- a byte below 128 where a number begins is all of it
+pub number-one : (bytes : List ℕ) (place : ℕ) → place < length bytes → getD bytes place 0 < 128
+    → NumberAt bytes place (Whole (getD bytes place 0) (place + 1))
+unfolding ofGroup
+number-one bytes place inside small =
+    let byte : ℕ = getD bytes place 0 in
+    let first : place - place ≡ 0 = omega arith in
+    let says : last byte ≡ groupOf (place - place) byte
+    = sym (group-ends (place - place) byte (omega arith) small ∙ ends-first (place - place) byte first) in
+    let value : 0 + byte * 1 ≡ byte = omega arith in
+    rw value at (number-whole bytes place place 0 1 (within-start bytes place) inside (group.Last byte) says byte refl)
 
 -- behind a whole number fewer bytes are left
 pub number-ahead : (bytes : List ℕ) (place : ℕ) (r : Number) → NumberAt bytes place r →
@@ -188,6 +195,5 @@ pub ruleset withins = (
   last-sum,
   number-whole,
   number-wrong,
-  number-end,
   number-cut,
 )

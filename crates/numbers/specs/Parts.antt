@@ -1,6 +1,6 @@
 -- What the parts of reading and writing find and leave. No promise cites this page.
 use Prim.Native.Nat.{ℕ, _+_, _<_, _≤_}
-use mathlib.Core.List.{List, []}
+use mathlib.Core.List.{List}
 use mathlib.Core.Path.{_≡_}
 use lib.ListN.{length, drop}
 use lib.Seq.{sets}
@@ -21,7 +21,6 @@ ofGroup Wrong = wrong
 -- the stream from a place on where a number begins, by what stands there
 unfoldable pub streamAt : List ℕ → ℕ → Number → Stream
 streamAt bytes place (number.Whole value next) = withFirst value (streamFrom next 0 0 (drop next bytes))
-streamAt bytes place number.End = numbers []
 streamAt bytes place number.Cut = broken 2 place
 streamAt bytes place number.Wrong = broken 3 place
 

@@ -4,7 +4,7 @@ use rules::Refusal;
 use rules::WriteAnswer;
 ghost use mathlib.Core.Path.{_≡_};
 ghost use mathlib.Core.List.{_∷_, []};
-ghost use Prim.Native.Nat.{_+_, _≤_};
+ghost use Prim.Native.Nat.{_+_, _<_, _≤_};
 ghost use lib.ListN.{length};
 ghost use Rattle.rules.specs.Numbers.{groupOf, tenth, endsWith, streamFrom, bytesOfNumber, bytesOf, placeOf};
 ghost use Rattle.rules.specs.Answers.{withRoom, ofRead, readStream, readSays, readLeaves};
@@ -22,10 +22,9 @@ enum Group {
     Wrong,
 }
 
-// What stands where a number begins: a number and where the next one begins, the end, or one that is cut off or wrong.
+// What stands where a number begins: a number and where the next one begins, or one that is cut off or wrong.
 enum Number {
     Whole { value: u64, next: usize },
-    End,
     Cut,
     Wrong,
 }
@@ -57,23 +56,29 @@ fn count(bytes: &[u8], room: usize) -> ReadAnswer
     }
 }
 
-// The same for bytes of which there are neither too few nor too many.
+// The same for bytes of which there are neither too few nor too many. Most numbers are of one byte.
 fn count_numbers(bytes: &[u8], room: usize) -> ReadAnswer
     ensures { λ r. ⌜ ofRead r ≡ readStream (streamFrom 0 0 0 (now (bytes .entry))) room ⌝ }
 {
     let mut count = 0;
     let mut at = 0;
-    loop {
+    while at < bytes.len() {
+        let byte = bytes[at];
+        if byte < 128 {
+            count += 1;
+            at += 1;
+            continue;
+        }
         match number_at(bytes, at) {
             Number::Whole { value: _, next } => {
                 count += 1;
                 at = next;
             }
-            Number::End => return counted(count, room),
             Number::Cut => return unread(2, at),
             Number::Wrong => return unread(3, at),
         }
     }
+    counted(count, room)
 }
 
 // So many numbers, or 13 where that is more than there is room for.
@@ -101,18 +106,29 @@ fn fill(bytes: &[u8], slots: &mut [u64])
 {
     let mut index = 0;
     let mut at = 0;
-    loop {
-        let Number::Whole { value, next } = number_at(bytes, at) else {
-            return;
-        };
-        slots[index] = value;
-        index += 1;
-        at = next;
+    while at < bytes.len() {
+        let byte = bytes[at];
+        if byte < 128 {
+            slots[index] = byte as u64;
+            index += 1;
+            at += 1;
+            continue;
+        }
+        match number_at(bytes, at) {
+            Number::Whole { value, next } => {
+                slots[index] = value;
+                index += 1;
+                at = next;
+            }
+            Number::Cut => return,
+            Number::Wrong => return,
+        }
     }
 }
 
-// The number that begins at a place.
+// The number that begins at a place within the bytes.
 fn number_at(bytes: &[u8], place: usize) -> Number
+    requires { ⌜ place < length (now bytes) ⌝ }
     ensures { λ r. ⌜ NumberAt (now (bytes .entry)) place r ⌝ }
 {
     let mut at = place;
@@ -134,11 +150,7 @@ fn number_at(bytes: &[u8], place: usize) -> Number
         }
         at += 1;
     }
-    if at == place {
-        Number::End
-    } else {
-        Number::Cut
-    }
+    Number::Cut
 }
 
 // A byte, behind so many others of its number.

@@ -3,14 +3,14 @@ use mathlib.Core.Path.{_≡_}
 use mathlib.Core.List.{List, [], _∷_}
 use Prim.Native.Nat.{ℕ, _+_, _<_, _≤_}
 use lib.ListN.{length, drop}
-use Rattle.rules.specs.Reading.{Got, got, bad, Reader, andThen, _>>=_, pure, number, between, repeat, listOf}
+use Rattle.rules.specs.Reading.{Got, got, bad, Reader, andThen, _>>=_, pure, number, between, repeat, listOf, mostArguments, mostMembers}
 use Rattle.rules.proofs.Readers.{Kept, Keeps, keeps-number, keeps-between, keeps-repeat, Given, Gives}
 use Rattle.shape.specs.Scans.{forget, scanOf}
 use Rattle.shape.specs.Leads.{valued, valueOf, leadBy, argumentsLead, callLead, blockLead, Agree, AgreeOn, Tagged}
 use Rattle.shape.specs.declared.Scan.{Scan}
 use Rattle.shape.specs.declared.Scan.the-variants.{Past, Fault}
-use Rattle.shape.specs.declared.Lead.{Lead}
-use Rattle.shape.specs.declared.Lead.the-variants.{On, Off}
+use Rattle.shape.specs.declared.expressions.Lead.{Lead}
+use Rattle.shape.specs.declared.expressions.Lead.the-variants.{On, Off}
 
 pub record Alike {A B : Type 0} (P : A → B → Type 0) (read : Reader A) (parts : Reader B) : Type 0 where
   pub alike : (left : List ℕ) (at : ℕ) → Agree P (read left at) (parts left at)
@@ -124,9 +124,11 @@ module _ {A B : Type 0} (P : A → B → Type 0) (parts : ℕ → ℕ → Reader
   -- a count, and so many parts
   pub agree-arguments : {C : Type 0} (one : Reader C) (k : List C → Reader A)
       → ((n : ℕ) → Alike P (repeat n one >>= k) (parts n 0))
-      → AgreeOn P ((listOf 0 8 one >>= k) (drop at nums) at) parts nums (argumentsLead (valueOf 0 8 nums at))
+      → AgreeOn P ((listOf 0 mostArguments one >>= k) (drop at nums) at) parts nums
+      (argumentsLead (valueOf 0 mostArguments nums at))
   unfolding AgreeOn argumentsLead valueOf valued listOf _>>=_ andThen Kept
-  agree-arguments {C} one k g = go (between 0 8 (drop at nums) at) (keeps-between 0 8 .kept nums at)
+  agree-arguments {C} one k g = go (between 0 mostArguments (drop at nums) at)
+      (keeps-between 0 mostArguments .kept nums at)
     where
       go : (x : Got ℕ) → Kept nums at x
           → AgreeOn P (andThen (andThen x (λ n. repeat n one)) k) parts nums (argumentsLead (valued x))
@@ -135,9 +137,10 @@ module _ {A B : Type 0} (P : A → B → Type 0) (parts : ℕ → ℕ → Reader
 
   pub agree-members : {C : Type 0} (one : Reader C) (k : List C → Reader A)
       → ((n : ℕ) → Alike P (repeat n one >>= k) (parts 0 n))
-      → AgreeOn P ((listOf 0 64 one >>= k) (drop at nums) at) parts nums (blockLead (valueOf 0 64 nums at))
+      → AgreeOn P ((listOf 0 mostMembers one >>= k) (drop at nums) at) parts nums
+      (blockLead (valueOf 0 mostMembers nums at))
   unfolding AgreeOn blockLead valueOf valued listOf _>>=_ andThen Kept
-  agree-members {C} one k g = go (between 0 64 (drop at nums) at) (keeps-between 0 64 .kept nums at)
+  agree-members {C} one k g = go (between 0 mostMembers (drop at nums) at) (keeps-between 0 mostMembers .kept nums at)
     where
       go : (x : Got ℕ) → Kept nums at x
           → AgreeOn P (andThen (andThen x (λ n. repeat n one)) k) parts nums (blockLead (valued x))
@@ -147,13 +150,13 @@ module _ {A B : Type 0} (P : A → B → Type 0) (parts : ℕ → ℕ → Reader
 pub agree-call : {A B C : Type 0} (P : A → B → Type 0) (parts : ℕ → ℕ → Reader B) (nums : List ℕ) (at : ℕ)
     (one : Reader C) (k : ℕ → List C → Reader A)
     → ((f n : ℕ) → Alike P (repeat n one >>= k f) (parts n 0))
-    → AgreeOn P ((number >>= λ f. listOf 0 8 one >>= k f) (drop at nums) at) parts nums
+    → AgreeOn P ((number >>= λ f. listOf 0 mostArguments one >>= k f) (drop at nums) at) parts nums
     (callLead nums (scanOf number nums at))
 unfolding callLead scanOf forget _>>=_ andThen Kept AgreeOn
 agree-call {A} {B} {C} P parts nums at one k g = go (number (drop at nums) at) (keeps-number .kept nums at)
   where
     go : (x : Got ℕ) → Kept nums at x
-        → AgreeOn P (andThen x (λ f. listOf 0 8 one >>= k f)) parts nums (callLead nums (forget x))
+        → AgreeOn P (andThen x (λ f. listOf 0 mostArguments one >>= k f)) parts nums (callLead nums (forget x))
     go (got f left next) l = rw (l .rest) (agree-arguments P parts nums next one (k f) (g f))
     go (bad fault index) l = tt
 

@@ -87,7 +87,8 @@ layer-own {from} {end} {lay} at h a = record {
   );
 }
 
-pub layer-wide : {from end : ℕ} {lay : List ℕ → List ℕ} {E : List ℕ → Type 0} (at : ℕ) → at ≤ from → Layer from end lay E
+pub layer-wide : {from end : ℕ} {lay : List ℕ → List ℕ} {E : List ℕ → Type 0} (at : ℕ) → at ≤ from
+    → Layer from end lay E
     → Layer at end lay E
 layer-wide {from} {end} {lay} at h a = record {
   order = omega (arith, a .order);
@@ -153,7 +154,8 @@ mutual
       layer-own at (h .0) (layer-both (layer-expr a (exprAt b) (h .1 .0)) (layer-expr b end (h .1 .1)))
   layer-expr (callExpr at f xs) end h = layer-own at (h .0) (layer-args xs end (h .1))
 
-  pub layer-args : (xs : Args) (end : ℕ) → OrderedArgs xs end → Layer (argsAt xs end) end (layArgs xs end) (EndedArgs xs end)
+  pub layer-args : (xs : Args) (end : ℕ) → OrderedArgs xs end
+      → Layer (argsAt xs end) end (layArgs xs end) (EndedArgs xs end)
   layer-args noArgs end h = layer-none end
   layer-args (arg e es) end h = layer-both (layer-expr e (argsAt es end) (h .0)) (layer-args es end (h .1))
 

@@ -7,9 +7,9 @@ use native.Mathlib.Nat.{add-zero, add-suc, suc-add}
 use lib.ListN.{length, getD, set, length-set, length-map}
 use lib.Seq.{sets, length-sets, getD-set-same, getD-set-other}
 use Rattle.rules.specs.Syntax.{Program}
-use Rattle.rules.specs.Reading.{got, readProgram, readAfterVersion}
+use Rattle.rules.specs.Reading.{got, readProgram, readAfterVersion, mostHeaders, mostGlobals, mostCallables, mostTables}
 use Rattle.rules.proofs.Readers.{Given, Gives, gives-then, gives-with, gives-pure, gives-list}
-use Rattle.shape.specs.Directory.{stmtAt, listed, declared, defined, directoryOf}
+use Rattle.shape.specs.Directory.{stmtAt, listed, declared, defined, directoryOf, headersSlot, globalsSlot, callablesSlot, tablesSlot, bodySlot, endSlot, slotCount}
 
 -- stores one after the other leave what is below them, and put each value in its slot
 sets-below : (vs l : List ℕ) (i j : ℕ) → j < i → getD (sets l i vs) j 0 ≡ getD l j 0
@@ -46,33 +46,37 @@ module _ (slots : List ℕ) (slot : ℕ) (begins : List ℕ) where
 
 -- a program's lists are no longer than the directory has room for
 record Bounded (p : Program) : Type 0 where
-  pub headers : length (p .headers) ≤ 8
-  pub globals : length (p .globals) ≤ 32
-  pub callables : length (p .callables) ≤ 16
-  pub tables : length (p .tables) ≤ 8
+  pub headers : length (p .headers) ≤ mostHeaders
+  pub globals : length (p .globals) ≤ mostGlobals
+  pub callables : length (p .callables) ≤ mostCallables
+  pub tables : length (p .tables) ≤ mostTables
 
 gives-bounded : Gives Bounded readProgram
 unfolding readProgram readAfterVersion
-gives-bounded = gives-then _ λ version. gives-with (gives-list 0 8 _) λ hs h. gives-with (gives-list 0 32 _) λ gs g.
-    gives-with (gives-list 0 16 _) λ cs c. gives-with (gives-list 0 8 _) λ ts t. gives-then _ λ body.
+gives-bounded = gives-then _ λ version. gives-with (gives-list 0 mostHeaders _) λ hs h.
+    gives-with (gives-list 0 mostGlobals _) λ gs g. gives-with (gives-list 0 mostCallables _) λ cs c.
+    gives-with (gives-list 0 mostTables _) λ ts t. gives-then _ λ body.
     gives-pure _ _ (record { headers = h; globals = g; callables = c; tables = t })
 
 -- the directory of a program
 pub record Entries (p : Program) (end : ℕ) (slots : List ℕ) : Type 0 where
-  pub headers : getD slots 0 0 ≡ length (p .headers)
-  pub header : (i : ℕ) → i < length (p .headers) → getD slots (1 + i) 0 ≡ getD (map (λ h. h .at) (p .headers)) i 0
-  pub globals : getD slots 9 0 ≡ length (p .globals)
-  pub global : (i : ℕ) → i < length (p .globals) → getD slots (10 + i) 0 ≡ getD (map (λ g. g .at) (p .globals)) i 0
-  pub callables : getD slots 42 0 ≡ length (p .callables)
+  pub headers : getD slots headersSlot 0 ≡ length (p .headers)
+  pub header : (i : ℕ) → i < length (p .headers)
+      → getD slots (headersSlot + 1 + i) 0 ≡ getD (map (λ h. h .at) (p .headers)) i 0
+  pub globals : getD slots globalsSlot 0 ≡ length (p .globals)
+  pub global : (i : ℕ) → i < length (p .globals)
+      → getD slots (globalsSlot + 1 + i) 0 ≡ getD (map (λ g. g .at) (p .globals)) i 0
+  pub callables : getD slots callablesSlot 0 ≡ length (p .callables)
   pub callable : (i : ℕ) → i < length (p .callables)
-      → getD slots (43 + i) 0 ≡ getD (map (λ c. c .at) (p .callables)) i 0
-  pub tables : getD slots 59 0 ≡ length (p .tables)
-  pub table : (i : ℕ) → i < length (p .tables) → getD slots (60 + i) 0 ≡ getD (map (λ t. t .at) (p .tables)) i 0
-  pub body : getD slots 68 0 ≡ stmtAt (p .body)
-  pub ending : getD slots 69 0 ≡ end
+      → getD slots (callablesSlot + 1 + i) 0 ≡ getD (map (λ c. c .at) (p .callables)) i 0
+  pub tables : getD slots tablesSlot 0 ≡ length (p .tables)
+  pub table : (i : ℕ) → i < length (p .tables)
+      → getD slots (tablesSlot + 1 + i) 0 ≡ getD (map (λ t. t .at) (p .tables)) i 0
+  pub body : getD slots bodySlot 0 ≡ stmtAt (p .body)
+  pub ending : getD slots endSlot 0 ≡ end
 
 -- list by list: each is left alone by those laid after it, in higher slots
-module _ (p : Program) (end : ℕ) (slots : List ℕ) (room : length slots ≡ 70) (few : Bounded p) where
+module _ (p : Program) (end : ℕ) (slots : List ℕ) (room : length slots ≡ slotCount) (few : Bounded p) where
   abbrev hs : List ℕ
   hs = map (λ h. h .at) (p .headers)
 
@@ -85,90 +89,94 @@ module _ (p : Program) (end : ℕ) (slots : List ℕ) (room : length slots ≡ 7
   abbrev ts : List ℕ
   ts = map (λ t. t .at) (p .tables)
 
-  h : length hs ≤ 8
+  h : length hs ≤ mostHeaders
   h = rw (length-map (p .headers) (λ h. h .at)) (few .headers)
 
-  g : length gs ≤ 32
+  g : length gs ≤ mostGlobals
   g = rw (length-map (p .globals) (λ g. g .at)) (few .globals)
 
-  c : length cs ≤ 16
+  c : length cs ≤ mostCallables
   c = rw (length-map (p .callables) (λ c. c .at)) (few .callables)
 
-  t : length ts ≤ 8
+  t : length ts ≤ mostTables
   t = rw (length-map (p .tables) (λ t. t .at)) (few .tables)
 
   abbrev s₁ : List ℕ
-  s₁ = listed slots 0 hs
+  s₁ = listed slots headersSlot hs
 
   abbrev s₂ : List ℕ
-  s₂ = listed s₁ 9 gs
+  s₂ = listed s₁ globalsSlot gs
 
   abbrev s₃ : List ℕ
-  s₃ = listed s₂ 42 cs
+  s₃ = listed s₂ callablesSlot cs
 
   abbrev s₄ : List ℕ
-  s₄ = listed s₃ 59 ts
+  s₄ = listed s₃ tablesSlot ts
 
   abbrev all : List ℕ
-  all = sets s₄ 68 (stmtAt (p .body) ∷ end ∷ [])
+  all = sets s₄ bodySlot (stmtAt (p .body) ∷ end ∷ [])
 
-  room₁ : length s₁ ≡ 70
-  room₁ = listed-length slots 0 hs ∙ room
+  room₁ : length s₁ ≡ slotCount
+  room₁ = listed-length slots headersSlot hs ∙ room
 
-  room₂ : length s₂ ≡ 70
-  room₂ = listed-length s₁ 9 gs ∙ room₁
+  room₂ : length s₂ ≡ slotCount
+  room₂ = listed-length s₁ globalsSlot gs ∙ room₁
 
-  room₃ : length s₃ ≡ 70
-  room₃ = listed-length s₂ 42 cs ∙ room₂
+  room₃ : length s₃ ≡ slotCount
+  room₃ = listed-length s₂ callablesSlot cs ∙ room₂
 
-  room₄ : length s₄ ≡ 70
-  room₄ = listed-length s₃ 59 ts ∙ room₃
+  room₄ : length s₄ ≡ slotCount
+  room₄ = listed-length s₃ tablesSlot ts ∙ room₃
 
-  kept₄ : (j : ℕ) → j < 68 → getD all j 0 ≡ getD s₄ j 0
-  kept₄ j l = sets-below (stmtAt (p .body) ∷ end ∷ []) s₄ 68 j l
+  kept₄ : (j : ℕ) → j < bodySlot → getD all j 0 ≡ getD s₄ j 0
+  kept₄ j l = sets-below (stmtAt (p .body) ∷ end ∷ []) s₄ bodySlot j l
 
-  kept₃ : (j : ℕ) → j < 59 → getD all j 0 ≡ getD s₃ j 0
-  kept₃ j l = kept₄ j (omega arith) ∙ listed-below s₃ 59 ts j l
+  kept₃ : (j : ℕ) → j < tablesSlot → getD all j 0 ≡ getD s₃ j 0
+  kept₃ j l = kept₄ j (omega arith) ∙ listed-below s₃ tablesSlot ts j l
 
-  kept₂ : (j : ℕ) → j < 42 → getD all j 0 ≡ getD s₂ j 0
-  kept₂ j l = kept₃ j (omega arith) ∙ listed-below s₂ 42 cs j l
+  kept₂ : (j : ℕ) → j < callablesSlot → getD all j 0 ≡ getD s₂ j 0
+  kept₂ j l = kept₃ j (omega arith) ∙ listed-below s₂ callablesSlot cs j l
 
-  kept₁ : (j : ℕ) → j < 9 → getD all j 0 ≡ getD s₁ j 0
-  kept₁ j l = kept₂ j (omega arith) ∙ listed-below s₁ 9 gs j l
+  kept₁ : (j : ℕ) → j < globalsSlot → getD all j 0 ≡ getD s₁ j 0
+  kept₁ j l = kept₂ j (omega arith) ∙ listed-below s₁ globalsSlot gs j l
 
-  headers-count : getD all 0 0 ≡ length hs
-  headers-count = kept₁ 0 (omega arith) ∙ listed-count slots 0 hs (rw room (omega (arith, h)))
+  headers-count : getD all headersSlot 0 ≡ length hs
+  headers-count = kept₁ headersSlot (omega arith) ∙ listed-count slots headersSlot hs (rw room (omega (arith, h)))
 
-  header-at : (i : ℕ) → i < length hs → getD all (1 + i) 0 ≡ getD hs i 0
-  header-at i l = let e : 1 + i ≡ 0 + suc i = omega arith in
-      kept₁ (1 + i) (omega (arith, h)) ∙ rw e (listed-member slots 0 hs i (rw room (omega (arith, h))) l)
+  header-at : (i : ℕ) → i < length hs → getD all (headersSlot + 1 + i) 0 ≡ getD hs i 0
+  header-at i l = let e : headersSlot + 1 + i ≡ headersSlot + suc i = omega arith in
+      kept₁ (headersSlot + 1 + i) (omega (arith, h))
+      ∙ rw e (listed-member slots headersSlot hs i (rw room (omega (arith, h))) l)
 
-  globals-count : getD all 9 0 ≡ length gs
-  globals-count = kept₂ 9 (omega arith) ∙ listed-count s₁ 9 gs (rw room₁ (omega (arith, g)))
+  globals-count : getD all globalsSlot 0 ≡ length gs
+  globals-count = kept₂ globalsSlot (omega arith) ∙ listed-count s₁ globalsSlot gs (rw room₁ (omega (arith, g)))
 
-  global-at : (i : ℕ) → i < length gs → getD all (10 + i) 0 ≡ getD gs i 0
-  global-at i l = let e : 10 + i ≡ 9 + suc i = omega arith in
-      kept₂ (10 + i) (omega (arith, g)) ∙ rw e (listed-member s₁ 9 gs i (rw room₁ (omega (arith, g))) l)
+  global-at : (i : ℕ) → i < length gs → getD all (globalsSlot + 1 + i) 0 ≡ getD gs i 0
+  global-at i l = let e : globalsSlot + 1 + i ≡ globalsSlot + suc i = omega arith in
+      kept₂ (globalsSlot + 1 + i) (omega (arith, g))
+      ∙ rw e (listed-member s₁ globalsSlot gs i (rw room₁ (omega (arith, g))) l)
 
-  callables-count : getD all 42 0 ≡ length cs
-  callables-count = kept₃ 42 (omega arith) ∙ listed-count s₂ 42 cs (rw room₂ (omega (arith, c)))
+  callables-count : getD all callablesSlot 0 ≡ length cs
+  callables-count = kept₃ callablesSlot (omega arith) ∙ listed-count s₂ callablesSlot cs (rw room₂ (omega (arith, c)))
 
-  callable-at : (i : ℕ) → i < length cs → getD all (43 + i) 0 ≡ getD cs i 0
-  callable-at i l = let e : 43 + i ≡ 42 + suc i = omega arith in
-      kept₃ (43 + i) (omega (arith, c)) ∙ rw e (listed-member s₂ 42 cs i (rw room₂ (omega (arith, c))) l)
+  callable-at : (i : ℕ) → i < length cs → getD all (callablesSlot + 1 + i) 0 ≡ getD cs i 0
+  callable-at i l = let e : callablesSlot + 1 + i ≡ callablesSlot + suc i = omega arith in
+      kept₃ (callablesSlot + 1 + i) (omega (arith, c))
+      ∙ rw e (listed-member s₂ callablesSlot cs i (rw room₂ (omega (arith, c))) l)
 
-  tables-count : getD all 59 0 ≡ length ts
-  tables-count = kept₄ 59 (omega arith) ∙ listed-count s₃ 59 ts (rw room₃ (omega (arith, t)))
+  tables-count : getD all tablesSlot 0 ≡ length ts
+  tables-count = kept₄ tablesSlot (omega arith) ∙ listed-count s₃ tablesSlot ts (rw room₃ (omega (arith, t)))
 
-  table-at : (i : ℕ) → i < length ts → getD all (60 + i) 0 ≡ getD ts i 0
-  table-at i l = let e : 60 + i ≡ 59 + suc i = omega arith in
-      kept₄ (60 + i) (omega (arith, t)) ∙ rw e (listed-member s₃ 59 ts i (rw room₃ (omega (arith, t))) l)
+  table-at : (i : ℕ) → i < length ts → getD all (tablesSlot + 1 + i) 0 ≡ getD ts i 0
+  table-at i l = let e : tablesSlot + 1 + i ≡ tablesSlot + suc i = omega arith in
+      kept₄ (tablesSlot + 1 + i) (omega (arith, t))
+      ∙ rw e (listed-member s₃ tablesSlot ts i (rw room₃ (omega (arith, t))) l)
 
-  body-is : getD all 68 0 ≡ stmtAt (p .body)
-  body-is = sets-in (stmtAt (p .body) ∷ end ∷ []) s₄ 68 0 (omega arith) (rw room₄ (omega arith))
+  body-is : getD all bodySlot 0 ≡ stmtAt (p .body)
+  body-is = sets-in (stmtAt (p .body) ∷ end ∷ []) s₄ bodySlot 0 (omega arith) (rw room₄ (omega arith))
 
-  end-is : getD all 69 0 ≡ end
-  end-is = sets-in (stmtAt (p .body) ∷ end ∷ []) s₄ 68 1 (omega arith) (rw room₄ (omega arith))
+  end-is : getD all endSlot 0 ≡ end
+  end-is = sets-in (stmtAt (p .body) ∷ end ∷ []) s₄ bodySlot 1 (omega arith) (rw room₄ (omega arith))
 
   laid-entries : Entries p end all
   laid-entries = record {
@@ -186,7 +194,7 @@ module _ (p : Program) (end : ℕ) (slots : List ℕ) (room : length slots ≡ 7
 
 -- the directory that a program that reads leaves
 pub entries : (nums left slots : List ℕ) (p : Program) (end : ℕ) → readProgram nums 0 ≡ got p left end
-    → length slots ≡ 70
+    → length slots ≡ slotCount
     → Entries p end (directoryOf p end slots)
 unfolding Given directoryOf declared defined
 entries nums left slots p end e room = laid-entries p end slots room (rw e at (gives-bounded .given nums 0))

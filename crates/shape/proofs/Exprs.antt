@@ -1,4 +1,4 @@
--- Scanning an expression: what its lead is by its tag, and that lead and operands together are the expression.
+-- Scanning an expression: lead and operands together are the expression, and what they lay is what it lays.
 use mathlib.Core.Option.{Option, none, some}
 use mathlib.Core.Path.{_≡_, refl, sym, _∙_}
 use mathlib.Core.List.{List, [], _∷_}
@@ -6,196 +6,29 @@ use Prim.Native.Nat.{ℕ, zero, suc, _+_, _-_, _*_, _≤_, _<_, _^_}
 use native.Mathlib.Omega.{arith}
 use native.Mathlib.Numerals.{add-one}
 use lib.ListN.{length, getD, drop, set, getElem?}
+use Rattle.rules.specs.Words.{widest}
 use Rattle.rules.specs.Syntax.{Operator, Place, Expr, boolLiteral, bitsLiteral, readOf, validOf, negation, complement, binary, cast, slice, concatenation, callExpr}
+use Rattle.rules.specs.Reading.{mostArguments, highestBound}
 use Rattle.rules.specs.Reading.{Got, got, bad, Reader, andThen, _>>=_, pure, here, number, meaning, standsFor, between, repeat, listOf, tooDeep}
 use Rattle.rules.specs.Reading.{tagLocal, tagParameter, tagGlobal, tagField, ExprTag, tagBool, tagBits, tagPlace, tagValid, tagNot, tagComplement, tagBinary, tagCast, tagSlice, tagConcatenation, tagCall}
-use Rattle.rules.specs.Reading.{operators, exprTags, toArgs, readPlace, readExprAs, readExpr}
+use Rattle.rules.specs.Reading.{exprTags, toArgs, readPlace, readExprAs, readExpr}
 use Rattle.rules.proofs.Readers.{Keeps, keeps-number, keeps-stands, keeps-between, keeps-list, keeps-place, keeps-expr, keeps-repeat, looked-in, Gives, gives-then, gives-pure, Starts, starts-here, starts-deep}
 use Rattle.shape.specs.Scans.{forget, scanOf}
 use Rattle.shape.specs.Ends.{mostNumbers, exprAt, argsAt, layExpr, layArgs, firstAt, layAll}
 use Rattle.shape.specs.Walks.{Laid, Lays}
-use Rattle.shape.specs.Leads.{onScan, readLiteral, valueOf, onValue, leadBy, onLead, argumentsLead, callLead, formOf, exprForm, exprLead, LeadsExpr, Agree, AgreeOn, Made, layExprs, readOperands, Tagged}
+use Rattle.shape.specs.Leads.{onScan, valueOf, onValue, leadBy, onLead, argumentsLead, callLead, formOf, exprForm, exprLead, LeadsExpr, Agree, AgreeOn, Made, layExprs, readOperands, Tagged}
 use Rattle.shape.specs.declared.Scan.{Scan}
 use Rattle.shape.specs.declared.Scan.the-variants.{Past, Fault}
-use Rattle.shape.specs.declared.Value.{Value}
-use Rattle.shape.specs.declared.Value.the-variants.{Of, Unread}
-use Rattle.shape.specs.declared.Lead.{Lead}
-use Rattle.shape.specs.declared.Lead.the-variants.{On, Off}
-use Rattle.shape.specs.declared.ExprForm.{ExprForm}
-use Rattle.shape.specs.declared.ExprForm.the-variants.{Number, Field, Literal, Operand, Binary, Cast, Slice, Operands, Call, Unlisted}
-use Rattle.shape.proofs.Laws.{on-past, on-fault, Scans, scans-self, scans-then, scans-pure, scans-last, scans-as, scan-here, stands-is, stands-none, stands-out}
-use Rattle.shape.proofs.Laws.{none-past, scans-none, scans-one, scans-two, list-scan, spans-scan, spans-list}
+use Rattle.shape.specs.declared.looks.Value.{Value}
+use Rattle.shape.specs.declared.looks.Value.the-variants.{Of, Unread}
+use Rattle.shape.specs.declared.expressions.Lead.{Lead}
+use Rattle.shape.specs.declared.expressions.Lead.the-variants.{On, Off}
+use Rattle.shape.specs.declared.expressions.ExprForm.{ExprForm}
+use Rattle.shape.proofs.Laws.{Scans, scans-self, scans-then, scans-pure, scans-last, scans-as, scan-here, stands-is, stands-none, stands-out}
+use Rattle.shape.proofs.Laws.{scans-none, scans-one, scans-two, list-scan}
 use Rattle.shape.proofs.Agrees.{alike-one, alike-two, alike-all, agree-lead, agree-two, agree-none, agree-call, behind-tag, tag-in}
-use Rattle.shape.proofs.Lays.{Done, lays-done, lays-none, lays-deep, all-none, all-past, all-fault, Pending, pending-first}
-
--- the numbers behind a tag
-module _ (nums : List ℕ) (at n number₁ index : ℕ) (a r : Scan) where
-  pub two-past : a ≡ scanOf number nums at → a ≡ Past n → r ≡ scanOf number nums n
-      → r ≡ scanOf (repeat 2 number) nums at
-  two-past e p q =
-      on-past (scanOf number nums at) r n (scanOf number nums) (sym e ∙ p) q ∙ sym (scans-two keeps-number .scan at)
-
-  pub two-fault : a ≡ scanOf number nums at → a ≡ Fault number₁ index
-      → Fault number₁ index ≡ scanOf (repeat 2 number) nums at
-  two-fault e p =
-      on-fault (scanOf number nums at) number₁ index (scanOf number nums) (sym e ∙ p)
-      ∙ sym (scans-two keeps-number .scan at)
-
-  pub bounds-past : a ≡ scanOf (between 0 63) nums at → a ≡ Past n → r ≡ scanOf (between 0 63) nums n
-      → r ≡ scanOf (repeat 2 (between 0 63)) nums at
-  bounds-past e p q =
-      on-past (scanOf (between 0 63) nums at) r n (scanOf (between 0 63) nums) (sym e ∙ p) q
-      ∙ sym (scans-two (keeps-between 0 63) .scan at)
-
-  pub bounds-fault : a ≡ scanOf (between 0 63) nums at → a ≡ Fault number₁ index
-      → Fault number₁ index ≡ scanOf (repeat 2 (between 0 63)) nums at
-  bounds-fault e p =
-      on-fault (scanOf (between 0 63) nums at) number₁ index (scanOf (between 0 63) nums) (sym e ∙ p)
-      ∙ sym (scans-two (keeps-between 0 63) .scan at)
-
-scans-literal : (nums : List ℕ)
-    → Scans readLiteral nums (λ at. onScan (scanOf (between 1 64) nums at) (scanOf number nums))
-unfolding readLiteral
-scans-literal nums = scans-then (keeps-between 1 64) (scans-self (between 1 64) nums) λ width. scans-self number nums
-
-module _ (nums : List ℕ) (at n number₁ index : ℕ) (a r : Scan) where
-  pub literal-past : a ≡ scanOf (between 1 64) nums at → a ≡ Past n → r ≡ scanOf number nums n
-      → r ≡ scanOf readLiteral nums at
-  literal-past e p q =
-      on-past (scanOf (between 1 64) nums at) r n (scanOf number nums) (sym e ∙ p) q
-      ∙ sym (scans-literal nums .scan at)
-
-  pub literal-fault : a ≡ scanOf (between 1 64) nums at → a ≡ Fault number₁ index
-      → Fault number₁ index ≡ scanOf readLiteral nums at
-  literal-fault e p =
-      on-fault (scanOf (between 1 64) nums at) number₁ index (scanOf number nums) (sym e ∙ p)
-      ∙ sym (scans-literal nums .scan at)
-
-pub operator-is : (version : ℕ) (nums : List ℕ) (at : ℕ) (r : Scan) → r ≡ scanOf (between 0 13) nums at
-    → r ≡ scanOf (standsFor (getElem? (operators version))) nums at
-operator-is version nums at r e = e ∙ sym (spans-scan nums at (spans-list (operators version) 13 refl))
-
-pub ruleset numbers = (two-past, two-fault, bounds-past, bounds-fault, literal-past, literal-fault, operator-is)
-
--- leads, case by case
-pub lead-on : (s : Scan) (next operands statements : ℕ) → s ≡ Past next
-    → On next operands statements ≡ leadBy s operands statements
-unfolding leadBy
-lead-on s next operands statements e = rw e
-
-pub lead-off : (s : Scan) (number₁ index operands statements : ℕ) → s ≡ Fault number₁ index
-    → Off number₁ index ≡ leadBy s operands statements
-unfolding leadBy
-lead-off s number₁ index operands statements e = rw e
-
-pub arguments-on : (v w : Value) (count next : ℕ) → v ≡ w → v ≡ Of count next → On next count 0 ≡ argumentsLead w
-unfolding argumentsLead
-arguments-on v w count next e p = rw (← e, p)
-
-pub arguments-off : (v w : Value) (number₁ index : ℕ) → v ≡ w → v ≡ Unread number₁ index
-    → Off number₁ index ≡ argumentsLead w
-unfolding argumentsLead
-arguments-off v w number₁ index e p = rw (← e, p)
-
-pub call-on : (nums : List ℕ) (s t : Scan) (next : ℕ) (r : Lead) → s ≡ t → s ≡ Past next
-    → r ≡ argumentsLead (valueOf 0 8 nums next) → r ≡ callLead nums t
-unfolding callLead
-call-on nums s t next r e p q = rw (← e, p) q
-
-pub call-off : (nums : List ℕ) (s t : Scan) (number₁ index : ℕ) → s ≡ t → s ≡ Fault number₁ index
-    → Off number₁ index ≡ callLead nums t
-unfolding callLead
-call-off nums s t number₁ index e p = rw (← e, p)
-
-pub ruleset leads = (lead-on, lead-off, arguments-on, arguments-off, call-on, call-off)
-
--- an expression's form by its tag
-pub form-of : (version n tag : ℕ) (f : ExprForm) → n ≡ tag → f ≡ exprForm version tag → f ≡ exprForm version n
-form-of version n tag f e q = rw e q
-
-pub above : (n k : ℕ) → k ≤ n → (n ≡ k → ⊥) → suc k ≤ n
-above n k h x = omega arith
-
-pub form-none : (version n : ℕ) → (n ≡ 0 → ⊥) → (n ≡ 1 → ⊥) → (n ≡ 2 → ⊥) → (n ≡ 3 → ⊥) → (n ≡ 4 → ⊥) → (n ≡ 5 → ⊥)
-    → (n ≡ 6 → ⊥)
-    → (n ≡ 7 → ⊥) → (n ≡ 8 → ⊥) → (n ≡ 9 → ⊥) → (n ≡ 10 → ⊥) → (n ≡ 11 → ⊥) → (n ≡ 12 → ⊥) → (n ≡ 13 → ⊥)
-    → Unlisted ≡ exprForm version n
-unfolding exprForm formOf
-form-none version n a b c d e f g h i j k l m o =
-    let p : 4 ≤ n = above n 3 (above n 2 (above n 1 (above n 0 (omega arith) a) b) c) d in
-    let q : 9 ≤ n = above n 8 (above n 7 (above n 6 (above n 5 (above n 4 p e) f) g) h) i in
-    let r : 14 ≤ n = above n 13 (above n 12 (above n 11 (above n 10 (above n 9 q j) k) l) m) o in
-    rw (none-past (exprTags version) n r)
-
-pub ruleset forms = (form-of, form-none)
-
-unlisted : (version : ℕ) (nums : List ℕ) (at : ℕ) (K : ℕ → ℕ → ℕ → Scan)
-    → Fault 4 at ≡ onLead (exprLead version (formOf none) nums at) K
-unfolding exprLead formOf onLead
-unlisted version nums at K = refl
-
--- the lead of an expression, by its form
-module _ (version : ℕ) (nums : List ℕ) (at : ℕ) (form : ExprForm) (r : Lead) where
-  pub number-lead : form ≡ Number → (s : Scan) → s ≡ scanOf number nums (at + 1) → r ≡ leadBy s 0 0
-      → r ≡ exprLead version form nums at
-  unfolding exprLead
-  number-lead f s e q = rw (f, ← e) q
-
-  pub field-lead : form ≡ Field → (s : Scan) → s ≡ scanOf (repeat 2 number) nums (at + 1) → r ≡ leadBy s 0 0
-      → r ≡ exprLead version form nums at
-  unfolding exprLead
-  field-lead f s e q = rw (f, ← e) q
-
-  pub literal-lead : form ≡ Literal → (s : Scan) → s ≡ scanOf readLiteral nums (at + 1) → r ≡ leadBy s 0 0
-      → r ≡ exprLead version form nums at
-  unfolding exprLead
-  literal-lead f s e q = rw (f, ← e) q
-
-  pub operand-lead : form ≡ Operand → r ≡ leadBy (Past (at + 1)) 1 0 → r ≡ exprLead version form nums at
-  unfolding exprLead
-  operand-lead f q = rw f q
-
-  pub binary-lead : form ≡ Binary → (s : Scan) → s ≡ scanOf (standsFor (getElem? (operators version))) nums (at + 1)
-      → r ≡ leadBy s 2 0
-      → r ≡ exprLead version form nums at
-  unfolding exprLead
-  binary-lead f s e q = rw (f, ← e) q
-
-  pub cast-lead : form ≡ Cast → (s : Scan) → s ≡ scanOf (between 1 64) nums (at + 1) → r ≡ leadBy s 1 0
-      → r ≡ exprLead version form nums at
-  unfolding exprLead
-  cast-lead f s e q = rw (f, ← e) q
-
-  pub slice-lead : form ≡ Slice → (s : Scan) → s ≡ scanOf (repeat 2 (between 0 63)) nums (at + 1) → r ≡ leadBy s 1 0
-      → r ≡ exprLead version form nums at
-  unfolding exprLead
-  slice-lead f s e q = rw (f, ← e) q
-
-  pub operands-lead : form ≡ Operands → r ≡ leadBy (Past (at + 1)) 2 0 → r ≡ exprLead version form nums at
-  unfolding exprLead
-  operands-lead f q = rw f q
-
-  pub call-lead : form ≡ Call → r ≡ callLead nums (scanOf number nums (at + 1)) → r ≡ exprLead version form nums at
-  unfolding exprLead
-  call-lead f q = rw f q
-
-pub unlisted-lead : (version : ℕ) (nums : List ℕ) (at : ℕ) (form : ExprForm) → form ≡ Unlisted
-    → Off 4 at ≡ exprLead version form nums at
-unfolding exprLead
-unlisted-lead version nums at form f = rw f
-
-pub ruleset exprLeads = (
-  number-lead,
-  field-lead,
-  literal-lead,
-  operand-lead,
-  binary-lead,
-  cast-lead,
-  slice-lead,
-  operands-lead,
-  call-lead,
-  unlisted-lead,
-)
+use Rattle.shape.proofs.Lays.{Done, lays-done, lays-none, lays-deep, pendings}
+use Rattle.shape.proofs.Tags.{scans-literal, unlisted}
 
 -- a lead, and what follows by its counts
 lead-after : (K : ℕ → ℕ → ℕ → Scan) (n m : ℕ) (x : Scan) → onScan x (λ next. K next n m) ≡ onLead (leadBy x n m) K
@@ -232,7 +65,8 @@ scans-list {nums = nums} least most h = record { scan = λ at. list-scan least m
 pub call-scan : {A B : Type 0} {one : Reader A} {k : ℕ → List A → Reader B} {nums : List ℕ} (K : ℕ → ℕ → ℕ → Scan)
     → Keeps one
     → ((f : ℕ) (xs : List A) → Scans (k f xs) nums Past) → ((next n : ℕ) → K next n 0 ≡ scanOf (repeat n one) nums next)
-    → Scans (number >>= λ f. listOf 0 8 one >>= k f) nums (λ at. onLead (callLead nums (scanOf number nums at)) K)
+    → Scans (number >>= λ f. listOf 0 mostArguments one >>= k f) nums
+    (λ at. onLead (callLead nums (scanOf number nums at)) K)
 unfolding onScan onValue onLead callLead argumentsLead
 call-scan {A} {B} {one} {k} {nums} K h g e =
     record {
@@ -247,9 +81,10 @@ call-scan {A} {B} {one} {k} {nums} K h g e =
     counted (Unread fault index) = refl
 
     go : (x : Scan)
-        → onScan x (λ at. onValue (valueOf 0 8 nums at) (λ n next. scanOf (repeat n one) nums next)) ≡ onLead
+        → onScan x (λ at. onValue (valueOf 0 mostArguments nums at) (λ n next. scanOf (repeat n one) nums next))
+        ≡ onLead
         (callLead nums x) K
-    go (Past next) = counted (valueOf 0 8 nums next)
+    go (Past next) = counted (valueOf 0 mostArguments nums next)
     go (Fault fault index) = refl
 
 pub scans-field : (version : ℕ) (nums : List ℕ)
@@ -291,7 +126,7 @@ module _ (version : ℕ) (nums : List ℕ) (operand : Reader Expr) (h : Keeps op
       (at + 1))
   lead-as tagBits i at =
       rw (← add-one at, scans-literal nums .scan (at + 1))
-      (lead-two after 0 0 (keeps-between 1 64) (λ w. keeps-number) (scans-self (between 1 64) nums)
+      (lead-two after 0 0 (keeps-between 1 widest) (λ w. keeps-number) (scans-self (between 1 widest) nums)
       (λ w. scans-self number nums) (λ w n. scans-none operand _) .scan (at + 1))
   lead-as (tagPlace tagLocal) i at =
       rw (← add-one at) (lead-scan after 0 0 (keeps-place version tagLocal) (scans-place version nums .0)
@@ -314,11 +149,12 @@ module _ (version : ℕ) (nums : List ℕ) (operand : Reader Expr) (h : Keeps op
       rw (← add-one at) (lead-scan after 2 0 (keeps-stands _) (scans-self _ nums)
       (λ o. two-operands (λ a b. scans-pure _)) .scan (at + 1))
   lead-as tagCast i at =
-      rw (← add-one at) (lead-scan after 1 0 (keeps-between 1 64) (scans-self _ nums)
+      rw (← add-one at) (lead-scan after 1 0 (keeps-between 1 widest) (scans-self _ nums)
       (λ w. one-operand (λ a. scans-pure _)) .scan (at + 1))
   lead-as tagSlice i at =
-      rw (← add-one at, scans-two (keeps-between 0 63) .scan (at + 1))
-      (lead-two after 1 0 (keeps-between 0 63) (λ u. keeps-between 0 63) (scans-self _ nums) (λ u. scans-self _ nums)
+      rw (← add-one at, scans-two (keeps-between 0 highestBound) .scan (at + 1))
+      (lead-two after 1 0 (keeps-between 0 highestBound) (λ u. keeps-between 0 highestBound) (scans-self _ nums)
+      (λ u. scans-self _ nums)
       (λ u v. one-operand (λ a. scans-pure _)) .scan (at + 1))
   lead-as tagConcatenation i at = rw (← add-one at) (two-operands (λ a b. scans-pure _) .scan (at + 1))
   lead-as tagCall i at = rw (← add-one at) (call-scan after h (λ f xs. scans-pure _) (λ next n. refl) .scan (at + 1))
@@ -360,7 +196,7 @@ args-at version (x ∷ xs) end = refl
 
 pub args-laid : (version : ℕ) (xs : List Expr) (end : ℕ) (slots : List ℕ)
     → layArgs (toArgs version xs) end slots ≡ layExprs xs end slots
-unfolding layArgs toArgs layExprs layAll
+unfolding layArgs toArgs layAll
 args-laid version [] end slots = refl
 args-laid version (x ∷ xs) end slots =
     rw (args-at version xs end) (args-laid version xs end (layExpr x (firstAt exprAt xs end) slots))
@@ -415,9 +251,10 @@ module _ (version depth : ℕ) (nums : List ℕ) (at : ℕ) (P : Expr → List E
     tree-as tagBinary =
         agree-lead P parts nums (at + 1) 2 0 (keeps-stands _) λ o. alike-two P operand _ (N .binary-node o)
     tree-as tagCast =
-        agree-lead P parts nums (at + 1) 1 0 (keeps-between 1 64) λ w. alike-one P operand _ (N .cast-node w)
+        agree-lead P parts nums (at + 1) 1 0 (keeps-between 1 widest) λ w. alike-one P operand _ (N .cast-node w)
     tree-as tagSlice =
-        agree-two P parts nums (at + 1) 1 0 (keeps-between 0 63) λ u v. alike-one P operand _ (N .slice-node u v)
+        agree-two P parts nums (at + 1) 1 0 (keeps-between 0 highestBound) λ u v.
+        alike-one P operand _ (N .slice-node u v)
     tree-as tagConcatenation = behind-tag P parts nums at 2 0 (alike-two P operand _ (N .concatenation-node))
     tree-as tagCall =
         agree-call P parts nums (at + 1) operand _ λ f n. alike-all P (repeat n operand) _ (N .call-node f)
@@ -437,7 +274,7 @@ module _ (version depth : ℕ) (nums : List ℕ) (at : ℕ) (P : Expr → List E
         go (some tag) = rw (← add-one at) (tree-as tag)
 
 made-nodes : (version at : ℕ) (slots : List ℕ) → ExprNodes version at (Made layExpr layExprs at slots slots)
-unfolding layExpr layExprs layAll firstAt
+unfolding layExpr layAll firstAt
 made-nodes version at slots = record {
   bool-node = λ n. record { made = λ end. refl };
   bits-node = λ w n. record { made = λ end. refl };
@@ -563,34 +400,6 @@ module _ (version depth : ℕ) (nums : List ℕ) (at : ℕ) (found : List ℕ) w
       lays-none (readExpr version depth) layExpr nums at f i found found
       (sym (rw (one-less depth x, p) at (l .expr (depth - 1))))
 
--- so many, one after the other
-module _ (version depth count : ℕ) (nums : List ℕ) (at : ℕ) (found : List ℕ) where
-  pub exprs-first : Pending (readExpr version depth) layExprs count nums at found count at found
-  exprs-first = pending-first (readExpr version depth) layExprs count nums at found
-
-  module _ (left next : ℕ) (now : List ℕ)
-      (w : Pending (readExpr version depth) layExprs count nums at found left next now) where
-    pub exprs-none : left ≡ 0 → Lays (repeat count (readExpr version depth)) layExprs nums at found now (Past next)
-    unfolding layExprs
-    exprs-none e = w .rest now (Past next) (all-none exprAt layExpr (readExpr version depth) nums next left now e)
-
-    pub exprs-past : (end : ℕ) (mid : List ℕ) (a : Scan) → (left ≡ 0 → ⊥)
-        → Lays (readExpr version depth) layExpr nums next now mid a → a ≡ Past end
-        → Pending (readExpr version depth) layExprs count nums at found (left - 1) end mid
-    unfolding layExprs
-    exprs-past end mid a x v p = record {
-      rest = λ last r u. w .rest last r
-          (all-past exprAt layExpr (readExpr version depth) nums next left (keeps-expr version depth) (starts-expr version depth) end
-          now mid last a r r x v p u refl);
-    }
-
-    pub exprs-fault : (f i : ℕ) (mid : List ℕ) (a : Scan) → (left ≡ 0 → ⊥)
-        → Lays (readExpr version depth) layExpr nums next now mid a → a ≡ Fault f i
-        → Lays (repeat count (readExpr version depth)) layExprs nums at found mid (Fault f i)
-    unfolding layExprs
-    exprs-fault f i mid a x v p =
-        w .rest mid (Fault f i) (all-fault exprAt layExpr (readExpr version depth) nums next left f i now mid a x v p)
-
 -- a tag has a slot
 pub slot-in : (version : ℕ) (nums : List ℕ) (at next operands statements : ℕ) (lead : Lead)
     → length nums ≤ mostNumbers → LeadsExpr version nums at lead
@@ -604,5 +413,6 @@ pub slot-fits : (version : ℕ) (nums : List ℕ) (at next operands statements :
 slot-fits version nums at next operands statements lead h l p =
     omega (arith, slot-in version nums at next operands statements lead h l p)
 
-pub ruleset exprSteps =
-    (expr-deep, expr-on, expr-inside, expr-off, exprs-first, exprs-none, exprs-past, exprs-fault, slot-in, slot-fits)
+pub ruleset exprSteps = (expr-deep, expr-on, expr-inside, expr-off, slot-in, slot-fits)
+
+pub ruleset exprLists = (keeps-expr, starts-expr, pendings)

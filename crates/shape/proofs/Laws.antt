@@ -15,8 +15,8 @@ use Rattle.shape.specs.Scans.{forget, scanOf}
 use Rattle.shape.specs.Leads.{onScan, valued, valueOf, onValue}
 use Rattle.shape.specs.declared.Scan.{Scan}
 use Rattle.shape.specs.declared.Scan.the-variants.{Past, Fault}
-use Rattle.shape.specs.declared.Value.{Value}
-use Rattle.shape.specs.declared.Value.the-variants.{Of, Unread}
+use Rattle.shape.specs.declared.looks.Value.{Value}
+use Rattle.shape.specs.declared.looks.Value.the-variants.{Of, Unread}
 
 -- a number of any value
 pub number-is : (nums : List ℕ) (at : ℕ) → at < length nums → Past (at + 1) ≡ scanOf number nums at

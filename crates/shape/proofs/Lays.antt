@@ -14,8 +14,8 @@ use Rattle.shape.specs.Leads.{valued, valueOf}
 use Rattle.shape.specs.Walks.{Laid, Lays, noEnds}
 use Rattle.shape.specs.declared.Scan.{Scan}
 use Rattle.shape.specs.declared.Scan.the-variants.{Past, Fault}
-use Rattle.shape.specs.declared.Value.{Value}
-use Rattle.shape.specs.declared.Value.the-variants.{Of, Unread}
+use Rattle.shape.specs.declared.looks.Value.{Value}
+use Rattle.shape.specs.declared.looks.Value.the-variants.{Of, Unread}
 use Rattle.shape.proofs.Laws.{deep-same, repeat-none}
 
 -- what a reader that was scanned gave, with the slots that it filled
@@ -167,7 +167,8 @@ lays-next {A} {B} {C} {first} {second} make {layFirst} {laySecond} lay start bot
 -- so many, one after the other
 module _ {A : Type 0} (start : A → ℕ) (lay : A → ℕ → List ℕ → List ℕ) (one : Reader A) (nums : List ℕ) (at count : ℕ)
   where
-    pub all-none : (found : List ℕ) → count ≡ 0 → Lays (repeat count one) (layAll start lay) nums at found found (Past at)
+    pub all-none : (found : List ℕ) → count ≡ 0
+        → Lays (repeat count one) (layAll start lay) nums at found found (Past at)
     unfolding repeat pure Laid layAll
     all-none found e = record { scan = repeat-none one nums count at e; laid = rw e refl }
 
@@ -196,14 +197,34 @@ module _ {A : Type 0} (start : A → ℕ) (lay : A → ℕ → List ℕ → List
         go (suc k) y = lays-fault (λ a. repeat k one >>= λ rest. pure (a ∷ rest)) (layAll start lay) found w p
 
 -- a list of which some are left: what the rest lays, all lay
-pub record Pending {A : Type 0} (one : Reader A) (lays : List A → ℕ → List ℕ → List ℕ) (count : ℕ) (nums : List ℕ) (at : ℕ)
+pub record Pending {A : Type 0} (one : Reader A) (lays : List A → ℕ → List ℕ → List ℕ) (count : ℕ) (nums : List ℕ)
+    (at : ℕ)
     (found : List ℕ) (left next : ℕ) (now : List ℕ) : Type 0 where
   pub rest : (last : List ℕ) (r : Scan) → Lays (repeat left one) lays nums next now last r
       → Lays (repeat count one) lays nums at found last r
 
-pub pending-first : {A : Type 0} (one : Reader A) (lays : List A → ℕ → List ℕ → List ℕ) (count : ℕ) (nums : List ℕ) (at : ℕ)
-    (found : List ℕ) → Pending one lays count nums at found count at found
-pending-first one lays count nums at found = record { rest = λ last r w. w }
+module _ {A : Type 0} (one : Reader A) (count : ℕ) (nums : List ℕ) (at : ℕ) (found : List ℕ) where
+  pub pending-first : (lays : List A → ℕ → List ℕ → List ℕ) → Pending one lays count nums at found count at found
+  pending-first lays = record { rest = λ last r w. w }
+
+  module _ (start : A → ℕ) (lay : A → ℕ → List ℕ → List ℕ) (left next : ℕ) (now : List ℕ)
+      (w : Pending one (layAll start lay) count nums at found left next now) where
+    pub pending-none : left ≡ 0 → Lays (repeat count one) (layAll start lay) nums at found now (Past next)
+    pending-none e = w .rest now (Past next) (all-none start lay one nums next left now e)
+
+    module _ (mid : List ℕ) (a : Scan) (x : left ≡ 0 → ⊥) (v : Lays one lay nums next now mid a) where
+      pub pending-past : (end : ℕ) → a ≡ Past end → Keeps one → Starts start one
+          → Pending one (layAll start lay) count nums at found (left - 1) end mid
+      pending-past end p h s = record {
+        rest = λ last r u. w .rest last r
+            (all-past start lay one nums next left h s end now mid last a r r x v p u refl);
+      }
+
+      pub pending-fault : (f i : ℕ) → a ≡ Fault f i
+          → Lays (repeat count one) (layAll start lay) nums at found mid (Fault f i)
+      pending-fault f i p = w .rest mid (Fault f i) (all-fault start lay one nums next left f i now mid a x v p)
+
+pub ruleset pendings = (pending-first, pending-none, pending-past, pending-fault)
 
 -- a reader of what lays nothing
 pub lays-scan : {A : Type 0} {read : Reader A} {nums : List ℕ} {at : ℕ} {r : Scan} (found : List ℕ)

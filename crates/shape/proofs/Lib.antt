@@ -1,10 +1,16 @@
 mod Laws
 mod Agrees
 mod Lays
+mod Tags
 mod Exprs
+mod Targets
 mod Stmts
 mod Parts
+mod Holders
+mod Listings
+mod Walking
 mod Starts
+mod Programs
 pub mod Ended
 mod Orders
 pub mod Lines

@@ -6,6 +6,7 @@ use Prim.Native.Nat.{ℕ, zero, suc, _-_, _≤_}
 use native.Mathlib.Omega.{arith}
 use lib.ListN.{length, getD, drop, getElem?}
 use Rattle.rules.specs.Syntax.{Expr, Stmt, Callable, Key, Numeral, Table, Program}
+use Rattle.rules.specs.Reading.{mostCallables, mostTables, mostActions, mostArguments}
 use Rattle.rules.specs.Reading.{Got, got, bad, Reader, andThen, _>>=_, pure, here, between, standsFor, repeat, listOf, deepest, keyKinds, versionOf}
 use Rattle.rules.specs.Reading.{readExpr, readStmt, readKey, readTable, readCallable, readAfterVersion, readProgram}
 use Rattle.rules.proofs.Readers.{Kept, Keeps, keeps-stands, keeps-between, keeps-list, keeps-expr, keeps-stmt, keeps-key, keeps-numeral, keeps-callable, keeps-table, keeps-program, keeps-then, keeps-pure, keeps-here, Given, Starts, starts-callable}
@@ -18,8 +19,10 @@ use Rattle.shape.specs.Walks.{noEnds, readDefined, endsDefined}
 use Rattle.shape.proofs.Lays.{BegunAt, Begins, begins-repeat, begins-list}
 use Rattle.shape.proofs.Exprs.{starts-expr}
 use Rattle.shape.proofs.Stmts.{starts-stmt}
-use Rattle.shape.proofs.Parts.{starts-key, starts-numeral, keeps-choices, begins-default, makeTable, in-two, Frame, makeCallable, readFramed, in-three, keeps-returning, keeps-frame}
-use Rattle.shape.proofs.Starts.{starts-tables, Defined, tree, readRest, endsRest, inThree, three, keeps-declared, keeps-defined, begins-body}
+use Rattle.shape.proofs.Parts.{keeps-returning, keeps-frame}
+use Rattle.shape.proofs.Holders.{starts-key, starts-numeral, keeps-choices, begins-default, makeTable, in-two, Frame, makeCallable, readFramed, in-three}
+use Rattle.shape.proofs.Starts.{starts-tables, begins-body}
+use Rattle.shape.proofs.Programs.{Defined, tree, readRest, endsRest, inThree, three, keeps-declared, keeps-defined}
 use Rattle.shape.proofs.Ended.{OrderedExpr, OrderedStmt, Layer, layer-none, layer-both, layer-wide, layer-expr, layer-stmt, own-expr, own-stmt}
 use Rattle.shape.proofs.Orders.{OrderedGot, orders-expr, orders-stmt}
 
@@ -48,7 +51,8 @@ lines-expr version depth = record {
       (starts-expr version depth .started (drop at nums) at) (orders-expr version depth .ordered nums at);
 }
   where
-    go : (at : ℕ) (x : Got Expr) → Given (λ e. exprAt e ≡ at) x → OrderedGot OrderedExpr x → LinedAt layExpr EndedExpr at x
+    go : (at : ℕ) (x : Got Expr) → Given (λ e. exprAt e ≡ at) x → OrderedGot OrderedExpr x
+        → LinedAt layExpr EndedExpr at x
     go at (got e left next) s o = rw (← s) (layer-expr e next o)
     go at (bad fault index) s o = tt
 
@@ -59,7 +63,8 @@ lines-stmt version depth = record {
       (starts-stmt version depth .started (drop at nums) at) (orders-stmt version depth .ordered nums at);
 }
   where
-    go : (at : ℕ) (x : Got Stmt) → Given (λ s. stmtAt s ≡ at) x → OrderedGot OrderedStmt x → LinedAt layStmt EndedStmt at x
+    go : (at : ℕ) (x : Got Stmt) → Given (λ s. stmtAt s ≡ at) x → OrderedGot OrderedStmt x
+        → LinedAt layStmt EndedStmt at x
     go at (got s left next) q o = rw (← q) (layer-stmt s next o)
     go at (bad fault index) q o = tt
 
@@ -170,7 +175,7 @@ module _ (version : ℕ) where
   }
 
   lines-keys : Lines layKeys EndedKeys (listOf 1 4 (readKey version))
-  unfolding layKeys EndedKeys
+  unfolding EndedKeys
   lines-keys = lines-list keyAt layKey EndedKey (keeps-key version) (starts-key version) lines-key 1 4
 
   lines-choices : Lines layChoices EndedChoices (readChoices version)
@@ -178,17 +183,17 @@ module _ (version : ℕ) where
   lines-choices = record {
     lined = λ nums at. lined-next (λ ks ns. (ks, ns)) layChoices EndedChoices (keeps-list 1 4 (keeps-key version)) nums
         at (λ ns end. firstAt numeralAt ns end - 1) (λ ks ns next slots. refl) (λ ks ns next slots p. p .0)
-        (begins-list 1 8 (starts-numeral version)) lines-keys
-        (lines-none (keeps-list 1 8 (keeps-numeral version)));
+        (begins-list 1 mostActions (starts-numeral version)) lines-keys
+        (lines-none (keeps-list 1 mostActions (keeps-numeral version)));
   }
 
   keeps-default : Keeps (readDefault version)
   unfolding readDefault
   keeps-default = keeps-then (keeps-numeral version) λ d. keeps-then keeps-here λ c. keeps-then
-      (keeps-list 0 8 (keeps-numeral version)) λ xs. keeps-pure _
+      (keeps-list 0 mostArguments (keeps-numeral version)) λ xs. keeps-pure _
 
   lines-table : Lines layTable EndedTable (readTable version)
-  unfolding layChoices layKeys layTable makeTable noEnds EndedChoices EndedKeys EndedTable
+  unfolding layChoices layTable makeTable noEnds EndedChoices EndedKeys EndedTable
   lines-table = record {
     lined = λ nums at. rw (in-two version nums at [])
         (lined-next (makeTable version nums at []) layTable EndedTable (keeps-choices version nums at []) nums at
@@ -231,10 +236,11 @@ module _ (version : ℕ) where
   unfolding readDefined endsDefined EndedDefined
   lines-defined = record {
     lined = λ nums at. lined-next (λ cs ts. (cs, ts)) endsDefined EndedDefined
-        (keeps-list 0 16 (keeps-callable version)) nums at (λ ts end. firstAt tableAt ts end - 1)
-        (λ cs ts next slots. refl) (λ cs ts next slots p. p) (begins-list 0 8 (starts-tables version))
-        (lines-list callableAt layCallable EndedCallable (keeps-callable version) starts-callables lines-callable 0 16)
-        (lines-list tableAt layTable EndedTable (keeps-table version) (starts-tables version) lines-table 0 8);
+        (keeps-list 0 mostCallables (keeps-callable version)) nums at (λ ts end. firstAt tableAt ts end - 1)
+        (λ cs ts next slots. refl) (λ cs ts next slots p. p) (begins-list 0 mostTables (starts-tables version))
+        (lines-list callableAt layCallable EndedCallable
+        (keeps-callable version) starts-callables lines-callable 0 mostCallables)
+        (lines-list tableAt layTable EndedTable (keeps-table version) (starts-tables version) lines-table 0 mostTables);
   }
 
   unfoldable pub EndedRest : Defined version × Stmt → ℕ → List ℕ → Type 0
@@ -309,7 +315,8 @@ pub expr-end : (version depth : ℕ) (nums slots : List ℕ) (at : ℕ) (e : Exp
     → EndedExpr e end slots → getD slots at 0 ≡ end
 unfolding Given
 expr-end version depth nums slots at e left end q h =
-    let s : Given (λ e. exprAt e ≡ at) (got e left end) = rw q at (starts-expr version depth .started (drop at nums) at) in
+    let s : Given (λ e. exprAt e ≡ at) (got e left end) = rw q at
+    (starts-expr version depth .started (drop at nums) at) in
     rw (← s) (own-expr e end slots h)
 
 pub stmt-end : (version depth : ℕ) (nums slots : List ℕ) (at : ℕ) (s : Stmt) (left : List ℕ) (end : ℕ)
@@ -317,7 +324,8 @@ pub stmt-end : (version depth : ℕ) (nums slots : List ℕ) (at : ℕ) (s : Stm
     → EndedStmt s end slots → getD slots at 0 ≡ end
 unfolding Given
 stmt-end version depth nums slots at s left end q h =
-    let b : Given (λ s. stmtAt s ≡ at) (got s left end) = rw q at (starts-stmt version depth .started (drop at nums) at) in
+    let b : Given (λ s. stmtAt s ≡ at) (got s left end) = rw q at
+    (starts-stmt version depth .started (drop at nums) at) in
     rw (← b) (own-stmt s end slots h)
 
 -- from what the scan of a program promises

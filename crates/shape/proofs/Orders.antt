@@ -7,7 +7,9 @@ use native.Mathlib.Omega.{arith}
 use lib.ListN.{length, getD, drop}
 use lib.Dec.{ltb}
 use borrow.Author.Tests.{ltb-true, ltb-false}
+use Rattle.rules.specs.Words.{widest}
 use Rattle.rules.specs.Syntax.{Expr, Stmt}
+use Rattle.rules.specs.Reading.{mostArguments, mostMembers, highestBound}
 use Rattle.rules.specs.Reading.{Got, got, bad, Reader, andThen, _>>=_, pure, number, between, repeat, tooDeep, toArgs, toStmts, readExpr, readStmt}
 use Rattle.rules.proofs.Readers.{Kept, Keeps, keeps-number, keeps-between, keeps-stands, keeps-repeat, keeps-then, keeps-expr, keeps-target, keeps-stmt, Starts}
 use Rattle.shape.specs.Scans.{forget, scanOf}
@@ -16,12 +18,12 @@ use Rattle.shape.specs.Ends.{exprAt, firstAt}
 use Rattle.shape.specs.Leads.{onScan, onLead, valued, valueOf, leadBy, argumentsLead, callLead, blockLead, exprForm, exprLead, stmtForm, stmtLead, stmtLaid, readLiteral}
 use Rattle.shape.specs.Leads.{Agree, AgreeOn, readOperands, readParts, LeadsExpr, LeadsStmt}
 use Rattle.shape.specs.declared.Scan.the-variants.{Past, Fault}
-use Rattle.shape.specs.declared.Lead.{Lead}
-use Rattle.shape.specs.declared.Lead.the-variants.{On, Off}
-use Rattle.shape.specs.declared.ExprForm.{ExprForm}
-use Rattle.shape.specs.declared.ExprForm.the-variants.{Number, Field, Literal, Operand, Binary, Cast, Slice, Operands, Call, Unlisted}
-use Rattle.shape.specs.declared.StmtForm.{StmtForm}
-use Rattle.shape.specs.declared.StmtForm.the-variants.{Bare, Assign, If, Block, CallStmt, Named, Returned, NoStmt}
+use Rattle.shape.specs.declared.expressions.Lead.{Lead}
+use Rattle.shape.specs.declared.expressions.Lead.the-variants.{On, Off}
+use Rattle.shape.specs.declared.expressions.ExprForm.{ExprForm}
+use Rattle.shape.specs.declared.expressions.ExprForm.the-variants.{Number, Field, Literal, Operand, Binary, Cast, Slice, Operands, Call, Unlisted}
+use Rattle.shape.specs.declared.statements.StmtForm.{StmtForm}
+use Rattle.shape.specs.declared.statements.StmtForm.the-variants.{Bare, Assign, If, Block, CallStmt, Named, Returned, NoStmt}
 use Rattle.shape.proofs.Laws.{scans-self, scans-then, scans-last, scans-pure}
 use Rattle.shape.proofs.Lays.{BegunAt, Begins, begins-repeat}
 use Rattle.shape.proofs.Exprs.{ExprNodes, expr-agrees, args-at, starts-expr}
@@ -63,7 +65,8 @@ orders-repeat {A} {start} {R} {one} (suc n) h s o =
         → ((i : ℕ) → OrderedGot (OrderedAll start R) (repeat n one (drop i nums) i))
         → OrderedGot (OrderedAll start R) (andThen x (λ a. repeat n one >>= λ rest. pure (a ∷ rest)))
     go nums (got a left next) at k r ih =
-        rw (k .rest) (inner next a (repeat n one (drop next nums) next) r (begins-repeat n s .begun (drop next nums) next)
+        rw (k .rest)
+        (inner next a (repeat n one (drop next nums) next) r (begins-repeat n s .begun (drop next nums) next)
         (ih next))
     go nums (bad fault index) at k r ih = tt
 
@@ -78,7 +81,8 @@ orders-construct : {A B : Type 0} (start : B → ℕ → ℕ) (R : A → ℕ →
     → OrderedGot R x
 unfolding Agree OrderedGot BegunAt forget
 orders-construct start R S at next (bad fault index) y h p e b s = tt
-orders-construct start R S at next (got a left m) (bad fault index) h p e b s = let z : _≡_ {A = ℕ} 0 1 = cc in absurd (omega arith)
+orders-construct start R S at next (got a left m) (bad fault index) h p e b s =
+    let z : _≡_ {A = ℕ} 0 1 = cc in absurd (omega arith)
 orders-construct start R S at next (got a left m) (got c rest end) h p e b s =
     let same : m ≡ end = cc in
     rw same (p .order end (rw b h) s)
@@ -116,12 +120,14 @@ after-call nums at = go (number (drop (at + 1) nums) (at + 1)) (keeps-number .ke
 
     go : (x : Got ℕ) → Kept nums (at + 1) x → AfterTag at (callLead nums (forget x))
     go (got f left next) k =
-        inner next (between 0 8 (drop next nums) next) (omega (arith, k .later)) (keeps-between 0 8 .kept nums next)
+        inner next (between 0 mostArguments (drop next nums) next) (omega (arith, k .later))
+        (keeps-between 0 mostArguments .kept nums next)
     go (bad fault index) k = tt
 
-after-block : (nums : List ℕ) (at : ℕ) → AfterTag at (blockLead (valueOf 0 64 nums (at + 1)))
+after-block : (nums : List ℕ) (at : ℕ) → AfterTag at (blockLead (valueOf 0 mostMembers nums (at + 1)))
 unfolding AfterTag blockLead valueOf valued Kept
-after-block nums at = go (between 0 64 (drop (at + 1) nums) (at + 1)) (keeps-between 0 64 .kept nums (at + 1))
+after-block nums at = go (between 0 mostMembers (drop (at + 1) nums) (at + 1))
+    (keeps-between 0 mostMembers .kept nums (at + 1))
   where
     go : (x : Got ℕ) → Kept nums (at + 1) x → AfterTag at (blockLead (valued x))
     go (got n left next) k = omega (arith, k .later)
@@ -129,7 +135,7 @@ after-block nums at = go (between 0 64 (drop (at + 1) nums) (at + 1)) (keeps-bet
 
 keeps-literal : Keeps readLiteral
 unfolding readLiteral
-keeps-literal = keeps-then (keeps-between 1 64) λ w. keeps-number
+keeps-literal = keeps-then (keeps-between 1 widest) λ w. keeps-number
 
 after-expr : (version : ℕ) (f : ExprForm) (nums : List ℕ) (at : ℕ) → AfterTag at (exprLead version f nums at)
 unfolding exprLead AfterTag
@@ -138,13 +144,14 @@ after-expr version Field nums at = after-by _ nums at 0 0 (keeps-repeat 2 keeps-
 after-expr version Literal nums at = after-by _ nums at 0 0 keeps-literal
 after-expr version Operand nums at = after-here at 1 0
 after-expr version Binary nums at = after-by _ nums at 2 0 (keeps-stands _)
-after-expr version Cast nums at = after-by _ nums at 1 0 (keeps-between 1 64)
-after-expr version Slice nums at = after-by _ nums at 1 0 (keeps-repeat 2 (keeps-between 0 63))
+after-expr version Cast nums at = after-by _ nums at 1 0 (keeps-between 1 widest)
+after-expr version Slice nums at = after-by _ nums at 1 0 (keeps-repeat 2 (keeps-between 0 highestBound))
 after-expr version Operands nums at = after-here at 2 0
 after-expr version Call nums at = after-call nums at
 after-expr version Unlisted nums at = tt
 
-after-stmt : (version depth : ℕ) (f : StmtForm) (nums : List ℕ) (at : ℕ) → AfterTag at (stmtLead version depth f nums at)
+after-stmt : (version depth : ℕ) (f : StmtForm) (nums : List ℕ) (at : ℕ)
+    → AfterTag at (stmtLead version depth f nums at)
 unfolding stmtLead AfterTag
 after-stmt version depth Bare nums at = after-here at 0 0
 after-stmt version depth Assign nums at = after-by _ nums at 1 0 (keeps-target version depth)
@@ -188,7 +195,8 @@ module _ (version depth : ℕ) (o : Orders OrderedExpr (readExpr version depth))
   unfolding AfterTag AgreeOn readOperands onLead scanOf
   expr-by-lead nums at (Off f i) h l p = fault-orders OrderedExpr _ f i (l .expr depth)
   expr-by-lead nums at (On next operands statements) h l p =
-      orders-construct (firstAt exprAt) OrderedExpr OrderedExprs at next _ (repeat operands (readExpr version depth) (drop next nums) next) h p (l .expr depth)
+      orders-construct (firstAt exprAt) OrderedExpr OrderedExprs at next _
+      (repeat operands (readExpr version depth) (drop next nums) next) h p (l .expr depth)
       (begins-repeat operands (starts-expr version depth) .begun (drop next nums) next)
       (orders-repeat operands (keeps-expr version depth) (starts-expr version depth) o .ordered nums next)
 
@@ -247,7 +255,8 @@ stmt-nodes version at found = record {
   empty-node = record { order = λ end h o. h };
   assign-node = λ next p e q l. record { order = λ end h o. (omega arith, (rw q l, o .0 .0)) };
   if-node = λ c a b. record { order = λ end h o. (h, (o .0 .0, (o .1 .0, o .1 .1 .0))) };
-  block-node = λ ss. record { order = λ end h o. (rw (stmts-at version ss end) h, stmts-ordered version ss end (o .1)) };
+  block-node = λ ss.
+      record { order = λ end h o. (rw (stmts-at version ss end) h, stmts-ordered version ss end (o .1)) };
   call-node = λ f xs. record { order = λ end h o. (rw (args-at version xs end) h, args-ordered version xs end (o .0)) };
   apply-node = λ t. record { order = λ end h o. h };
   value-node = λ e. record { order = λ end h o. (h, o .0 .0) };
@@ -321,7 +330,8 @@ module _ (version depth : ℕ) (o : Orders OrderedStmt (readStmt version depth))
   unfolding AfterTag AgreeOn onLead scanOf
   stmt-by-lead nums at (Off f i) mid h l p = fault-orders OrderedStmt _ f i (l .stmt)
   stmt-by-lead nums at (On next operands statements) mid h l p =
-      orders-construct partsAt OrderedStmt OrderedParts at next _ (readParts version depth operands statements (drop next nums) next) h p
+      orders-construct partsAt OrderedStmt OrderedParts at next _
+      (readParts version depth operands statements (drop next nums) next) h p
       (l .stmt ∙ sym (parts-scan version depth operands statements nums next))
       (parts-begin version depth operands statements .begun (drop next nums) next)
       (parts-ordered version depth operands statements o .ordered nums next)

@@ -6,6 +6,7 @@ use Prim.Native.Nat.{ℕ, suc, _-_, _≤_, _<_}
 use native.Mathlib.Omega.{arith}
 use lib.ListN.{length, getD, drop}
 use Rattle.rules.specs.Syntax.{Expr, Stmt, Program}
+use Rattle.rules.specs.Reading.{mostCallables, mostTables}
 use Rattle.rules.specs.Reading.{Got, got, bad, Reader, andThen, _>>=_, pure, standsFor, repeat, listOf, deepest, versionOf, toArgs, toStmts, readExpr, readStmt, readCallable, readTable, readAfterVersion, readProgram}
 use Rattle.rules.proofs.Readers.{Kept, Keeps, keeps-repeat, keeps-expr, keeps-stmt, keeps-then, keeps-pure, keeps-stands, keeps-list, keeps-callable, keeps-program, Given, Starts}
 use Rattle.shape.specs.Scans.{forget, scanOf}
@@ -16,7 +17,7 @@ use Rattle.shape.specs.Walks.{readDeclared, readDefined}
 use Rattle.shape.specs.Leads.{onLead, exprForm, exprLead, stmtForm, stmtLead, Agree, AgreeOn, readOperands, readParts}
 use Rattle.shape.specs.declared.Scan.{Scan}
 use Rattle.shape.specs.declared.Scan.the-variants.{Past}
-use Rattle.shape.specs.declared.Lead.the-variants.{On}
+use Rattle.shape.specs.declared.expressions.Lead.the-variants.{On}
 use Rattle.shape.proofs.Lays.{BegunAt, Begins, begins-repeat, begins-list}
 use Rattle.shape.proofs.Exprs.{ExprNodes, expr-agrees, args-at, starts-expr}
 use Rattle.shape.proofs.Exprs as exprs
@@ -24,8 +25,10 @@ use Rattle.shape.proofs.Stmts.{StmtNodes, stmt-agrees, stmts-at, starts
 use Rattle.shape.proofs.Stmts as stmts
 use Rattle.shape.proofs.Ended.{own-expr, own-stmt}
 use Rattle.shape.proofs.Orders.{parts-scan}
-use Rattle.shape.proofs.Parts.{makeCallable, readFramed, in-three, keeps-returning, keeps-frame}
-use Rattle.shape.proofs.Starts.{starts-tables, tree, readRest, inThree, three, keeps-declared, keeps-defined, begins-body}
+use Rattle.shape.proofs.Parts.{keeps-returning, keeps-frame}
+use Rattle.shape.proofs.Holders.{makeCallable, readFramed, in-three}
+use Rattle.shape.proofs.Starts.{starts-tables, begins-body}
+use Rattle.shape.proofs.Programs.{tree, readRest, inThree, three, keeps-declared, keeps-defined}
 use Rattle.shape.proofs.Lines.{NoEnded, EndedFramed, EndedDefined, EndedRest, scan-ended}
 
 -- what a reader gives from an index to another, with its ends laid
@@ -222,7 +225,8 @@ pub first-expr : (version depth k : ℕ) (nums ends : List ℕ) (at end : ℕ)
     → Stands (repeat (suc k) (readExpr version depth)) (EndedAll exprAt EndedExpr) nums ends at end
     → FirstOf (readExpr version depth) exprAt EndedExpr k nums ends at end
 first-expr version depth k nums ends at end w =
-    let s : Split (readExpr version depth) (repeat k (readExpr version depth)) EndedExpr (EndedAll exprAt EndedExpr) nums
+    let s : Split (readExpr version depth) (repeat k (readExpr version depth)) EndedExpr
+    (EndedAll exprAt EndedExpr) nums
     ends at end
     = stands-head k nums ends at end (keeps-expr version depth) (starts-expr version depth) w in
     let e : getD ends at 0 ≡ s .mid = stands-expr version depth nums ends at (s .mid) (s .before) in
@@ -232,7 +236,8 @@ pub first-stmt : (version depth k : ℕ) (nums ends : List ℕ) (at end : ℕ)
     → Stands (repeat (suc k) (readStmt version depth)) (EndedAll stmtAt EndedStmt) nums ends at end
     → FirstOf (readStmt version depth) stmtAt EndedStmt k nums ends at end
 first-stmt version depth k nums ends at end w =
-    let s : Split (readStmt version depth) (repeat k (readStmt version depth)) EndedStmt (EndedAll stmtAt EndedStmt) nums
+    let s : Split (readStmt version depth) (repeat k (readStmt version depth)) EndedStmt
+    (EndedAll stmtAt EndedStmt) nums
     ends at end
     = stands-head k nums ends at end (keeps-stmt version depth) (starts-stmt version depth) w in
     let e : getD ends at 0 ≡ s .mid = stands-stmt version depth nums ends at (s .mid) (s .before) in
@@ -284,21 +289,24 @@ rest-split version nums ends at end w =
 
 defined-split : (version : ℕ) (nums ends : List ℕ) (at end : ℕ)
     → Stands (readDefined version) (EndedDefined version) nums ends at end
-    → Split (listOf 0 16 (readCallable version)) (listOf 0 8 (readTable version)) (EndedAll callableAt EndedCallable)
+    → Split (listOf 0 mostCallables (readCallable version)) (listOf 0 mostTables (readTable version))
+    (EndedAll callableAt EndedCallable)
     (EndedAll tableAt EndedTable) nums ends at end
 unfolding readDefined EndedDefined
 defined-split version nums ends at end w =
-    stands-split (λ cs ts. (cs, ts)) (λ ts end. firstAt tableAt ts end - 1) (keeps-list 0 16 (keeps-callable version))
-    (begins-list 0 8 (starts-tables version)) (λ cs ts end slots p. p) w
+    stands-split (λ cs ts. (cs, ts)) (λ ts end. firstAt tableAt ts end - 1)
+    (keeps-list 0 mostCallables (keeps-callable version))
+    (begins-list 0 mostTables (starts-tables version)) (λ cs ts end slots p. p) w
 
 -- a program: its callables, its tables, its body
 pub record ProgramStands (version : ℕ) (nums ends : List ℕ) (end : ℕ) : Type 0 where
   pub callablesAt : ℕ
   pub tablesAt : ℕ
   pub bodyAt : ℕ
-  pub callables : Stands (listOf 0 16 (readCallable version)) (EndedAll callableAt EndedCallable) nums ends callablesAt
+  pub callables : Stands (listOf 0 mostCallables (readCallable version))
+      (EndedAll callableAt EndedCallable) nums ends callablesAt
       tablesAt
-  pub tables : Stands (listOf 0 8 (readTable version)) (EndedAll tableAt EndedTable) nums ends tablesAt bodyAt
+  pub tables : Stands (listOf 0 mostTables (readTable version)) (EndedAll tableAt EndedTable) nums ends tablesAt bodyAt
   pub body : Stands (readStmt version deepest) EndedStmt nums ends bodyAt end
 
 pub stands-after : (version : ℕ) (nums ends : List ℕ) (at end : ℕ)
@@ -309,9 +317,11 @@ stands-after version nums ends at end w =
     = stands-skip (tree version) (keeps-declared version)
     (λ d q end slots p. ((p .callables, p .tables), p .body))
     (stands-as (three version (drop at nums) at) w) in
-    let r : Split (readDefined version) (readStmt version deepest) (EndedDefined version) EndedStmt nums ends (d .mid) end
+    let r : Split (readDefined version) (readStmt version deepest) (EndedDefined version) EndedStmt nums ends
+    (d .mid) end
     = rest-split version nums ends (d .mid) end (d .behind) in
-    let c : Split (listOf 0 16 (readCallable version)) (listOf 0 8 (readTable version)) (EndedAll callableAt EndedCallable)
+    let c : Split (listOf 0 mostCallables (readCallable version)) (listOf 0 mostTables (readTable version))
+    (EndedAll callableAt EndedCallable)
     (EndedAll tableAt EndedTable) nums ends (d .mid) (r .mid)
     = defined-split version nums ends (d .mid) (r .mid) (r .before) in
     record {

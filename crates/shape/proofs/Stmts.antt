@@ -1,4 +1,4 @@
--- Scanning a statement: what its lead is by its tag, and that lead, operands and statements together are the statement.
+-- Scanning a statement: lead, operands and members together are the statement, and what they lay is what it lays.
 use mathlib.Core.Bool.{Bool, true, false}
 use mathlib.Core.Option.{Option, none, some}
 use mathlib.Core.Path.{_≡_, refl, sym, _∙_}
@@ -10,8 +10,8 @@ use lib.ListN.{length, getD, drop, set, getElem?}
 use lib.Dec.{ltb}
 use borrow.Author.Tests.{ltb-true, ltb-false}
 use Rattle.rules.specs.Syntax.{Expr, Stmt, empty, assign, ifElse, block, callStmt, apply, returnValue, return, exit, setValid, setInvalid, Place}
-use Rattle.rules.specs.Reading.{Got, got, bad, Reader, andThen, _>>=_, pure, here, number, meaning, lookedUp, standsFor, repeat, tooDeep}
-use Rattle.rules.specs.Reading.{PlaceTag, tagLocal, tagParameter, tagGlobal, tagField}
+use Rattle.rules.specs.Reading.{Got, got, bad, Reader, andThen, _>>=_, pure, here, number, meaning, lookedUp, standsFor, repeat, tooDeep, mostMembers}
+use Rattle.rules.specs.Reading.{PlaceTag}
 use Rattle.rules.specs.Reading.{StmtTag, tagEmpty, tagAssign, tagIf, tagBlock, tagCallStmt, tagApply, tagReturnValue, tagReturn, tagExit, tagSetValid, tagSetInvalid}
 use Rattle.rules.specs.Reading.{exprTags, placeTagOf, stmtTags, toArgs, toStmts, readPlace, readExpr, readTarget, readStmtAs, readStmt}
 use Rattle.rules.proofs.Readers.{Keeps, keeps-number, keeps-list, keeps-place, keeps-expr, keeps-target, keeps-stmt, Kept, keeps-then, keeps-pure, keeps-repeat, looked-in, looked-out, Given, Gives, gives-then, gives-pure, Starts, starts-here, starts-deep}
@@ -19,281 +19,20 @@ use Rattle.shape.specs.Scans.{forget, scanOf}
 use Rattle.shape.specs.Directory.{stmtAt}
 use Rattle.shape.specs.Ends.{mostNumbers, exprAt, stmtsAt, layStmt, layStmts, firstAt, layAll}
 use Rattle.shape.specs.Walks.{Lays}
-use Rattle.shape.specs.Leads.{Agree, AgreeOn, Made, Tagged, layExprs, layMembers, readParts, layParts, laidTarget, LeadsTarget, stmtLaid, LeadsForm, onScan, valueOf, onValue, leadBy, onLead, callLead, blockLead, placeFormOf, placeForm, placeScan, stmtFormOf, stmtForm, stmtLead, LeadsStmt}
+use Rattle.shape.specs.Leads.{Agree, AgreeOn, Made, Tagged, layExprs, layMembers, readParts, layParts, laidTarget, stmtLaid, LeadsForm, onScan, valueOf, onValue, leadBy, onLead, blockLead, stmtFormOf, stmtForm, stmtLead, LeadsStmt}
 use Rattle.shape.specs.declared.Scan.{Scan}
 use Rattle.shape.specs.declared.Scan.the-variants.{Past, Fault}
-use Rattle.shape.specs.declared.Value.{Value}
-use Rattle.shape.specs.declared.Value.the-variants.{Of, Unread}
-use Rattle.shape.specs.declared.Lead.{Lead}
-use Rattle.shape.specs.declared.Lead.the-variants.{On, Off}
-use Rattle.shape.specs.declared.PlaceForm.{PlaceForm}
-use Rattle.shape.specs.declared.PlaceForm.the-variants.{OneNumber, TwoNumbers, NoPlace}
-use Rattle.shape.specs.declared.StmtForm.{StmtForm}
-use Rattle.shape.specs.declared.StmtForm.the-variants.{Bare, Assign, If, Block, CallStmt, Named, Returned, NoStmt}
+use Rattle.shape.specs.declared.looks.Value.{Value}
+use Rattle.shape.specs.declared.looks.Value.the-variants.{Of, Unread}
+use Rattle.shape.specs.declared.expressions.Lead.{Lead}
+use Rattle.shape.specs.declared.expressions.Lead.the-variants.{On, Off}
+use Rattle.shape.specs.declared.statements.StmtForm.{StmtForm}
 use Rattle.shape.proofs.Laws.{on-past, on-fault, on-same, on-last, Scans, scans-self, scans-then, scans-pure, scans-last, scans-as, scan-here, stands-is, stands-none, stands-out}
-use Rattle.shape.proofs.Laws.{none-past, deep-missing, deep-same, repeat-none, scans-one, scans-two}
-use Rattle.shape.proofs.Exprs.{above, one-less, lead-scan, scans-list, call-scan, scans-field, scans-place, args-laid, starts-expr, construct}
+use Rattle.shape.proofs.Laws.{repeat-none, scans-one, scans-two}
+use Rattle.shape.proofs.Exprs.{one-less, lead-scan, scans-list, call-scan, args-laid, starts-expr, construct}
 use Rattle.shape.proofs.Agrees.{Alike, alike-then, alike-one, alike-two, alike-all, alike-assoc, alike-map, agree-none, agree-members, agree-call, behind-tag, tag-in, Latest, kept-latest}
-use Rattle.shape.proofs.Lays.{lays-none, lays-deep, begins-repeat, lays-next, all-none, all-past, all-fault, Pending, pending-first}
-
--- a target's form by its tag
-pub place-of : (version n tag : ℕ) (f : PlaceForm) → n ≡ tag → f ≡ placeForm version tag → f ≡ placeForm version n
-place-of version n tag f e q = rw e q
-
-pub place-none : (version n : ℕ) → (n ≡ 2 → ⊥) → (n ≡ 3 → ⊥) → (n ≡ 4 → ⊥) → (n ≡ 5 → ⊥) → NoPlace ≡ placeForm version n
-unfolding placeForm placeFormOf placeTagOf
-place-none version zero a b c d = refl
-place-none version (suc zero) a b c d = refl
-place-none version (suc (suc zero)) a b c d = absurd (a refl)
-place-none version (suc (suc (suc zero))) a b c d = absurd (b refl)
-place-none version (suc (suc (suc (suc zero)))) a b c d = absurd (c refl)
-place-none version (suc (suc (suc (suc (suc zero))))) a b c d = absurd (d refl)
-place-none version (suc (suc (suc (suc (suc (suc n)))))) a b c d = later n
-  where
-    later : (n : ℕ)
-        → NoPlace ≡ placeFormOf (placeTagOf version
-        (getElem? (exprTags version) (suc (suc (suc (suc (suc (suc n))))))))
-    later zero = refl
-    later (suc zero) = refl
-    later (suc (suc zero)) = refl
-    later (suc (suc (suc zero))) = refl
-    later (suc (suc (suc (suc zero)))) = refl
-    later (suc (suc (suc (suc (suc zero))))) = refl
-    later (suc (suc (suc (suc (suc (suc zero)))))) = refl
-    later (suc (suc (suc (suc (suc (suc (suc zero))))))) = refl
-    later (suc (suc (suc (suc (suc (suc (suc (suc n)))))))) = refl
-
-pub ruleset placeForms = (place-of, place-none)
-
--- what stands behind a target's tag
-module _ (nums : List ℕ) (at : ℕ) (form : PlaceForm) where
-  pub place-one : (r : Scan) → form ≡ OneNumber → r ≡ scanOf number nums (at + 1) → r ≡ placeScan form nums at
-  unfolding placeScan
-  place-one r f q = rw f q
-
-  pub place-two : (r : Scan) → form ≡ TwoNumbers → r ≡ scanOf (repeat 2 number) nums (at + 1)
-      → r ≡ placeScan form nums at
-  unfolding placeScan
-  place-two r f q = rw f q
-
-  pub place-no : form ≡ NoPlace → Fault 4 at ≡ placeScan form nums at
-  unfolding placeScan
-  place-no f = rw f
-
-pub ruleset places = (place-one, place-two, place-no)
-
-place-as : (version : ℕ) (tag : PlaceTag) (i : ℕ) (nums : List ℕ) (at : ℕ)
-    → scanOf (readPlace version tag >>= λ p. pure {A = ℕ × Place} (i, p)) nums (suc at)
-    ≡ placeScan (placeFormOf (some tag)) nums at
-unfolding placeScan placeFormOf
-place-as version tagLocal i nums at =
-    rw (← add-one at) (scans-last (keeps-place version tagLocal) (scans-place version nums .0)
-    (λ p. scans-pure _) .scan (at + 1))
-place-as version tagParameter i nums at =
-    rw (← add-one at) (scans-last (keeps-place version tagParameter) (scans-place version nums .1)
-    (λ p. scans-pure _) .scan (at + 1))
-place-as version tagGlobal i nums at =
-    rw (← add-one at) (scans-last (keeps-place version tagGlobal) (scans-place version nums .2)
-    (λ p. scans-pure _) .scan (at + 1))
-place-as version tagField i nums at =
-    rw (← add-one at) (scans-last (keeps-place version tagField) (scans-field version nums) (λ p. scans-pure _) .scan
-    (at + 1))
-
-module _ (version depth : ℕ) (nums : List ℕ) (at : ℕ) where
-  placeTag : ℕ → Option PlaceTag
-  placeTag n = placeTagOf version (getElem? (exprTags version) n)
-
-  behind-target : ℕ → PlaceTag → Reader (ℕ × Place)
-  behind-target i tag = readPlace version tag >>= λ p. pure (i, p)
-
-  target-suc : at < length nums
-      → placeScan (placeForm version (getD nums at 0)) nums at ≡ scanOf (readTarget version (suc depth)) nums at
-  unfolding readTarget placeForm placeFormOf placeTag behind-target
-  target-suc h =
-      sym (scan-here nums at (λ i. standsFor placeTag >>= behind-target i) ∙ go (placeTag (getD nums at 0)) refl)
-    where
-      go : (x : Option PlaceTag) → placeTag (getD nums at 0) ≡ x
-          → scanOf (standsFor placeTag >>= behind-target at) nums at ≡ placeScan (placeFormOf x) nums at
-      go none e = stands-none placeTag (behind-target at) nums at h e ∙ place-no nums at (placeFormOf none) refl
-      go (some tag) e = stands-is placeTag (behind-target at) nums at tag h e ∙ place-as version tag at nums at
-
-  target-out : length nums ≤ at → Fault 4 at ≡ scanOf (readTarget version (suc depth)) nums at
-  unfolding readTarget placeTag behind-target
-  target-out h =
-      sym (scan-here nums at (λ i. standsFor placeTag >>= behind-target i) ∙ stands-out placeTag
-      (behind-target at) nums at h)
-
-  pub target-deep : (r : Scan) → depth ≡ 0 → r ≡ scanOf (tooDeep {A = ℕ}) nums at
-      → r ≡ scanOf (readTarget version depth) nums at
-  unfolding readTarget
-  target-deep r e q = rw e (q ∙ deep-same (ℕ × Place) nums at)
-
-pub target-is : (version depth : ℕ) (nums : List ℕ) (at : ℕ) (form : PlaceForm) (r : Scan) → (depth ≡ 0 → ⊥)
-    → at < length nums
-    → form ≡ placeForm version (getD nums at 0) → r ≡ placeScan form nums at
-    → r ≡ scanOf (readTarget version depth) nums at
-target-is version depth nums at form r x h e q =
-    q ∙ rw e (rw (one-less depth x) at (target-suc version (depth - 1) nums at h))
-
-pub target-missing : (version depth : ℕ) (nums : List ℕ) (at : ℕ) → (depth ≡ 0 → ⊥) → length nums ≤ at
-    → Fault 4 at ≡ scanOf (readTarget version depth) nums at
-target-missing version depth nums at x h = rw (one-less depth x) at (target-out version (depth - 1) nums at h)
-
--- a target that reads is inside the list
-target-inside : (version depth : ℕ) (nums : List ℕ) (at n : ℕ) (a : Scan)
-    → a ≡ scanOf (readTarget version depth) nums at → a ≡ Past n
-    → at < length nums
-target-inside version depth nums at n a q p = go depth (sym p ∙ q) (ltb at (length nums)) refl
-  where
-    go : (d : ℕ) → Past n ≡ scanOf (readTarget version d) nums at → (b : Bool) → ltb at (length nums) ≡ b
-        → at < length nums
-    go d e true t = ltb-true at (length nums) t
-    go zero e false t =
-        let f : Fault 4 at ≡ scanOf (readTarget version 0) nums at
-        = target-deep version 0 nums at (Fault 4 at) refl (deep-missing nums at (ltb-false at (length nums) t)) in
-        let z : _≡_ {A = ℕ} 0 1 = cc in
-        absurd (omega arith)
-    go (suc d) e false t =
-        let f : Fault 4 at ≡ scanOf (readTarget version (suc d)) nums at
-        = target-out version d nums at (ltb-false at (length nums) t) in
-        let z : _≡_ {A = ℕ} 0 1 = cc in
-        absurd (omega arith)
-
-pub ruleset targets = (target-deep, target-is, target-missing)
-
--- an assignment up to its value
-module _ (version depth : ℕ) (nums : List ℕ) (at : ℕ) (a : Scan)
-    (q : a ≡ scanOf (readTarget version depth) nums at) where
-  pub target-on : (next : ℕ) (found : List ℕ) → a ≡ Past next
-      → LeadsTarget version depth nums at found (set found at next) (On next 1 0)
-  unfolding leadBy laidTarget
-  target-on next found p = record { lead = rw (← q, p); laid = rw (← q, p) }
-
-  pub target-off : (f i : ℕ) (found : List ℕ) → a ≡ Fault f i → LeadsTarget version depth nums at found found (Off f i)
-  unfolding leadBy laidTarget
-  target-off f i found p = record { lead = rw (← q, p); laid = rw (← q, p) }
-
-  pub target-slot : (n : ℕ) → a ≡ Past n → length nums ≤ mostNumbers → at < mostNumbers
-  target-slot n p h = omega (arith, target-inside version depth nums at n a q p)
-
-  pub target-fits : (n : ℕ) → a ≡ Past n → length nums ≤ mostNumbers → at * 8 < 2 ^ 64
-  target-fits n p h = omega (arith, target-inside version depth nums at n a q p)
-
-pub ruleset targetLeads = (target-on, target-off, target-slot, target-fits)
-
--- a statement's form by its tag
-pub stmt-of : (version n tag : ℕ) (f : StmtForm) → n ≡ tag → f ≡ stmtForm version tag → f ≡ stmtForm version n
-stmt-of version n tag f e q = rw e q
-
-pub stmt-none : (version n : ℕ) → (n ≡ 0 → ⊥) → (n ≡ 1 → ⊥) → (n ≡ 2 → ⊥) → (n ≡ 3 → ⊥) → (n ≡ 4 → ⊥) → (n ≡ 5 → ⊥)
-    → (n ≡ 6 → ⊥)
-    → (n ≡ 7 → ⊥) → (n ≡ 8 → ⊥) → (n ≡ 9 → ⊥) → (n ≡ 10 → ⊥) → NoStmt ≡ stmtForm version n
-unfolding stmtForm stmtFormOf
-stmt-none version n a b c d e f g h i j k =
-    let p : 4 ≤ n = above n 3 (above n 2 (above n 1 (above n 0 (omega arith) a) b) c) d in
-    let q : 9 ≤ n = above n 8 (above n 7 (above n 6 (above n 5 (above n 4 p e) f) g) h) i in
-    rw (none-past (stmtTags version) n (above n 10 (above n 9 q j) k))
-
-pub ruleset stmtForms = (stmt-of, stmt-none)
-
--- a block up to its members
-pub block-on : (v w : Value) (count next : ℕ) → v ≡ w → v ≡ Of count next → On next 0 count ≡ blockLead w
-unfolding blockLead
-block-on v w count next e p = rw (← e, p)
-
-pub block-off : (v w : Value) (fault index : ℕ) → v ≡ w → v ≡ Unread fault index → Off fault index ≡ blockLead w
-unfolding blockLead
-block-off v w fault index e p = rw (← e, p)
-
-pub ruleset blocks = (block-on, block-off)
-
--- the lead of a statement, by its form
-module _ (version depth : ℕ) (nums : List ℕ) (at : ℕ) (form : StmtForm) (r : Lead) where
-  pub bare-lead : form ≡ Bare → r ≡ leadBy (Past (at + 1)) 0 0 → r ≡ stmtLead version depth form nums at
-  unfolding stmtLead
-  bare-lead f q = rw f q
-
-  pub assign-lead : form ≡ Assign → (s : Scan) → s ≡ scanOf (readTarget version depth) nums (at + 1) → r ≡ leadBy s 1 0
-      → r ≡ stmtLead version depth form nums at
-  unfolding stmtLead
-  assign-lead f s e q = rw (f, ← e) q
-
-  pub if-lead : form ≡ If → r ≡ leadBy (Past (at + 1)) 1 2 → r ≡ stmtLead version depth form nums at
-  unfolding stmtLead
-  if-lead f q = rw f q
-
-  pub block-lead : form ≡ Block → r ≡ blockLead (valueOf 0 64 nums (at + 1)) → r ≡ stmtLead version depth form nums at
-  unfolding stmtLead
-  block-lead f q = rw f q
-
-  pub call-stmt-lead : form ≡ CallStmt → r ≡ callLead nums (scanOf number nums (at + 1))
-      → r ≡ stmtLead version depth form nums at
-  unfolding stmtLead
-  call-stmt-lead f q = rw f q
-
-  pub named-lead : form ≡ Named → (s : Scan) → s ≡ scanOf number nums (at + 1) → r ≡ leadBy s 0 0
-      → r ≡ stmtLead version depth form nums at
-  unfolding stmtLead
-  named-lead f s e q = rw (f, ← e) q
-
-  pub returned-lead : form ≡ Returned → r ≡ leadBy (Past (at + 1)) 1 0 → r ≡ stmtLead version depth form nums at
-  unfolding stmtLead
-  returned-lead f q = rw f q
-
-pub no-stmt-lead : (version depth : ℕ) (nums : List ℕ) (at : ℕ) (form : StmtForm) → form ≡ NoStmt
-    → Off 4 at ≡ stmtLead version depth form nums at
-unfolding stmtLead
-no-stmt-lead version depth nums at form f = rw f
-
--- with the slots that it lays: none but an assignment's target
-module _ (version depth : ℕ) (nums : List ℕ) (at : ℕ) (form : StmtForm) (r : Lead) (found : List ℕ) where
-  pub bare-form : form ≡ Bare → r ≡ leadBy (Past (at + 1)) 0 0 → LeadsForm version depth form nums at found found r
-  unfolding stmtLaid
-  bare-form f q = record { lead = bare-lead version depth nums at form r f q; laid = rw f }
-
-  pub assign-form : (mid : List ℕ) → form ≡ Assign → LeadsTarget version depth nums (at + 1) found mid r
-      → LeadsForm version depth form nums at found mid r
-  unfolding stmtLaid
-  assign-form mid f t =
-      record { lead = assign-lead version depth nums at form r f _ refl (t .lead); laid = rw f (t .laid) }
-
-  pub if-form : form ≡ If → r ≡ leadBy (Past (at + 1)) 1 2 → LeadsForm version depth form nums at found found r
-  unfolding stmtLaid
-  if-form f q = record { lead = if-lead version depth nums at form r f q; laid = rw f }
-
-  pub block-form : form ≡ Block → r ≡ blockLead (valueOf 0 64 nums (at + 1))
-      → LeadsForm version depth form nums at found found r
-  unfolding stmtLaid
-  block-form f q = record { lead = block-lead version depth nums at form r f q; laid = rw f }
-
-  pub call-stmt-form : form ≡ CallStmt → r ≡ callLead nums (scanOf number nums (at + 1))
-      → LeadsForm version depth form nums at found found r
-  unfolding stmtLaid
-  call-stmt-form f q = record { lead = call-stmt-lead version depth nums at form r f q; laid = rw f }
-
-  pub named-form : form ≡ Named → (s : Scan) → s ≡ scanOf number nums (at + 1) → r ≡ leadBy s 0 0
-      → LeadsForm version depth form nums at found found r
-  unfolding stmtLaid
-  named-form f s e q = record { lead = named-lead version depth nums at form r f s e q; laid = rw f }
-
-  pub returned-form : form ≡ Returned → r ≡ leadBy (Past (at + 1)) 1 0
-      → LeadsForm version depth form nums at found found r
-  unfolding stmtLaid
-  returned-form f q = record { lead = returned-lead version depth nums at form r f q; laid = rw f }
-
-pub no-stmt-form : (version depth : ℕ) (nums : List ℕ) (at : ℕ) (form : StmtForm) (found : List ℕ) → form ≡ NoStmt
-    → LeadsForm version depth form nums at found found (Off 4 at)
-unfolding stmtLaid
-no-stmt-form version depth nums at form found f =
-    record { lead = no-stmt-lead version depth nums at form f; laid = rw f }
-
-unlisted : (version depth : ℕ) (nums : List ℕ) (at : ℕ) (K : ℕ → ℕ → ℕ → Scan)
-    → Fault 4 at ≡ onLead (stmtLead version depth (stmtFormOf none) nums at) K
-unfolding stmtLead stmtFormOf onLead
-unlisted version depth nums at K = refl
-
-pub ruleset stmtLeads =
-    (bare-form, assign-form, if-form, block-form, call-stmt-form, named-form, returned-form, no-stmt-form)
+use Rattle.shape.proofs.Lays.{lays-none, lays-deep, begins-repeat, lays-next, pendings}
+use Rattle.shape.proofs.Targets.{unlisted}
 
 -- what follows a lead: operands, then statements
 module _ (version : ℕ) (nums : List ℕ) (operand : Reader Expr) (target : Reader (ℕ × Place)) (inner : Reader Stmt)
@@ -339,8 +78,9 @@ module _ (version : ℕ) (nums : List ℕ) (operand : Reader Expr) (target : Rea
       (scans-then i (scans-self inner nums) λ a. scans-last i (scans-self inner nums) λ b. scans-pure _)
       (scans-two i)) .scan (at + 1))
   lead-as tagBlock j depth at e =
-      rw (← add-one at) (scans-last (keeps-list 0 64 i) (scans-list 0 64 i) (λ ss. scans-pure _) .scan (at + 1)
-      ∙ block-scan (valueOf 0 64 nums (at + 1)))
+      rw (← add-one at)
+      (scans-last (keeps-list 0 mostMembers i) (scans-list 0 mostMembers i) (λ ss. scans-pure _) .scan (at + 1)
+      ∙ block-scan (valueOf 0 mostMembers nums (at + 1)))
   lead-as tagCallStmt j depth at e =
       rw (← add-one at) (call-scan after h (λ f xs. scans-pure _) after-operands .scan (at + 1))
   lead-as tagApply j depth at e =
@@ -420,13 +160,14 @@ stmts-at version (s ∷ ss) end = refl
 
 pub stmts-laid : (version : ℕ) (ss : List Stmt) (end : ℕ) (slots : List ℕ)
     → layStmts (toStmts version ss) end slots ≡ layMembers ss end slots
-unfolding layStmts toStmts layMembers layAll
+unfolding layStmts toStmts layAll
 stmts-laid version [] end slots = refl
 stmts-laid version (s ∷ ss) end slots =
     rw (stmts-at version ss end) (stmts-laid version ss end (layStmt s (firstAt stmtAt ss end) slots))
 
 -- a target takes its tag and a number at least
-target-later : (version depth : ℕ) (nums : List ℕ) (at : ℕ) → Latest (suc at) (readTarget version depth (drop at nums) at)
+target-later : (version depth : ℕ) (nums : List ℕ) (at : ℕ)
+    → Latest (suc at) (readTarget version depth (drop at nums) at)
 unfolding readTarget tooDeep here _>>=_ andThen standsFor meaning Latest
 target-later version zero nums at = go (drop at nums)
   where
@@ -446,7 +187,8 @@ target-later version (suc depth) nums at = go (ltb at (length nums)) refl
 
     inside : (x : Option PlaceTag) → Latest (suc at) (andThen (meaning 4 x (drop (suc at) nums) at) rest)
     inside none = tt
-    inside (some tag) = kept-latest nums (suc at) (rest tag (drop (suc at) nums) (suc at)) (keeps-rest tag .kept nums (suc at))
+    inside (some tag) = kept-latest nums (suc at) (rest tag (drop (suc at) nums) (suc at))
+        (keeps-rest tag .kept nums (suc at))
 
     go : (b : Bool) → ltb at (length nums) ≡ b
         → Latest (suc at) (andThen (lookedUp 4 what (drop at nums) at) rest)
@@ -554,7 +296,8 @@ module _ (version depth : ℕ) (nums : List ℕ) (at : ℕ) (found : List ℕ)
       agree-call Tree parts nums (at + 1) operand _ λ f n. operands-alike n
       (alike-all (λ a xs. Tree a (xs, [])) (repeat n operand) _ (N .call-node f))
   tree-as tagApply =
-      agree-none Tree parts nums (at + 1) _ ([], []) _ _ _ (gives-then _ λ t. gives-pure _ _ (N .apply-node t)) none-read
+      agree-none Tree parts nums (at + 1) _ ([], []) _ _ _
+      (gives-then _ λ t. gives-pure _ _ (N .apply-node t)) none-read
   tree-as tagReturnValue =
       behind-tag Tree parts nums at 1 0
       (operands-alike 1 (alike-one (λ a xs. Tree a (xs, [])) operand _ (N .value-node)))
@@ -563,7 +306,8 @@ module _ (version depth : ℕ) (nums : List ℕ) (at : ℕ) (found : List ℕ)
   tree-as tagExit =
       agree-none Tree parts nums (at + 1) _ ([], []) _ _ _ (gives-pure _ _ (N .exit-node)) none-read
   tree-as tagSetValid =
-      agree-none Tree parts nums (at + 1) _ ([], []) _ _ _ (gives-then _ λ g. gives-pure _ _ (N .valid-node g)) none-read
+      agree-none Tree parts nums (at + 1) _ ([], []) _ _ _
+      (gives-then _ λ g. gives-pure _ _ (N .valid-node g)) none-read
   tree-as tagSetInvalid =
       agree-none Tree parts nums (at + 1) _ ([], []) _ _ _ (gives-then _ λ g. gives-pure _ _ (N .invalid-node g))
       none-read
@@ -585,7 +329,7 @@ module _ (version depth : ℕ) (nums : List ℕ) (at : ℕ) (found : List ℕ)
 
 made-nodes : (version at : ℕ) (found : List ℕ)
     → StmtNodes version at found (λ mid. Made layStmt layParts at found mid)
-unfolding layStmt layParts layMembers layExprs layAll firstAt
+unfolding layStmt layParts layAll firstAt
 made-nodes version at found = record {
   empty-node = record { made = λ end. refl };
   assign-node = λ next p e q h. record { made = λ end. rw q };
@@ -627,7 +371,8 @@ module _ (version depth : ℕ) (nums : List ℕ) (at : ℕ) (found : List ℕ) w
   unfolding readStmt
   stmt-deep r e q = rw e (lays-deep layStmt nums at found found r q)
 
-  module _ (first : List ℕ) (lead : Lead) (x : depth ≡ 0 → ⊥) (l : LeadsStmt version (depth - 1) nums at found first lead) where
+  module _ (first : List ℕ) (lead : Lead) (x : depth ≡ 0 → ⊥)
+      (l : LeadsStmt version (depth - 1) nums at found first lead) where
     pub stmt-off : (f i : ℕ) → lead ≡ Off f i → Lays (readStmt version depth) layStmt nums at found first (Fault f i)
     unfolding onLead
     stmt-off f i p =
@@ -678,34 +423,6 @@ module _ (version depth : ℕ) (nums : List ℕ) (at : ℕ) (found : List ℕ) w
         stmt-member-fault f i q =
             lays-none (readStmt version depth) layStmt nums at f i found last (sym q ∙ stmt-scan-on)
 
--- so many, one after the other
-module _ (version depth count : ℕ) (nums : List ℕ) (at : ℕ) (found : List ℕ) where
-  pub stmts-first : Pending (readStmt version depth) layMembers count nums at found count at found
-  stmts-first = pending-first (readStmt version depth) layMembers count nums at found
-
-  module _ (left next : ℕ) (now : List ℕ)
-      (w : Pending (readStmt version depth) layMembers count nums at found left next now) where
-    pub stmts-none : left ≡ 0 → Lays (repeat count (readStmt version depth)) layMembers nums at found now (Past next)
-    unfolding layMembers
-    stmts-none e = w .rest now (Past next) (all-none stmtAt layStmt (readStmt version depth) nums next left now e)
-
-    pub stmts-past : (end : ℕ) (mid : List ℕ) (a : Scan) → (left ≡ 0 → ⊥)
-        → Lays (readStmt version depth) layStmt nums next now mid a → a ≡ Past end
-        → Pending (readStmt version depth) layMembers count nums at found (left - 1) end mid
-    unfolding layMembers
-    stmts-past end mid a x v p = record {
-      rest = λ last r u. w .rest last r
-          (all-past stmtAt layStmt (readStmt version depth) nums next left (keeps-stmt version depth) (starts-stmt version depth) end
-          now mid last a r r x v p u refl);
-    }
-
-    pub stmts-fault : (f i : ℕ) (mid : List ℕ) (a : Scan) → (left ≡ 0 → ⊥)
-        → Lays (readStmt version depth) layStmt nums next now mid a → a ≡ Fault f i
-        → Lays (repeat count (readStmt version depth)) layMembers nums at found mid (Fault f i)
-    unfolding layMembers
-    stmts-fault f i mid a x v p =
-        w .rest mid (Fault f i) (all-fault stmtAt layStmt (readStmt version depth) nums next left f i now mid a x v p)
-
 pub slot-in : (version depth : ℕ) (nums : List ℕ) (at next operands statements : ℕ) (found mid : List ℕ) (lead : Lead)
     → length nums ≤ mostNumbers → LeadsStmt version depth nums at found mid lead
     → lead ≡ On next operands statements → at < mostNumbers
@@ -718,16 +435,7 @@ pub slot-fits : (version depth : ℕ) (nums : List ℕ) (at next operands statem
 slot-fits version depth nums at next operands statements found mid lead h l p =
     omega (arith, slot-in version depth nums at next operands statements found mid lead h l p)
 
-pub ruleset stmtSteps = (
-  stmt-deep,
-  stmt-on,
-  stmt-operand-fault,
-  stmt-member-fault,
-  stmt-off,
-  slot-in,
-  slot-fits,
-  stmts-first,
-  stmts-none,
-  stmts-past,
-  stmts-fault,
-)
+pub ruleset stmtSteps =
+    (stmt-deep, stmt-on, stmt-operand-fault, stmt-member-fault, stmt-off, slot-in, slot-fits)
+
+pub ruleset stmtLists = (keeps-stmt, starts-stmt, pendings)

@@ -1,14 +1,13 @@
--- The directory: where the parts of a program begin, for the passes that come after. It has 70 slots. A list has one
--- for its count and one for each member it may have: header types from slot 0 on, globals from 9, callables from 42,
--- tables from 59. Slot 68 is the apply body's, and 69 that of the program's end. Slots of members that a list has not
--- are left as found.
+-- The directory: where the parts of a program begin, for the passes that come after. A list has a slot for its count
+-- and one for each member it may have; the apply body and the program's end have a slot each. Slots of members that a
+-- list has not are left as found.
 use mathlib.Core.List.{List, [], _∷_, map}
-use Prim.Native.Nat.{ℕ}
+use Prim.Native.Nat.{ℕ, _+_}
 use lib.ListN.{length}
 use lib.Seq.{sets}
 use Rattle.rules.specs.Syntax.{Program, HeaderTy, Global, Callable, Table}
 use Rattle.rules.specs.Syntax.{Stmt, empty, assign, ifElse, block, callStmt, apply, returnValue, return, exit, setValid, setInvalid}
-use Rattle.rules.specs.Reading.{Got, got, bad}
+use Rattle.rules.specs.Reading.{Got, got, bad, mostHeaders, mostGlobals, mostCallables, mostTables}
 
 -- a statement's own tag
 unfoldable pub stmtAt : Stmt → ℕ
@@ -24,20 +23,44 @@ stmtAt (exit at) = at
 stmtAt (setValid at global) = at
 stmtAt (setInvalid at global) = at
 
+-- the slots: those of the lists' counts, the body's, the end's, and how many there are
+abbrev pub headersSlot : ℕ
+headersSlot = 0
+
+abbrev pub globalsSlot : ℕ
+globalsSlot = headersSlot + 1 + mostHeaders
+
+abbrev pub callablesSlot : ℕ
+callablesSlot = globalsSlot + 1 + mostGlobals
+
+abbrev pub tablesSlot : ℕ
+tablesSlot = callablesSlot + 1 + mostCallables
+
+abbrev pub bodySlot : ℕ
+bodySlot = tablesSlot + 1 + mostTables
+
+abbrev pub endSlot : ℕ
+endSlot = bodySlot + 1
+
+abbrev pub slotCount : ℕ
+slotCount = endSlot + 1
+
 -- a list from a slot on: its count, then where each member begins
 unfoldable pub listed : List ℕ → ℕ → List ℕ → List ℕ
 listed slots slot starts = sets slots slot (length starts ∷ starts)
 
 -- what the slots hold once a program is read
 unfoldable pub declared : List HeaderTy → List Global → List ℕ → List ℕ
-declared headers globals slots = listed (listed slots 0 (map (λ h. h .at) headers)) 9 (map (λ g. g .at) globals)
+declared headers globals slots = listed (listed slots headersSlot (map (λ h. h .at) headers)) globalsSlot
+    (map (λ g. g .at) globals)
 
 unfoldable pub defined : List Callable → List Table → List ℕ → List ℕ
-defined callables tables slots = listed (listed slots 42 (map (λ c. c .at) callables)) 59 (map (λ t. t .at) tables)
+defined callables tables slots = listed (listed slots callablesSlot (map (λ c. c .at) callables)) tablesSlot
+    (map (λ t. t .at) tables)
 
 unfoldable pub directoryOf : Program → ℕ → List ℕ → List ℕ
 directoryOf p end slots =
-    sets (defined (p .callables) (p .tables) (declared (p .headers) (p .globals) slots)) 68
+    sets (defined (p .callables) (p .tables) (declared (p .headers) (p .globals) slots)) bodySlot
     (stmtAt (p .body) ∷ end ∷ [])
 
 -- and what they are left with: a fault leaves them as found

@@ -5,6 +5,7 @@ use mathlib.Core.Path.{_≡_}
 use mathlib.Core.List.{List, [], _∷_}
 use Prim.Native.Nat.{ℕ, _-_}
 use lib.ListN.{getD, set, replicate}
+use Rattle.rules.specs.Numbers.{mostBytes}
 use Rattle.rules.specs.Syntax.{Expr, boolLiteral, bitsLiteral, readOf, validOf, negation, complement, binary, cast, slice, concatenation, callExpr, Args, noArgs, arg}
 use Rattle.rules.specs.Syntax.{Stmt, empty, assign, ifElse, block, callStmt, apply, returnValue, return, exit, setValid, setInvalid, Stmts, noStmts, stmt}
 use Rattle.rules.specs.Syntax.{Callable, Key, Numeral, Table, Program}
@@ -15,7 +16,7 @@ use Rattle.shape.specs.declared.Scan.{Scan}
 
 -- how many slots there are: one for each number that a file may have
 abbrev pub mostNumbers : ℕ
-mostNumbers = 4096
+mostNumbers = mostBytes
 
 -- an expression's own tag
 unfoldable pub exprAt : Expr → ℕ

@@ -5,23 +5,24 @@ use mathlib.Core.List.{List}
 use Prim.Native.Nat.{ℕ, suc, _+_, _<_}
 use mathlib.Core.Path.{_≡_}
 use lib.ListN.{length, drop, set, getElem?}
+use Rattle.rules.specs.Words.{widest}
 use Rattle.rules.specs.Syntax.{Expr, Stmt}
-use Rattle.rules.specs.Reading.{Got, got, bad, Reader, _>>=_, pure, number, between, standsFor, repeat}
+use Rattle.rules.specs.Reading.{Got, got, bad, Reader, _>>=_, pure, number, between, standsFor, repeat, mostArguments, mostMembers, highestBound}
 use Rattle.rules.specs.Reading.{PlaceTag, tagLocal, tagParameter, tagGlobal, tagField, ExprTag, tagBool, tagBits, tagPlace, tagValid, tagNot, tagComplement, tagBinary, tagCast, tagSlice, tagConcatenation, tagCall}
 use Rattle.rules.specs.Reading.{StmtTag, tagEmpty, tagAssign, tagIf, tagBlock, tagCallStmt, tagApply, tagReturnValue, tagReturn, tagExit, tagSetValid, tagSetInvalid}
 use Rattle.rules.specs.Reading.{operators, exprTags, placeTagOf, stmtTags, readExpr, readTarget, readStmt}
 use Rattle.shape.specs.declared.Scan.{Scan}
 use Rattle.shape.specs.declared.Scan.the-variants.{Past, Fault}
-use Rattle.shape.specs.declared.Value.{Value}
-use Rattle.shape.specs.declared.Value.the-variants.{Of, Unread}
-use Rattle.shape.specs.declared.Lead.{Lead}
-use Rattle.shape.specs.declared.Lead.the-variants.{On, Off}
-use Rattle.shape.specs.declared.PlaceForm.{PlaceForm}
-use Rattle.shape.specs.declared.PlaceForm.the-variants.{OneNumber, TwoNumbers, NoPlace}
-use Rattle.shape.specs.declared.StmtForm.{StmtForm}
-use Rattle.shape.specs.declared.StmtForm.the-variants.{Bare, Assign, If, Block, CallStmt, Named, Returned, NoStmt}
-use Rattle.shape.specs.declared.ExprForm.{ExprForm}
-use Rattle.shape.specs.declared.ExprForm.the-variants.{Number, Field, Literal, Operand, Binary, Cast, Slice, Operands, Call, Unlisted}
+use Rattle.shape.specs.declared.looks.Value.{Value}
+use Rattle.shape.specs.declared.looks.Value.the-variants.{Of, Unread}
+use Rattle.shape.specs.declared.expressions.Lead.{Lead}
+use Rattle.shape.specs.declared.expressions.Lead.the-variants.{On, Off}
+use Rattle.shape.specs.declared.statements.PlaceForm.{PlaceForm}
+use Rattle.shape.specs.declared.statements.PlaceForm.the-variants.{OneNumber, TwoNumbers, NoPlace}
+use Rattle.shape.specs.declared.statements.StmtForm.{StmtForm}
+use Rattle.shape.specs.declared.statements.StmtForm.the-variants.{Bare, Assign, If, Block, CallStmt, Named, Returned, NoStmt}
+use Rattle.shape.specs.declared.expressions.ExprForm.{ExprForm}
+use Rattle.shape.specs.declared.expressions.ExprForm.the-variants.{Number, Field, Literal, Operand, Binary, Cast, Slice, Operands, Call, Unlisted}
 use Rattle.shape.specs.Scans.{scanOf}
 use Rattle.shape.specs.Directory.{stmtAt}
 use Rattle.shape.specs.Ends.{exprAt, layExpr, layStmt, firstAt, layAll}
@@ -33,7 +34,7 @@ onScan (Fault number index) k = Fault number index
 
 -- a literal's width and value
 unfoldable pub readLiteral : Reader ℕ
-readLiteral = between 1 64 >>= λ width. number
+readLiteral = between 1 widest >>= λ width. number
 
 -- a number from a least to a most, with its value
 unfoldable pub valued : Got ℕ → Value
@@ -62,7 +63,7 @@ argumentsLead (Of count next) = On next count 0
 argumentsLead (Unread number index) = Off number index
 
 unfoldable pub callLead : List ℕ → Scan → Lead
-callLead nums (Past next) = argumentsLead (valueOf 0 8 nums next)
+callLead nums (Past next) = argumentsLead (valueOf 0 mostArguments nums next)
 callLead nums (Fault number index) = Off number index
 
 -- what stands behind an expression's tag
@@ -92,8 +93,8 @@ exprLead version Field nums at = leadBy (scanOf (repeat 2 number) nums (at + 1))
 exprLead version Literal nums at = leadBy (scanOf readLiteral nums (at + 1)) 0 0
 exprLead version Operand nums at = leadBy (Past (at + 1)) 1 0
 exprLead version Binary nums at = leadBy (scanOf (standsFor (getElem? (operators version))) nums (at + 1)) 2 0
-exprLead version Cast nums at = leadBy (scanOf (between 1 64) nums (at + 1)) 1 0
-exprLead version Slice nums at = leadBy (scanOf (repeat 2 (between 0 63)) nums (at + 1)) 1 0
+exprLead version Cast nums at = leadBy (scanOf (between 1 widest) nums (at + 1)) 1 0
+exprLead version Slice nums at = leadBy (scanOf (repeat 2 (between 0 highestBound)) nums (at + 1)) 1 0
 exprLead version Operands nums at = leadBy (Past (at + 1)) 2 0
 exprLead version Call nums at = callLead nums (scanOf number nums (at + 1))
 exprLead version Unlisted nums at = Off 4 at
@@ -113,19 +114,19 @@ pub record Made {A B : Type 0} (lay : A → ℕ → List ℕ → List ℕ) (layP
     (found mid : List ℕ) (a : A) (b : B) : Type 0 where
   pub made : (end : ℕ) → lay a end found ≡ set (layParts b end mid) at end
 
-unfoldable pub layExprs : List Expr → ℕ → List ℕ → List ℕ
-layExprs xs end slots = layAll exprAt layExpr xs end slots
+abbrev pub layExprs : List Expr → ℕ → List ℕ → List ℕ
+layExprs = layAll exprAt layExpr
 
-unfoldable pub layMembers : List Stmt → ℕ → List ℕ → List ℕ
-layMembers ss end slots = layAll stmtAt layStmt ss end slots
+abbrev pub layMembers : List Stmt → ℕ → List ℕ → List ℕ
+layMembers = layAll stmtAt layStmt
 
 unfoldable pub readOperands : ℕ → ℕ → ℕ → ℕ → Reader (List Expr)
 readOperands version depth operands statements = repeat operands (readExpr version depth)
 
 unfoldable pub readParts : ℕ → ℕ → ℕ → ℕ → Reader (List Expr × List Stmt)
 readParts version depth operands statements =
-    repeat operands (readExpr version depth) >>= λ xs. repeat statements (readStmt version depth) >>= λ ss. pure
-    (xs, ss)
+    repeat operands (readExpr version depth) >>= λ xs. repeat statements (readStmt version depth) >>= λ ss.
+    pure (xs, ss)
 
 unfoldable pub layParts : List Expr × List Stmt → ℕ → List ℕ → List ℕ
 layParts p end slots = layMembers (p .1) end (layExprs (p .0) (firstAt stmtAt (p .1) end) slots)
@@ -186,7 +187,7 @@ unfoldable pub stmtLead : ℕ → ℕ → StmtForm → List ℕ → ℕ → Lead
 stmtLead version depth Bare nums at = leadBy (Past (at + 1)) 0 0
 stmtLead version depth Assign nums at = leadBy (scanOf (readTarget version depth) nums (at + 1)) 1 0
 stmtLead version depth If nums at = leadBy (Past (at + 1)) 1 2
-stmtLead version depth Block nums at = blockLead (valueOf 0 64 nums (at + 1))
+stmtLead version depth Block nums at = blockLead (valueOf 0 mostMembers nums (at + 1))
 stmtLead version depth CallStmt nums at = callLead nums (scanOf number nums (at + 1))
 stmtLead version depth Named nums at = leadBy (scanOf number nums (at + 1)) 0 0
 stmtLead version depth Returned nums at = leadBy (Past (at + 1)) 1 0

@@ -3,7 +3,9 @@ use mathlib.Core.Option.{Option}
 use mathlib.Core.List.{List}
 use Prim.Native.Nat.{ℕ, zero, suc, _-_}
 use lib.ListN.{getElem?}
+use Rattle.rules.specs.Words.{widest}
 use Rattle.rules.specs.Syntax.{Ty, Parameter, Key, Numeral}
+use Rattle.rules.specs.Reading.{mostParameters, mostLocals, mostKeys, mostActions, mostArguments}
 use Rattle.rules.specs.Reading.{Reader, _>>=_, pure, here, between, standsFor, listOf, callableKinds, typeOf}
 use Rattle.rules.specs.Reading.{readHeader, readGlobal, readParameter, readReturns, readCallable, readNumeral, readKey, readTable}
 use Rattle.shape.specs.Scans.{scanOf}
@@ -11,10 +13,10 @@ use Rattle.shape.specs.Ends.{firstAt, layAll, keyAt, layKey, numeralAt}
 use Rattle.shape.specs.Leads.{onScan, valueOf, onValue}
 use Rattle.shape.specs.declared.Scan.{Scan}
 use Rattle.shape.specs.declared.Scan.the-variants.{Past}
-use Rattle.shape.specs.declared.Item.{Item}
-use Rattle.shape.specs.declared.Item.the-variants.{WidthItem, TypeItem, ParameterItem, NumeralItem}
-use Rattle.shape.specs.declared.Part.{Part}
-use Rattle.shape.specs.declared.Part.the-variants.{HeaderPart, GlobalPart, CallablePart, TablePart}
+use Rattle.shape.specs.declared.items.Item.{Item}
+use Rattle.shape.specs.declared.items.Item.the-variants.{WidthItem, TypeItem, ParameterItem, NumeralItem}
+use Rattle.shape.specs.declared.program.Part.{Part}
+use Rattle.shape.specs.declared.program.Part.the-variants.{HeaderPart, GlobalPart, CallablePart, TablePart}
 
 -- so many of a kind, and a list of them
 unfoldable pub repeatScan : (ℕ → Scan) → ℕ → ℕ → Scan
@@ -26,7 +28,7 @@ listScan one least most nums at = onValue (valueOf least most nums at) (repeatSc
 
 -- what stands in lists inside a part
 unfoldable pub itemScan : ℕ → Item → List ℕ → ℕ → Scan
-itemScan version WidthItem = scanOf (between 1 64)
+itemScan version WidthItem = scanOf (between 1 widest)
 itemScan version TypeItem = scanOf (standsFor (typeOf version))
 itemScan version ParameterItem = scanOf (readParameter version)
 itemScan version NumeralItem = scanOf (readNumeral version)
@@ -38,24 +40,27 @@ readReturning version = standsFor (getElem? (callableKinds version)) >>= λ kind
 -- its parameters and locals
 unfoldable pub readFrame : ℕ → Reader (List Parameter × List Ty)
 readFrame version =
-    listOf 0 8 (readParameter version) >>= λ parameters. listOf 0 8 (standsFor (typeOf version)) >>= λ locals. pure
-    (parameters, locals)
+    listOf 0 mostParameters (readParameter version) >>= λ parameters.
+    listOf 0 mostLocals (standsFor (typeOf version)) >>= λ locals.
+    pure (parameters, locals)
 
 -- a table's keys and actions; its default with its arguments
-unfoldable pub layKeys : List Key → ℕ → List ℕ → List ℕ
-layKeys ks end slots = layAll keyAt layKey ks end slots
+abbrev pub layKeys : List Key → ℕ → List ℕ → List ℕ
+layKeys = layAll keyAt layKey
 
 unfoldable pub readChoices : ℕ → Reader (List Key × List Numeral)
 readChoices version =
-    listOf 1 4 (readKey version) >>= λ keys. listOf 1 8 (readNumeral version) >>= λ actions. pure (keys, actions)
+    listOf 1 mostKeys (readKey version) >>= λ keys. listOf 1 mostActions (readNumeral version) >>= λ actions.
+    pure (keys, actions)
 
 unfoldable pub layChoices : List Key × List Numeral → ℕ → List ℕ → List ℕ
 layChoices p end slots = layKeys (p .0) (firstAt numeralAt (p .1) end - 1) slots
 
 unfoldable pub readDefault : ℕ → Reader (Numeral × (ℕ × List Numeral))
 readDefault version =
-    readNumeral version >>= λ position. here >>= λ countAt. listOf 0 8 (readNumeral version) >>= λ arguments. pure
-    (position, (countAt, arguments))
+    readNumeral version >>= λ position. here >>= λ countAt.
+    listOf 0 mostArguments (readNumeral version) >>= λ arguments.
+    pure (position, (countAt, arguments))
 
 -- what the directory tells the beginnings of
 unfoldable pub partScan : ℕ → Part → List ℕ → ℕ → Scan

@@ -7,18 +7,18 @@ use lib.ListN.{drop}
 use lib.Seq.{sets}
 use Rattle.rules.specs.Syntax.{HeaderTy, Global, Callable, Table}
 use Rattle.rules.specs.Syntax.{Stmt}
-use Rattle.rules.specs.Reading.{Got, got, bad, Reader, _>>=_, pure, listOf}
+use Rattle.rules.specs.Reading.{Got, got, bad, Reader, _>>=_, pure, listOf, mostHeaders, mostGlobals, mostCallables, mostTables}
 use Rattle.rules.specs.Reading.{readHeader, readGlobal, readCallable, readTable}
 use Rattle.shape.specs.Scans.{scanOf}
 use Rattle.shape.specs.Leads.{valueOf}
 use Rattle.shape.specs.Parts.{repeatScan, listScan, partScan}
 use Rattle.shape.specs.declared.Scan.{Scan}
 use Rattle.shape.specs.declared.Scan.the-variants.{Past, Fault}
-use Rattle.shape.specs.declared.Value.{Value}
-use Rattle.shape.specs.declared.Value.the-variants.{Of, Unread}
-use Rattle.shape.specs.declared.Part.{Part}
-use Rattle.shape.specs.declared.Part.the-variants.{HeaderPart, GlobalPart, CallablePart, TablePart}
-use Rattle.shape.specs.Directory.{stmtAt, declared, defined}
+use Rattle.shape.specs.declared.looks.Value.{Value}
+use Rattle.shape.specs.declared.looks.Value.the-variants.{Of, Unread}
+use Rattle.shape.specs.declared.program.Part.{Part}
+use Rattle.shape.specs.declared.program.Part.the-variants.{HeaderPart, GlobalPart, CallablePart, TablePart}
+use Rattle.shape.specs.Directory.{stmtAt, declared, defined, bodySlot}
 use Rattle.shape.specs.Ends.{firstAt, layAll, callableAt, layCallable, tableAt, layTable}
 
 -- where so many members begin, one after the other, up to the first that does not read
@@ -58,22 +58,23 @@ pub record Lays {A : Type 0} (read : Reader A) (lay : A → ℕ → List ℕ →
 -- the header types and globals; the callables and tables; the apply body
 unfoldable pub readDeclared : ℕ → Reader (List HeaderTy × List Global)
 readDeclared version =
-    listOf 0 8 (readHeader version) >>= λ headers. listOf 0 32 (readGlobal version) >>= λ globals. pure
-    (headers, globals)
+    listOf 0 mostHeaders (readHeader version) >>= λ headers. listOf 0 mostGlobals (readGlobal version) >>= λ globals.
+    pure (headers, globals)
 
 unfoldable pub layDeclared : List HeaderTy × List Global → ℕ → List ℕ → List ℕ
 layDeclared p next slots = declared (p .0) (p .1) slots
 
 unfoldable pub readDefined : ℕ → Reader (List Callable × List Table)
 readDefined version =
-    listOf 0 16 (readCallable version) >>= λ callables. listOf 0 8 (readTable version) >>= λ tables. pure
-    (callables, tables)
+    listOf 0 mostCallables (readCallable version) >>= λ callables.
+    listOf 0 mostTables (readTable version) >>= λ tables.
+    pure (callables, tables)
 
 unfoldable pub layDefined : List Callable × List Table → ℕ → List ℕ → List ℕ
 layDefined p next slots = defined (p .0) (p .1) slots
 
 unfoldable pub layBody : Stmt → ℕ → List ℕ → List ℕ
-layBody body end slots = sets slots 68 (stmtAt body ∷ end ∷ [])
+layBody body end slots = sets slots bodySlot (stmtAt body ∷ end ∷ [])
 
 -- what a part lays into the ends: header types and globals nothing
 unfoldable pub noEnds : {A : Type 0} → A → ℕ → List ℕ → List ℕ

@@ -10,6 +10,7 @@ use Rattle.rules.specs.declared.WriteAnswer.{WriteAnswer}
 use Rattle.rules.specs.declared.WriteAnswer.the-variants.{Length}
 use Rattle.rules.specs.Numbers.{bytesOf}
 use Rattle.rules.specs.Answers.{withRoom, ofWrite, writeSays, writeLeaves}
+use Rattle.shape.specs.Ends.{mostNumbers}
 use Rattle.numbers.specs.Promises.{Reads, Writes}
 use Rattle.numbers.proofs.Room.{room-told, room-there, filled-there}
 use Rattle.numbers.proofs.Outcomes.{Numbered, read-numbered}
@@ -33,5 +34,6 @@ bytes-within ns bytes r left taken p e =
     omega (arith, simp length-append at (ap length stored))
 
 -- a part of the slots is no longer than they are
-pub part-fits : (slots : List ℕ) (count from : ℕ) → length slots ≡ 4096 → length (take count (drop from slots)) ≤ 4096
+pub part-fits : (slots : List ℕ) (count from : ℕ) → length slots ≡ mostNumbers
+    → length (take count (drop from slots)) ≤ mostNumbers
 part-fits slots count from e = omega (arith, length-take count (drop from slots), length-drop from slots)

@@ -7,8 +7,6 @@ use rules::ReadAnswer;
 use rules::Refusal;
 use shape::Scan;
 
-// The most numbers of a bench file: one a byte.
-const MOST_NUMBERS: usize = 4096;
 // So many of a file's numbers are printed.
 const SHOWN: usize = 4;
 
@@ -41,7 +39,7 @@ fn file(name: &[u8]) {
 }
 
 fn check(name: &[u8], bytes: &[u8]) {
-    let mut slots = [0u64; MOST_NUMBERS];
+    let mut slots = [0u64; shape::NUMBERS];
     let answer = numbers::read(bytes, &mut slots);
     lines::text(name);
     lines::read(answer);

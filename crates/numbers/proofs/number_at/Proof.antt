@@ -69,9 +69,6 @@ loop-again c = search (withins, c .before .before .before .before .shared-slice-
 returns-3 : tie.Need-returns-3 Inv-loop μ-loop
 returns-3 c = search (withins, needs)
 
-returns-4 : tie.Need-returns-4 Inv-loop μ-loop
-returns-4 c = search (withins, needs)
-
 pub number-at-spec : {M : Type 1} → statement M
 number-at-spec =
     tie.close
@@ -96,5 +93,4 @@ number-at-spec =
     add-at
     loop-less
     loop-again
-    returns-3
-    returns-4)
+    returns-3)

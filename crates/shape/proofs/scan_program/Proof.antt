@@ -1,5 +1,5 @@
 -- What carries it: a program is its version, its declarations, its definitions and its body.
-use Rattle.shape.proofs.Starts.{programs}
+use Rattle.shape.proofs.Programs.{programs}
 use borrow.Author.Needs.{needs}
 use Rattle.shape.proofs.scan_program.Statement.{statement}
 use Rattle.shape.proofs.scan_program.Tie as tie

@@ -1,0 +1,41 @@
+// The operations that docs/SPEED.md measures, under names that C and Rust can call. Each answers one number.
+ghost use mathlib.Core.Path.{_≡_};
+ghost use Prim.Native.Nat.{_≤_};
+ghost use lib.ListN.{length};
+ghost use Rattle.rules.specs.Answers.{readSays};
+ghost use Rattle.rules.specs.Reading.{readProgram};
+ghost use Rattle.shape.specs.Scans.{scanOf};
+ghost use Rattle.shape.specs.Ends.{mostNumbers};
+ghost use Rattle.speed.specs.Told.{countTold, endTold};
+use rules::ReadAnswer;
+use shape::Scan;
+
+// How many numbers the bytes hold, which stand in the slots then; 0 if they are refused.
+#[no_mangle]
+pub extern "C" fn nentuvar_read(bytes: &[u8], slots: &mut [u64]) -> usize
+    ensures { λ r. ⌜ r ≡ countTold (readSays (now (bytes .entry)) (length (now (slots .entry)))) ⌝ }
+{
+    match numbers::read(bytes, slots) {
+        ReadAnswer::Count(count) => count,
+        ReadAnswer::Unread(_) => 0,
+    }
+}
+
+// The index after the program at the head of `nums`; 0 at a fault.
+#[no_mangle]
+pub extern "C" fn nentuvar_scan(
+    nums: &[u64],
+    directory: &mut [u64; shape::SLOTS],
+    ends: &mut [u64; shape::NUMBERS],
+) -> usize
+    requires { ⌜ length (now nums) ≤ mostNumbers ⌝ }
+    ensures { λ r. ⌜ r ≡ endTold (scanOf readProgram (now (nums .entry)) 0) ⌝ }
+{
+    match shape::scan_program(nums, directory, ends) {
+        Scan::Past(end) => end,
+        Scan::Fault {
+            number: _,
+            index: _,
+        } => 0,
+    }
+}
