@@ -13,6 +13,7 @@ use Rattle.rules.specs.Syntax.{Expr, boolLiteral, bitsLiteral, readOf, validOf,
 use Rattle.rules.specs.Syntax.{Stmt, empty, assign, ifElse, block, callStmt, apply, returnValue, return, exit, setValid, setInvalid, Stmts, noStmts, stmt}
 use Rattle.rules.specs.Syntax.{HeaderTy, Global, Parameter, Callable, Numeral, Key, Table, Program}
 use Rattle.rules.specs.Reading.{deepest, highestBound, mostHeaders, mostFields, mostGlobals, mostCallables, mostParameters, mostLocals, mostTables, mostKeys, mostActions, mostArguments, mostMembers}
+use Rattle.shape.specs.Directory.{headersSlot, globalsSlot, callablesSlot, tablesSlot, bodySlot, endSlot, slotCount}
 use Rattle.program.specs.Codes.{tyOf, headerNumber, directionNumber, keyKindNumber, callableKindNumber, operatorNumber, placeTag, argCount, memberCount}
 
 -- a number at an index
@@ -218,13 +219,13 @@ pub record StandsList {A : Type 0} (Stands : ℕ → A → Type 0) (directory : 
 pub record StandsProgram (nums directory ends : List ℕ) (P : Program) (end : ℕ) : Type 0 where
   pub numbers : length nums ≤ mostBytes
   pub room : length nums ≤ length ends
-  pub slots : length directory ≡ 70
-  pub headers : StandsList (StandsHeader nums) directory 0 mostHeaders (P .headers)
-  pub globals : StandsList (StandsGlobal nums) directory 9 mostGlobals (P .globals)
-  pub callables : StandsList (StandsCallable nums ends) directory 42 mostCallables (P .callables)
-  pub tables : StandsList (StandsTable nums ends) directory 59 mostTables (P .tables)
-  pub body : StandsStmt nums ends deepest (getD directory 68 0) (P .body)
-  pub ending : getD directory 69 0 ≡ end
+  pub slots : length directory ≡ slotCount
+  pub headers : StandsList (StandsHeader nums) directory headersSlot mostHeaders (P .headers)
+  pub globals : StandsList (StandsGlobal nums) directory globalsSlot mostGlobals (P .globals)
+  pub callables : StandsList (StandsCallable nums ends) directory callablesSlot mostCallables (P .callables)
+  pub tables : StandsList (StandsTable nums ends) directory tablesSlot mostTables (P .tables)
+  pub body : StandsStmt nums ends deepest (getD directory bodySlot 0) (P .body)
+  pub ending : getD directory endSlot 0 ≡ end
 
 -- some program stands there
 pub record SomeProgram (nums directory ends : List ℕ) : Type 0 where
