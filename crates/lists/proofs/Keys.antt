@@ -1,15 +1,14 @@
 -- What an entry asks of a key, and of keys one after the other.
-use mathlib.Core.Bool.{Bool, true, false}
+use mathlib.Core.Bool.{true}
 use mathlib.Core.Path.{_≡_, refl, sym, _∙_}
 use mathlib.Core.List.{List, [], _∷_}
-use Prim.Native.Nat.{ℕ, zero, suc, _+_, _-_, _^_, _≤_, _<_}
+use Prim.Native.Nat.{ℕ, _+_, _-_, _^_, _≤_, _<_}
 use native.Mathlib.Omega.{arith}
-use native.Mathlib.Numerals.{sub-one}
 use lib.ListN.{length, getD}
 use Rattle.rules.specs.Words.{widest, fitsWidth, prefixFits, maskFits}
 use Rattle.rules.specs.Syntax.{KeyKind, exact, lpm, ternary, Key, Program}
-use Rattle.rules.specs.Reading.{Reader, _>>=_, pure}
-use Rattle.rules.specs.Lists.{Pattern, passing, asked, keyWidth, readPattern, readPatterns}
+use Rattle.rules.specs.Reading.{_>>=_, pure}
+use Rattle.rules.specs.Lists.{passing, asked, keyWidth, readPattern, readPatterns}
 use Rattle.shape.specs.declared.Scan.{Scan}
 use Rattle.shape.specs.declared.Scan.the-variants.{Past, Fault}
 use Rattle.shape.specs.Scans.{forget, scanOf}
@@ -18,7 +17,7 @@ use Rattle.program.specs.Stands.{Holds, StandsKeys}
 use Rattle.program.proofs.Views.{expr-begins}
 use Rattle.lists.specs.Parts.{readLimit, JudgesLimit, JudgesPattern, WidthsFrom, Keyed, AsksPatterns, JudgesPatterns}
 use Rattle.lists.proofs.Places.{placed-pattern}
-use Rattle.lists.proofs.Steps.{past-inside, behind-passed, then-fault, then-past, Alike, alike-made, alike-scan}
+use Rattle.lists.proofs.Steps.{past-inside, behind-passed, then-fault, then-past, alike-made, alike-scan}
 
 -- what stands behind a value
 module _ (nums : List ℕ) (kind width value at : ℕ) where
@@ -179,4 +178,14 @@ module _ (nums ends widths : List ℕ) (key count slot at : ℕ) where
         rw (o .same) (then-fault _ _ nums at f i a q p);
   }
 
-pub ruleset keys = (key-inside, key-ends, key-next, key-slot, key-width, keys-left, patterns-none, patterns-past, patterns-fault)
+pub ruleset keys = (
+  key-inside,
+  key-ends,
+  key-next,
+  key-slot,
+  key-width,
+  keys-left,
+  patterns-none,
+  patterns-past,
+  patterns-fault,
+)

@@ -1,5 +1,5 @@
--- Where the lists that are read stand: each reader from an index on gives what stands there, and leaves the numbers from
--- the index behind it on.
+-- Where the lists that are read stand: each reader from an index on gives what stands there, and leaves the numbers
+-- from the index behind it on.
 use mathlib.Core.Bool.{Bool, true, false}
 use mathlib.Core.Option.{Option, none, some}
 use mathlib.Core.Path.{_≡_, refl, sym, _∙_, ap}
@@ -8,13 +8,12 @@ use Prim.Native.Nat.{ℕ, zero, suc, _+_, _≤_, _<_}
 use native.Mathlib.Omega.{arith}
 use native.Mathlib.Numerals.{add-one}
 use lib.ListN.{length, getD, getElem?, drop, length-append}
-use lib.Dec.{ltb, eqb}
-use borrow.Author.Tests.{ltb-true, ltb-false}
-use Rattle.rules.specs.Words.{fitsWidth}
-use Rattle.rules.specs.Syntax.{bool, KeyKind, exact, lpm, ternary, Key, Parameter, Callable, Table, Global, Program}
+use lib.Dec.{ltb, leb, eqb}
+use borrow.Author.Tests.{ltb-true, ltb-false, leb-true}
+use Rattle.rules.specs.Syntax.{bool, KeyKind, exact, lpm, ternary, Key, Parameter, Global, Program}
 use Rattle.rules.specs.Reading.{Got, got, bad, Reader, andThen, _>>=_, pure, meaning, lookedUp, within, repeat}
 use Rattle.rules.specs.Form.{andLook, onlyIf, fits, Shape, aVariable, aHeader, shapeIn}
-use Rattle.rules.specs.Lists.{Pattern, exactly, prefixed, masked, Entry, Cell, variableCell, headerCell, mostEntries, passing, asked, keyWidth, actionAt, numbered, markOf, slotsOfCell, slotsOf}
+use Rattle.rules.specs.Lists.{Pattern, Entry, Cell, mostEntries, passing, asked, keyWidth, actionAt, numbered, markOf, slotsOfCell, slotsOf}
 use Rattle.rules.specs.Lists.{readPattern, readPatterns, readArguments, readEntry, readEntries, readFields, readShape, readCell, readCells, readStore, nothingLeft}
 use Rattle.rules.proofs.Readers.{looked-in, looked-out}
 use Rattle.program.specs.Stands.{Holds}
@@ -78,7 +77,8 @@ placed-looked {A} fault what = record { placed = λ nums at. go nums at (ltb at 
 placed-as : {A : Type 0} {S T : List ℕ → ℕ → ℕ → A → Type 0} {read : Reader A}
     → ((nums : List ℕ) (at next : ℕ) (a : A) → S nums at next a → T nums at next a) → Placed S read → Placed T read
 unfolding PlacedAt
-placed-as {A} {S} {T} {read} f h = record { placed = λ nums at. go nums at (read (drop at nums) at) (h .placed nums at) }
+placed-as {A} {S} {T} {read} f h =
+    record { placed = λ nums at. go nums at (read (drop at nums) at) (h .placed nums at) }
   where
     go : (nums : List ℕ) (at : ℕ) (x : Got A) → PlacedAt S nums at x → PlacedAt T nums at x
     go nums at (got a left next) p = (p .0, f nums at next a (p .1))
@@ -238,8 +238,27 @@ placed-repeat P (suc count) = placed-then (placed-entry P) λ e. placed-then (pl
     }
 
 -- the list of them, its count first
+within-most : (most m n : ℕ) → within 0 most m ≡ some n → n ≤ most
+unfolding within
+within-most most m n e = go (leb m most) refl (leb 0 m) refl
+  where
+    go : (b : Bool) → leb m most ≡ b → (c : Bool) → leb 0 m ≡ c → n ≤ most
+    go true f true l =
+        let s : within 0 most m ≡ some m = rw (within, l, f) in
+        let same : m ≡ n = cc in
+        rw (← same) (leb-true m most f)
+    go false f true l =
+        let s : within 0 most m ≡ none = rw (within, l, f) in
+        let z : _≡_ {A = ℕ} 0 1 = cc in
+        absurd (omega arith)
+    go b f false l =
+        let s : within 0 most m ≡ none = rw (within, l) in
+        let z : _≡_ {A = ℕ} 0 1 = cc in
+        absurd (omega arith)
+
 pub record EntryListAt (P : Program) (nums : List ℕ) (at next : ℕ) (es : List Entry) : Type 0 where
   pub stand : StandEntries P nums (suc at) es
+  pub few : length es ≤ mostEntries
   pub after : next ≡ behindEntries (suc at) es
 
 pub placed-entries : (P : Program) → Placed (EntryListAt P) (readEntries true P)
@@ -247,7 +266,11 @@ unfolding readEntries
 placed-entries P = placed-then (placed-looked 10 (within 0 mostEntries)) λ n. placed-as
     (λ nums mid next es q at s.
     let e : mid ≡ suc at = s .after ∙ add-one at in
-    record { stand = rw e at (q .stand); after = rw e at (q .after) })
+    record {
+      stand = rw e at (q .stand);
+      few = rw (q .counted) (within-most mostEntries (getD nums at 0) n (s .names));
+      after = rw e at (q .after);
+    })
     (placed-repeat P n)
 
 -- the store
@@ -319,6 +342,7 @@ left-none nums at (n ∷ left) e = tt
 -- both lists
 pub record ListsAt (P : Program) (nums : List ℕ) (at next : ℕ) (lists : List Entry × List Cell) : Type 0 where
   pub entries : StandEntries P nums (suc at) (lists .0)
+  pub few : length (lists .0) ≤ mostEntries
   pub cells : StandCells P nums (behindEntries (suc at) (lists .0)) (P .globals) (lists .1)
 
 pub placed-listing : (P : Program) → Placed (ListsAt P) (listing P)
@@ -327,7 +351,7 @@ placed-listing P = placed-then (placed-entries P) λ es. placed-then (placed-sto
     placed-then {S = λ nums at next (x : Unit {0}). next ≡ at}
     (record { placed = λ nums at. left-none nums at (drop at nums) refl })
     λ ended. placed-pure _ λ nums next d w c v at s.
-    record { entries = s .stand; cells = rw (s .after) at (v .stand) }
+    record { entries = s .stand; few = s .few; cells = rw (s .after) at (v .stand) }
 
 -- an entry stands where it begins
 pub entry-stands : (P : Program) (nums : List ℕ) (at : ℕ) (es : List Entry) → StandEntries P nums at es
@@ -356,3 +380,21 @@ unfolding offsetsFrom slotsOf
 last-offset offset no-cell = omega arith
 last-offset offset (a-cell {c = c} {cs = cs} h hs) = last-offset _ hs
     ∙ rw (length-append (slotsOfCell c) (slotsOf cs)) (omega (arith, h .size))
+
+-- the store's numbers stand one after the other
+holds-both : (nums : List ℕ) (at : ℕ) (ns ms : List ℕ) → HoldsAll nums at ns → HoldsAll nums (at + length ns) ms
+    → HoldsAll nums at (ns ++ ms)
+unfolding HoldsAll
+holds-both nums at [] ms h k =
+    let e : at + 0 ≡ at = omega arith in
+    rw e at k
+holds-both nums at (n ∷ ns) ms h k =
+    let e : at + suc (length ns) ≡ at + 1 + length ns = omega arith in
+    (h .0, holds-both nums (at + 1) ns ms (h .1) (rw e at k))
+
+pub store-stands : {P : Program} {nums : List ℕ} {at : ℕ} {gs : List Global} {cs : List Cell}
+    → StandCells P nums at gs cs → HoldsAll nums at (slotsOf cs)
+unfolding slotsOf HoldsAll StandsCell
+store-stands no-cell = tt
+store-stands {nums = nums} {at = at} (a-cell {c = c} {cs = cs} h hs) =
+    holds-both nums at (slotsOfCell c) (slotsOf cs) (h .stands) (rw (h .size) (store-stands hs))

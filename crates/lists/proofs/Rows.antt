@@ -1,13 +1,11 @@
 -- Entries one after the other, with where each begins in the slots.
 use mathlib.Core.Bool.{true}
-use mathlib.Core.Option.{none, some}
-use mathlib.Core.Path.{_≡_, refl, sym, _∙_}
-use mathlib.Core.List.{List, [], _∷_}
+use mathlib.Core.Path.{_≡_, refl, _∙_}
+use mathlib.Core.List.{List, _∷_}
 use Prim.Native.Nat.{ℕ, zero, suc, _+_, _-_, _≤_, _<_}
 use native.Mathlib.Omega.{arith}
 use native.Mathlib.Numerals.{add-one, sub-one}
 use lib.ListN.{length, getD, set, drop}
-use lib.Seq.{sets}
 use borrow.Author.Tests.{le-leb, lt-leb}
 use Rattle.rules.specs.Syntax.{Program}
 use Rattle.rules.specs.Reading.{Got, got, bad, andThen, _>>=_, pure, meaning, within, repeat}
@@ -18,7 +16,7 @@ use Rattle.shape.specs.declared.Scan.the-variants.{Past, Fault}
 use Rattle.shape.specs.Scans.{forget, scanOf}
 use Rattle.shape.specs.Walks.{Laid, Lays}
 use Rattle.program.specs.Stands.{StandsProgram}
-use Rattle.lists.specs.Listing.{entrySize, startsFrom, WidthsOf}
+use Rattle.lists.specs.Listing.{startsFrom, WidthsOf}
 use Rattle.lists.specs.Parts.{JudgesEntry, layStarts, JudgesEntries, layEntries, JudgesEntryList}
 use Rattle.lists.proofs.Places.{PlacedAt, placed-entry, EntryAt, EntriesAt, placed-repeat}
 use Rattle.lists.proofs.Steps.{Read, past-read, fault-read, alike-made, lays-bad}
@@ -70,7 +68,8 @@ module _ (nums directory ends widths : List ℕ) (count at slot : ℕ) (found : 
         go P end s w (suc c) x = lays-bad _ _ nums at f i found filled
             (rw (fault-read (readEntry true P) nums at f i a (g .judged P end s w) p))
 
-pub entries-room : (slot count : ℕ) → slot + count ≤ 65 → (count ≡ 0 → ⊥) → slot + 1 + (count - 1) ≤ 65
+pub entries-room : (slot count : ℕ) → slot + count ≤ suc mostEntries → (count ≡ 0 → ⊥)
+    → slot + 1 + (count - 1) ≤ suc mostEntries
 entries-room slot count h x = omega arith
 
 pub ruleset rows = (entries-none, entries-past, entries-fault, entries-room)

@@ -1,6 +1,6 @@
 -- Scanning, step by step: a number that must pass a test, and one reader behind another.
 use mathlib.Core.Bool.{Bool, true, false}
-use mathlib.Core.Option.{Option, none, some}
+use mathlib.Core.Option.{some}
 use mathlib.Core.Path.{_≡_, refl, sym, _∙_}
 use mathlib.Core.List.{List}
 use Prim.Native.Nat.{ℕ, zero, suc, _+_, _≤_, _<_}
@@ -10,7 +10,7 @@ use lib.ListN.{length, getD, drop}
 use lib.Dec.{ltb}
 use borrow.Author.Tests.{ltb-true, ltb-false}
 use Rattle.rules.specs.Words.{fitsWidth}
-use Rattle.rules.specs.Reading.{Got, got, bad, Reader, andThen, _>>=_, pure, meaning, lookedUp}
+use Rattle.rules.specs.Reading.{Got, got, bad, Reader, andThen, _>>=_, pure, meaning}
 use Rattle.rules.specs.Form.{onlyIf, fits}
 use Rattle.rules.specs.Lists.{passing}
 use Rattle.rules.proofs.Readers.{looked-in, looked-out}
@@ -159,8 +159,8 @@ alike-made {A} read make = record { alike = λ left at. go (read left at) }
     go (got a left next) = refl
     go (bad fault index) = refl
 
-pub alike-then : {A B C : Type 0} (read : Reader A) {k : A → Reader B} {l : A → Reader C} → ((a : A) → Alike (k a) (l a))
-    → Alike (read >>= k) (read >>= l)
+pub alike-then : {A B C : Type 0} (read : Reader A) {k : A → Reader B} {l : A → Reader C}
+    → ((a : A) → Alike (k a) (l a)) → Alike (read >>= k) (read >>= l)
 unfolding forget _>>=_ andThen
 alike-then {A} read {k} {l} h = record { alike = λ left at. go (read left at) }
   where

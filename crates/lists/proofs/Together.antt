@@ -1,20 +1,20 @@
 -- The lists together: the entries, the store behind them, and nothing behind that.
 use mathlib.Core.Bool.{true}
-use mathlib.Core.Path.{_≡_, refl, sym, _∙_}
-use mathlib.Core.List.{List, [], _∷_}
-use Prim.Native.Nat.{ℕ, suc, _+_, _-_, _≤_, _<_}
+use mathlib.Core.Path.{_≡_}
+use mathlib.Core.List.{List, []}
+use Prim.Native.Nat.{ℕ, _-_, _≤_, _<_}
 use native.Mathlib.Omega.{arith}
 use lib.ListN.{length, getD, drop, drop-of-length-le}
 use lib.Seq.{drop-cons}
 use Rattle.rules.specs.Syntax.{Program}
-use Rattle.rules.specs.Reading.{got, bad, andThen, _>>=_, pure}
-use Rattle.rules.specs.Lists.{Entry, Cell, slotsOf, readEntries, readCells, readStore, nothingLeft}
+use Rattle.rules.specs.Reading.{bad, andThen, _>>=_, pure}
+use Rattle.rules.specs.Lists.{slotsOf, readEntries, readCells, readStore, nothingLeft}
 use Rattle.shape.specs.declared.Scan.{Scan}
 use Rattle.shape.specs.declared.Scan.the-variants.{Past, Fault}
 use Rattle.shape.specs.Walks.{Laid, Lays}
 use Rattle.program.specs.Stands.{StandsProgram}
 use Rattle.lists.specs.declared.Listed.the-variants as listed
-use Rattle.lists.specs.Listing.{listing, startsFrom, behindEntries, offsetsFrom, listedOf, entriesLeft, offsetsLeft, WidthsOf, AsksLists, ListsJudged, JudgesLists}
+use Rattle.lists.specs.Listing.{listing, listedOf, entriesLeft, offsetsLeft, WidthsOf, AsksLists, JudgesLists}
 use Rattle.lists.specs.Parts.{layEntries, JudgesEntryList, AsksCells, layOffsets, JudgesCells}
 use Rattle.lists.proofs.Places.{EntryListAt, placed-entries, CellsAt, placed-cells}
 use Rattle.lists.proofs.Steps.{Read, past-read, fault-read}
@@ -105,7 +105,8 @@ module _ (nums directory ends widths entries starts : List ℕ) (a : Scan)
             pub lists-fine : length nums ≤ last
                 → JudgesLists nums directory ends widths entries starts offsets slots
                 (listed.Fine store (last - store))
-            unfolding listing readStore nothingLeft pure _>>=_ andThen listedOf entriesLeft offsetsLeft Laid layEntries layOffsets
+            unfolding listing readStore nothingLeft pure _>>=_ andThen listedOf entriesLeft offsetsLeft Laid layEntries
+                layOffsets
             lists-fine l = record {
               judged = λ P end s known.
                   let d : Read (EntryListAt P) (readEntries true P) nums (endOf directory) store

@@ -1,5 +1,5 @@
--- The lists behind a program, and what their judge answers and leaves in the slots lent to it (document 01, refusals 10,
--- 11 and 12): the entries, the store, and nothing more, strictly in file order, as the rules read them.
+-- The lists behind a program, and what their judge answers and leaves in the slots lent to it (document 01, refusals
+-- 10, 11 and 12): the entries, the store, and nothing more, strictly in file order, as the rules read them.
 use mathlib.Core.Bool.{true}
 use mathlib.Core.Option.{Option, none, some}
 use mathlib.Core.Path.{_≡_}

@@ -4,18 +4,18 @@ use mathlib.Core.Bool.{true, false}
 use mathlib.Core.Option.{Option, none, some}
 use mathlib.Core.Path.{_≡_}
 use mathlib.Core.List.{List, [], _∷_}
-use Prim.Native.Nat.{ℕ, suc, _+_, _-_, _≤_, _<_}
+use Prim.Native.Nat.{ℕ, suc, _+_, _-_, _*_, _≤_, _<_}
 use lib.Dec.{eqb}
 use lib.ListN.{length, getD, getElem?, drop}
 use lib.Seq.{sets}
 use Rattle.rules.specs.Numbers.{mostBytes}
 use Rattle.rules.specs.Words.{widest, prefixFits, maskFits}
 use Rattle.rules.specs.Syntax.{header, KeyKind, exact, lpm, ternary, Global, Parameter, Callable, Key, Table, Program}
-use Rattle.rules.specs.Reading.{Reader, _>>=_, pure, lookedUp, repeat, mostActions}
+use Rattle.rules.specs.Reading.{Reader, _>>=_, pure, lookedUp, repeat, mostTables, mostKeys, mostActions}
 use Rattle.rules.specs.Form.{shapeIn}
 use Rattle.rules.specs.Lists.{Pattern, exactly, prefixed, masked, Entry, Cell, passing, keyWidth, actionAt, numbered, readPattern, readPatterns, readArguments, readEntry, readEntries, readFields, readCell, readCells}
 use Rattle.shape.specs.declared.Scan.{Scan}
-use Rattle.shape.specs.declared.Scan.the-variants.{Past, Fault}
+use Rattle.shape.specs.declared.Scan.the-variants.{Fault}
 use Rattle.shape.specs.Scans.{scanOf}
 use Rattle.shape.specs.Walks.{Lays}
 use Rattle.program.specs.Codes.{keyKindNumber}
@@ -51,7 +51,7 @@ pub record AsksPatterns (nums ends widths : List ℕ) (key count slot : ℕ) : T
   pub keyed : Keyed program nums ends widths key count slot keys
   pub numbers : length nums ≤ mostBytes
   pub room : length nums ≤ length ends
-  pub slots : slot + count ≤ 32
+  pub slots : slot + count ≤ mostKeys * mostTables
 
 pub record JudgesPatterns (nums ends widths : List ℕ) (key count slot at : ℕ) (r : Scan) : Type 0 where
   pub judged : (P : Program) (ks : List Key) → Keyed P nums ends widths key count slot ks

@@ -1,6 +1,7 @@
 // The entries: each names a table, has a pattern for each of its keys, and an action of its list with that action's
 // arguments.
-ghost use Prim.Native.Nat.{_+_, _≤_};
+ghost use Prim.Native.Nat.{suc, _+_, _≤_};
+ghost use Rattle.rules.specs.Lists.{mostEntries};
 ghost use Rattle.lists.specs.Listing.{AsksLists};
 ghost use Rattle.lists.specs.Parts.{AsksArguments, JudgesArguments, AsksCalled, JudgesCalled, AsksAction, JudgesAction, AsksTable, JudgesOfTable, JudgesEntry, JudgesEntries, JudgesEntryList};
 use super::patterns::patterns_at;
@@ -157,7 +158,7 @@ fn entries_at(
     entries: &mut [u64; super::ENTRIES],
 ) -> Scan
     requires { ⌜ AsksLists (now nums) (now directory) (now ends) (now widths) ⌝ }
-    requires { ⌜ slot + count ≤ 65 ⌝ }
+    requires { ⌜ slot + count ≤ suc mostEntries ⌝ }
     ensures { λ r. ⌜ JudgesEntries (now (nums .entry)) (now (directory .entry)) (now (ends .entry)) (now (widths .entry)) count at slot (now (entries .entry)) (now (entries .exit)) r ⌝ }
 {
     if count == 0 {

@@ -7,6 +7,10 @@ mod patterns;
 mod store;
 mod values;
 
+use entries::entry_list_at;
+use shape::Scan;
+use store::cells_at;
+
 // How many slots the entries have: their count, and one for each entry that a file may have.
 pub const ENTRIES: usize = 65;
 // How many slots the offsets have: one for each global that a program may have, and one for the store's length.
@@ -39,46 +43,32 @@ pub fn judge_lists(
     ensures { λ r. ⌜ JudgesLists (now (nums .entry)) (now (directory .entry)) (now (ends .entry)) (now (widths .entry)) (now (entries .entry)) (now (entries .exit)) (now (offsets .entry)) (now (offsets .exit)) r ⌝ }
 {
     let mut starts = *entries;
-    let behind = entries::entry_list_at(
-        nums,
-        ends,
-        directory,
-        widths,
-        directory[shape::END] as usize,
-        &mut starts,
-    );
+    let end = directory[shape::END] as usize;
+    let behind = entry_list_at(nums, ends, directory, widths, end, &mut starts);
     match behind {
-        shape::Scan::Past(store) => {
+        Scan::Past(store) => {
             let mut slots = *offsets;
-            let last = store::cells_at(
-                nums,
-                ends,
-                directory,
-                0,
-                directory[shape::GLOBALS],
-                store,
-                store,
-                &mut slots,
-            );
+            let globals = directory[shape::GLOBALS];
+            let last = cells_at(nums, ends, directory, 0, globals, store, store, &mut slots);
             match last {
-                shape::Scan::Past(end) => {
-                    if end < nums.len() {
+                Scan::Past(next) => {
+                    if next < nums.len() {
                         Listed::Fault {
                             number: LEFT_OVER,
-                            index: end,
+                            index: next,
                         }
                     } else {
                         *entries = starts;
                         *offsets = slots;
                         Listed::Fine {
                             store: store,
-                            length: end - store,
+                            length: next - store,
                         }
                     }
                 }
-                shape::Scan::Fault { number, index } => Listed::Fault { number, index },
+                Scan::Fault { number, index } => Listed::Fault { number, index },
             }
         }
-        shape::Scan::Fault { number, index } => Listed::Fault { number, index },
+        Scan::Fault { number, index } => Listed::Fault { number, index },
     }
 }

@@ -4,8 +4,8 @@ use borrow.Author.Needs.{needs}
 use Rattle.lists.proofs.judge_lists.Statement.{statement}
 use Rattle.lists.proofs.judge_lists.Tie as tie
 
-element-copy-out-entry-list-at : tie.Need-element-copy-out-entry-list-at
-element-copy-out-entry-list-at c = search (together, needs)
+element-copy-out-end : tie.Need-element-copy-out-end
+element-copy-out-end c = search (together, needs)
 
 entry-list-at-requires : tie.Need-entry-list-at-requires
 entry-list-at-requires c κs = search (together, needs)
@@ -13,8 +13,8 @@ entry-list-at-requires c κs = search (together, needs)
 enum-known-behind : tie.Need-enum-known-behind
 enum-known-behind c = search (together, needs)
 
-element-copy-out-cells-at : tie.Need-element-copy-out-cells-at
-element-copy-out-cells-at c = search (together, needs)
+element-copy-out-globals : tie.Need-element-copy-out-globals
+element-copy-out-globals c = search (together, needs)
 
 cells-at-requires : tie.Need-cells-at-requires
 cells-at-requires c κs = search (together, needs)
@@ -22,8 +22,8 @@ cells-at-requires c κs = search (together, needs)
 enum-known-last : tie.Need-enum-known-last
 enum-known-last c = search (together, needs)
 
-sub-t35 : tie.Need-sub-t35
-sub-t35 c = search (together, needs)
+sub-t36 : tie.Need-sub-t36
+sub-t36 c = search (together, needs)
 
 enum-known-last-2 : tie.Need-enum-known-last-2
 enum-known-last-2 c = search (together, needs)
@@ -47,13 +47,13 @@ pub judge-lists-spec : {M : Type 1} → statement M
 judge-lists-spec =
     tie.close
     (tie.spec
-    element-copy-out-entry-list-at
+    element-copy-out-end
     entry-list-at-requires
     enum-known-behind
-    element-copy-out-cells-at
+    element-copy-out-globals
     cells-at-requires
     enum-known-last
-    sub-t35
+    sub-t36
     enum-known-last-2
     enum-known-behind-2
     returns

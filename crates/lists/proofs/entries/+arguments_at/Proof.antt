@@ -1,6 +1,6 @@
 -- Arguments one after the other. What carries it: the steps over a parameter; the count falls.
 use borrow.Author.Needs.{needs}
-use Rattle.lists.proofs.Tables.{parameters}
+use Rattle.lists.proofs.Actions.{parameters}
 use Prim.Native.Nat.{ℕ, _<_}
 use borrow.Fn.Kinds.{In}
 use borrow.Fn.PlainCycle.{Measures, is, falls, and}

@@ -1,5 +1,5 @@
 -- What carries it: an action's position is looked up in the list, and its number among the callables.
-use Rattle.lists.proofs.Tables.{actions}
+use Rattle.lists.proofs.Actions.{actions}
 use borrow.Author.Needs.{needs}
 use Rattle.lists.proofs.entries.action_at.Statement.{statement}
 use Rattle.lists.proofs.entries.action_at.Tie as tie

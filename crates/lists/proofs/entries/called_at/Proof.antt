@@ -1,5 +1,5 @@
 -- What carries it: the callable with a number has its parameters where its head says.
-use Rattle.lists.proofs.Tables.{calls}
+use Rattle.lists.proofs.Actions.{calls}
 use borrow.Author.Needs.{needs}
 use Rattle.lists.proofs.entries.called_at.Statement.{statement}
 use Rattle.lists.proofs.entries.called_at.Tie as tie

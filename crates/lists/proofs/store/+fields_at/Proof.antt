@@ -1,6 +1,6 @@
 -- Fields one after the other. What carries it: the steps over a field; the count falls.
 use borrow.Author.Needs.{needs}
-use Rattle.lists.proofs.Globals.{fields}
+use Rattle.lists.proofs.Fields.{fields}
 use Prim.Native.Nat.{ℕ, _<_}
 use borrow.Fn.Kinds.{In}
 use borrow.Fn.PlainCycle.{Measures, is, falls, and}

@@ -1,5 +1,5 @@
 -- What carries it: a field fits its width under a valid mark, and no bits under another.
-use Rattle.lists.proofs.Globals.{marks}
+use Rattle.lists.proofs.Fields.{marks}
 use borrow.Author.Needs.{needs}
 use Rattle.lists.proofs.store.width_under.Statement.{statement}
 use Rattle.lists.proofs.store.width_under.Tie as tie
