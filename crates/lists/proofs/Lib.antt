@@ -1,0 +1,11 @@
+pub mod Places
+mod Steps
+mod Keys
+mod Actions
+mod Tables
+mod Rows
+mod Fields
+mod Globals
+mod Together
+pub mod Laid
+pub mod Outcomes

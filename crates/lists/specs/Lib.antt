@@ -1,0 +1,3 @@
+pub mod Listing
+pub mod Stands
+pub mod Parts
