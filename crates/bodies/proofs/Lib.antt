@@ -1,3 +1,6 @@
 pub mod Typing
 pub mod Naming
 pub mod Plain
+pub mod Calling
+pub mod Operating
+pub mod Judging

@@ -10,9 +10,10 @@ use Rattle.rules.specs.Numbers.{mostBytes}
 use Rattle.rules.specs.Words.{widest, sliceFits, sliceWidth, joinFits}
 use Rattle.rules.specs.Syntax.{Ty, bool, bits, Operator, local, parameter, global, field, header, Expr, Program, placeIn}
 use Rattle.rules.specs.Reading.{highestBound}
-use Rattle.rules.specs.Form.{Res, ok, _>>=_, need, fits, Shape, aVariable, aHeader, globalAt, Body, Scope, seesGlobals, writable, writableIn, shapeIn, judgeField, judgePlace, judgeHeaderAt, widthAt, needTy, judgeOperator}
+use Rattle.rules.specs.Form.{Res, ok, _>>=_, need, fits, Shape, aVariable, aHeader, globalAt, Body, Scope, seesGlobals, writable, writableIn, shapeIn, judgeField, judgePlace, judgeHeaderAt, widthAt, needTy, judgeOperator, functionTy}
 use Rattle.program.specs.Codes.{tyOf, operatorNumber}
 use Rattle.program.specs.Stands.{Holds, StandsExpr, StandsWidths, StandsProgram}
+use Rattle.program.specs.Looks.{returnsOf}
 use Rattle.program.specs.Scopes.{bodyNumbered, StandsScope}
 use Rattle.bodies.specs.declared.Typed.{Typed}
 use Rattle.bodies.specs.declared.Found.{Found}
@@ -111,8 +112,13 @@ pub record TwoTyped (nums : List ℕ) (at t u : ℕ) (r : Typed) : Type 0 where
 unfoldable pub takesTwo : ℕ → Bool
 takesTwo tag = eqb tag 9 || eqb tag 12
 
+unfoldable pub leadBy : Bool → Bool → ℕ
+leadBy true two = 3
+leadBy false true = 2
+leadBy false false = 1
+
 unfoldable pub leadLength : ℕ → ℕ
-leadLength tag = elim (eqb tag 11) [ true ↦ 3 | false ↦ elim (eqb tag 9 || eqb tag 10) [ true ↦ 2 | false ↦ 1 ] ]
+leadLength tag = leadBy (eqb tag 11) (eqb tag 9 || eqb tag 10)
 
 pub record Inside (nums : List ℕ) (at : ℕ) : Type 0 where
   pub numbers : length nums ≤ mostBytes
@@ -225,3 +231,13 @@ pub record AsksLeaf (nums directory ends scope : List ℕ) (at : ℕ) : Type 0 w
 
 pub record JudgesLeaf (nums directory ends scope : List ℕ) (at : ℕ) (r : Typed) : Type 0 where
   pub judges : (depth : ℕ) → JudgesExpr nums directory ends scope depth at r
+
+-- one that has operands and is no call
+pub record AsksOperands (nums directory ends scope : List ℕ) (depth at : ℕ) : Type 0 where
+  pub asks : AsksExpr nums directory ends scope depth at
+  pub inner : 7 ≤ getD nums at 0
+  pub noCall : getD nums at 0 ≡ 13 → ⊥
+
+-- the value of a call that is an expression
+unfoldable pub valueTy : ℕ → ℕ → ℕ → Res Ty
+valueTy at kind returns = functionTy at (returnsOf kind returns)

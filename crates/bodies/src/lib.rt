@@ -1,6 +1,7 @@
 // Refusals 6, 7 and 8 of expressions and statements (the rules' page Form), over the numbers where they stand. Each
 // construct is looked at once, and no callee's body is entered.
-
+pub mod calls;
+pub mod exprs;
 pub mod places;
 pub mod types;
 
@@ -22,10 +23,10 @@ pub enum Called {
     Uncalled { number: u64, index: usize },
 }
 
-// Whether the arguments agree with the parameters in number and type, and in place; or the first fault and its index.
-pub enum Given {
+// Whether arguments agree with parameters in number and type, and in place; or the first fault and its index.
+pub enum Passed {
     Agree { types: bool, places: bool },
-    Ungiven { number: u64, index: usize },
+    Unpassed { number: u64, index: usize },
 }
 
 // What a global is: a variable of a type, a header whose type stands at an index, or nothing.
