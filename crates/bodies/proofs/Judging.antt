@@ -209,7 +209,7 @@ given-fault (fault m i) ps number index e =
     rw (f, g)
 
 -- a call by the callable that its number reaches
-settled-as : (at : ℕ) (types places : Bool) (x : Option Ty)
+pub settled-as : {A : Type 0} (at : ℕ) (types places : Bool) (x : A)
     → (need 7 at types >>= λ _. need 8 at places >>= λ _. ok x)
     ≡ ((need 7 at types >>= λ _. need 8 at places) >>= λ _. ok x)
 unfolding need _>>=_

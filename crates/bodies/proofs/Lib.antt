@@ -4,3 +4,5 @@ pub mod Plain
 pub mod Calling
 pub mod Operating
 pub mod Judging
+pub mod Forming
+pub mod Single

@@ -46,7 +46,7 @@ module _ (nums ends : List ℕ) (depth at first : ℕ) (e : Expr) where
 true-false : {A : Type 0} → true ≡ false → A
 true-false e = let z : _≡_ {A = ℕ} 0 1 = cc in absurd (omega arith)
 
-place-low : (p : Place) → placeTag p ≤ 5
+pub place-low : (p : Place) → placeTag p ≤ 5
 unfolding placeTag
 place-low (local i) = omega arith
 place-low (parameter i) = omega arith

@@ -42,7 +42,7 @@ unfolding checkedTy bitsTy fits
 bits-told at width n b r w e h = retold h (rw (e, bits-of width (w .least)))
 
 -- one operand
-more : (n : ℕ) → eqb (suc n) 0 ≡ false
+pub more : (n : ℕ) → eqb (suc n) 0 ≡ false
 more n = ne-eqb (suc n) 0 (λ e. absurd (omega (arith, e)))
 
 not-is : (at t : ℕ) → checkedTy at (eqb t 0) (tyOf 0) ≡ notTy at (tyOf t)

@@ -1,3 +1,4 @@
 pub mod Claims
 pub mod Leaves
 pub mod Calls
+pub mod Forms

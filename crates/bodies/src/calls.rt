@@ -1,6 +1,4 @@
 // What a call asks of its arguments and of what it calls.
-ghost use mathlib.Core.Bool.{_||_};
-ghost use mathlib.Core.Path.{_≡_};
 ghost use Prim.Native.Nat.{_≤_};
 ghost use Rattle.rules.specs.Words.{widest};
 ghost use Rattle.bodies.specs.Leaves.{Tells, valueTy};
@@ -10,12 +8,7 @@ use super::Passed;
 use super::Typed;
 use super::Wanted;
 use super::types::both;
-
-fn either(a: bool, b: bool) -> bool
-    ensures { λ r. ⌜ r ≡ (a || b) ⌝ }
-{
-    if a { true } else { b }
-}
+use super::types::either;
 
 // The type of a call that is an expression: it calls functions only.
 pub fn value_type(at: usize, kind: u64, returns: u64) -> Typed

@@ -1,5 +1,5 @@
 // What an expression asks of its literals and of the types of its operands, and the type that it has then.
-ghost use mathlib.Core.Bool.{_&&_};
+ghost use mathlib.Core.Bool.{_&&_, _||_};
 ghost use mathlib.Core.Path.{_≡_};
 ghost use Rattle.program.specs.Codes.{tyOf};
 ghost use Rattle.bodies.specs.Leaves.{Tells, checkedTy, MostIf, IsWidth, boolTy, bitsTy, SliceMost, sliceTy, AsksOne, OneTyped, joinTy, TwoMost, OperatorTyped, AsksTwo, TwoTyped};
@@ -11,6 +11,12 @@ pub fn both(a: bool, b: bool) -> bool
     ensures { λ r. ⌜ r ≡ (a && b) ⌝ }
 {
     if a { b } else { false }
+}
+
+pub fn either(a: bool, b: bool) -> bool
+    ensures { λ r. ⌜ r ≡ (a || b) ⌝ }
+{
+    if a { true } else { b }
 }
 
 // A type where a rule holds, and 7 where it does not.
