@@ -33,7 +33,7 @@ use Rattle.bodies.specs.Calls.{Agreement, agreement, toldPassed, AsksArg
 use Rattle.bodies.proofs.Operating.{typed-is, fault-is}
 
 -- the measure: levels, then what is left at one level
-pub rank : ℕ → ℕ → ℕ
+unfoldable pub rank : ℕ → ℕ → ℕ
 rank depth extra = 12 * depth + extra
 
 module _ (nums directory ends scope : List ℕ) (depth at t : ℕ) where

@@ -6,3 +6,4 @@ pub mod Operating
 pub mod Judging
 pub mod Forming
 pub mod Single
+pub mod Stating

@@ -2,10 +2,9 @@
 use mathlib.Core.Bool.{Bool, true, false, not, _&&_}
 use mathlib.Core.Path.{_≡_}
 use mathlib.Core.List.{List}
-use Prim.Native.Nat.{ℕ, suc, _+_, _≤_}
+use Prim.Native.Nat.{ℕ, suc, _+_}
 use lib.ListN.{getD, getElem?}
 use Rattle.rules.specs.Syntax.{Stmt, Stmts}
-use Rattle.rules.specs.Reading.{mostMembers}
 use Rattle.rules.specs.Form.{Res, ok, _>>=_, named, need, judgeHeaderAt, Body, Scope, mayCall, judgeReturned, isApply, isFunction, judgeStmt, judgeStmts, returnsOn, someReturns}
 use Rattle.program.specs.Codes.{tyOf, memberCount}
 use Rattle.program.specs.Stands.{StandsStmt, StandsStmts}
@@ -80,7 +79,6 @@ pub record AsksStmts (nums directory ends scope : List ℕ) (depth at count : �
   pub seen : StandsScope nums directory ends scope scopeOf
   pub stand : StandsStmts nums ends depth at members
   pub counted : count ≡ memberCount members
-  pub few : count ≤ mostMembers
 
 pub record JudgesStmts (nums directory ends scope : List ℕ) (depth at count : ℕ) (r : Formed) : Type 0 where
   pub judged : (Γ : Scope) (ss : Stmts) → StandsScope nums directory ends scope Γ → StandsStmts nums ends depth at ss

@@ -4,6 +4,7 @@ pub mod calls;
 pub mod exprs;
 pub mod places;
 pub mod singles;
+pub mod stmts;
 pub mod types;
 
 // The type of an expression as it is written (0 bool, 1 to 64 bits), or the first fault and its index.
