@@ -1,0 +1,20 @@
+-- What carries it: a rule that holds or does not, and the kinds of bodies.
+use Rattle.bodies.proofs.Forming.{ruling}
+use borrow.Author.Needs.{needs}
+use Rattle.bodies.proofs.singles.called.Statement.{statement}
+use Rattle.bodies.proofs.singles.called.Tie as tie
+
+element-copy-out-either : tie.Need-element-copy-out-either
+element-copy-out-either c = search (ruling, needs)
+
+either-requires : tie.Need-either-requires
+either-requires c κs = search (ruling, needs)
+
+rule-requires : tie.Need-rule-requires
+rule-requires c κs = search (ruling, needs)
+
+returns : tie.Need-returns
+returns c = search (ruling, needs)
+
+pub called-spec : {M : Type 1} → statement M
+called-spec = tie.close (tie.spec element-copy-out-either either-requires rule-requires returns)

@@ -1,0 +1,4 @@
+pub mod Claims
+pub mod Leaves
+pub mod Calls
+pub mod Forms
