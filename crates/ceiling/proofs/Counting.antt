@@ -1,30 +1,28 @@
 -- The steps of the cycle: what each call asks, what each count then is, and what falls.
 use mathlib.Core.Bool.{Bool, true, false}
-use mathlib.Core.Option.{Option, none, some}
-use mathlib.Core.Path.{_≡_, refl, sym, _∙_}
-use mathlib.Core.List.{List, [], _∷_}
-use Prim.Native.Nat.{ℕ, zero, suc, _+_, _-_, _*_, _≤_, _<_, _^_, max}
+use mathlib.Core.Option.{none}
+use mathlib.Core.Path.{_≡_, refl, _∙_}
+use mathlib.Core.List.{List}
+use Prim.Native.Nat.{ℕ, suc, _+_, _-_, _*_, _≤_, _<_, _^_}
 use native.Mathlib.Omega.{arith}
 use lib.Dec.{eqb}
-use lib.ListN.{length, getD, getElem?, set, length-set}
+use lib.ListN.{length, getD, set, length-set}
 use lib.Seq.{getD-set-same, getD-set-other}
 use borrow.Author.Tests.{eqb-true, eqb-false}
-use Rattle.rules.specs.Syntax.{Expr, Args, noArgs, arg, Stmt, ifElse, block, Stmts, noStmts, stmt, Callable, Program}
+use Rattle.rules.specs.Syntax.{Expr, Args, noArgs, stmt, Program}
 use Rattle.rules.specs.Reading.{deepest}
-use Rattle.rules.specs.Ceiling.{mostSteps, ceilingExpr, ceilingArgs, ceilingStmt, ceilingStmts}
-use Rattle.program.specs.Codes.{argCount, memberCount}
-use Rattle.program.specs.Stands.{StandsExpr, StandsArgs, StandsStmt, StandsStmts, StandsProgram}
+use Rattle.rules.specs.Ceiling.{mostSteps, ceilingExpr, ceilingArgs, ceilingStmt}
+use Rattle.program.specs.Codes.{argCount}
+use Rattle.program.specs.Stands.{StandsExpr, StandsArgs, StandsStmt}
 use Rattle.program.specs.Looks.{Has, Finds, callablesOf, FoundFrame}
-use Rattle.program.proofs.Views.{expr-begins, stmt-begins, ArgView, arg-view, no-args, MemberView, member-view, no-members}
+use Rattle.program.proofs.Views.{expr-begins, ArgView, arg-view, no-args}
 use Rattle.program.proofs.Found.{At, member-at}
 use Rattle.ceiling.specs.Cut.{cut}
-use Rattle.ceiling.specs.declared.operands.Runs.{Runs}
-use Rattle.ceiling.specs.declared.operands.Runs.the-variants.{Branches, Members, Body, Applied, Nothing}
-use Rattle.ceiling.specs.Claims.{calleeBelow, ceilingNumber, appliedIn, Kept, TablesKept, Setting, Counted, operandsIn, calledBy, operandsOf, runBy, calling}
-use Rattle.ceiling.specs.Claims.{AsksHeld, AsksHeldStmt, Operand, HeldExpr, HeldStmt, RunsIn, runs-branches, runs-members, runs-body, runs-table, runs-nothing, HeldRuns}
-use Rattle.ceiling.specs.Claims.{AsksExpr, CountsExpr, AsksExprs, CountsExprs, AsksCall, CountsCall, AsksStmt, CountsStmt, CountsRun, AsksBranches, CountsBranches, AsksStmts, CountsStmts, AsksApplied, CountsApplied}
+use Rattle.ceiling.specs.Claims.{calleeBelow, ceilingNumber, appliedIn, Kept, Setting, Counted, operandsIn, calledBy, calling}
+use Rattle.ceiling.specs.Claims.{AsksHeld, Operand, HeldExpr}
+use Rattle.ceiling.specs.Claims.{AsksExpr, CountsExpr, AsksExprs, CountsExprs, AsksCall, CountsCall, AsksStmt, CountsStmt}
 use Rattle.ceiling.proofs.Rank.{rank, rank-lower, rank-callee}
-use Rattle.ceiling.proofs.Sums.{one-low, cut-low, cut-zero, cut-own, cut-both, cut-larger, cut-not-larger, cut-more, cut-begin, cut-done, ceil-expr, ceil-stmt, callee-at, callee-none, number-is}
+use Rattle.ceiling.proofs.Sums.{one-low, cut-low, cut-zero, cut-own, cut-both, cut-more, cut-begin, cut-done, ceil-expr, callee-at, callee-none, number-is}
 
 -- the setting after a count
 pub resumed : {nums directory ends kept kept₁ : List ℕ} {reach : ℕ} {P : Program} {exact r : ℕ}

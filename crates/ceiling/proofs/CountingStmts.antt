@@ -1,16 +1,14 @@
 -- The steps of the cycle, of statements.
-use mathlib.Core.Bool.{Bool, true, false}
-use mathlib.Core.Path.{_≡_, refl, sym, _∙_}
+use mathlib.Core.Path.{_≡_, sym, _∙_}
 use mathlib.Core.List.{List}
-use Prim.Native.Nat.{ℕ, suc, _+_, _-_, _*_, _≤_, _<_, _^_, max}
+use Prim.Native.Nat.{ℕ, suc, _+_, _-_, _*_, _≤_, _<_, _^_}
 use native.Mathlib.Omega.{arith}
-use lib.ListN.{length, getD, getElem?}
+use lib.ListN.{length, getD}
 use borrow.Author.Tests.{eq-eqb, ne-eqb}
-use Rattle.rules.specs.Syntax.{Expr, Args, Stmt, ifElse, block, Stmts, noStmts, stmt, Program}
-use Rattle.rules.specs.Reading.{deepest}
-use Rattle.rules.specs.Ceiling.{mostSteps, ceilingArgs, ceilingStmt, ceilingStmts, noTable, ceilingTable}
+use Rattle.rules.specs.Syntax.{Expr, Stmt, ifElse, block, Stmts, noStmts, stmt, Program}
+use Rattle.rules.specs.Ceiling.{mostSteps, ceilingArgs, ceilingStmt, ceilingStmts, ceilingTable}
 use Rattle.program.specs.Codes.{memberCount}
-use Rattle.program.specs.Stands.{StandsStmt, StandsStmts, StandsProgram}
+use Rattle.program.specs.Stands.{StandsStmt, StandsStmts}
 use Rattle.program.proofs.Views.{stmt-begins, MemberView, member-view, no-members}
 use Rattle.program.proofs.Members.{no-member}
 use Rattle.ceiling.specs.Cut.{cut}

@@ -1,24 +1,23 @@
 -- The steps of the count of tables, and of the whole.
 use mathlib.Core.Bool.{Bool, true, false}
-use mathlib.Core.Option.{Option, some}
 use mathlib.Core.Path.{_≡_, refl, sym, _∙_}
 use mathlib.Core.List.{List, [], _∷_}
-use Prim.Native.Nat.{ℕ, zero, suc, _+_, _-_, _*_, _≤_, _<_, _^_, max}
+use Prim.Native.Nat.{ℕ, zero, suc, _+_, _-_, _≤_, _<_}
 use native.Mathlib.Omega.{arith}
 use lib.Dec.{eqb}
-use lib.ListN.{length, getD, getElem?, set, length-set, replicate, length-replicate, getD-replicate}
+use lib.ListN.{length, getD, getElem?, set, length-set}
 use lib.Seq.{getD-set-same, getD-set-other}
-use borrow.Author.Tests.{eqb-true, eqb-false, eq-eqb, ltb-true, ltb-false}
+use borrow.Author.Tests.{eqb-true, eqb-false}
 use Rattle.rules.specs.Syntax.{Numeral, Key, Table, Program}
 use Rattle.rules.specs.Reading.{deepest}
-use Rattle.rules.specs.Ceiling.{mostSteps, ceilingExpr, ceilingStmt, ceilingKeys, largestOf, ceilingTable, ceilingWith, ceilingOf}
-use Rattle.program.specs.Stands.{StandsExpr, StandsStmt, StandsKeys, StandsNumeral, StandsNumerals, StandsTable, actionsAt, StandsProgram, SomeProgram}
+use Rattle.rules.specs.Ceiling.{ceilingExpr, ceilingKeys, largestOf, ceilingTable}
+use Rattle.program.specs.Stands.{StandsExpr, StandsKeys, StandsNumeral, StandsNumerals}
 use Rattle.program.specs.Looks.{Has, Finds, tablesOf, FoundTable}
-use Rattle.program.proofs.Views.{expr-begins, stmt-begins}
+use Rattle.program.proofs.Views.{expr-begins}
 use Rattle.program.proofs.Found.{At, member-at}
 use Rattle.ceiling.specs.Cut.{cut}
-use Rattle.ceiling.specs.Claims.{calleeBelow, ceilingNumber, appliedIn, Kept, TablesKept, Setting, Counted, AsksExpr, CountsExpr, AsksCall, CountsCall, AsksStmt, CountsStmt}
-use Rattle.ceiling.specs.Claims.{AsksKeys, CountsKeys, AsksLargest, CountsLargest, AsksTable, CountsTable, FilledTo, AsksTables, Filled, CountsTables, TellsCeiling}
+use Rattle.ceiling.specs.Claims.{calleeBelow, Counted, AsksExpr, CountsExpr, AsksCall, CountsCall}
+use Rattle.ceiling.specs.Claims.{AsksKeys, CountsKeys, AsksLargest, CountsLargest, AsksTable, CountsTable, FilledTo, AsksTables, CountsTables}
 use Rattle.ceiling.proofs.Sums.{cut-low, cut-zero, cut-both, cut-larger, cut-not-larger, below}
 use Rattle.ceiling.proofs.Counting.{resumed}
 

@@ -1,15 +1,13 @@
 -- What a construct holds, from its tag: its operands, the callable that it calls, what a statement runs besides.
-use mathlib.Core.Bool.{Bool, true, false}
-use mathlib.Core.Path.{_≡_, refl, sym, _∙_}
+use mathlib.Core.Bool.{Bool, true}
+use mathlib.Core.Path.{_≡_, refl, _∙_}
 use mathlib.Core.List.{List}
 use Prim.Native.Nat.{ℕ, _+_, _-_, _*_, _≤_, _<_, _^_}
 use native.Mathlib.Omega.{arith}
 use lib.ListN.{length, getD}
-use Rattle.rules.specs.Syntax.{Expr, boolLiteral, bitsLiteral, readOf, validOf, negation, complement, binary, cast, slice, concatenation, callExpr, Args, noArgs, arg}
-use Rattle.rules.specs.Syntax.{Place, local, parameter, global, field}
-use Rattle.rules.specs.Syntax.{Stmt, empty, assign, ifElse, block, callStmt, apply, returnValue, return, exit, setValid, setInvalid}
-use Rattle.program.specs.Codes.{placeTag, argCount}
-use Rattle.program.specs.Stands.{Holds, HoldsTag}
+use Rattle.rules.specs.Syntax.{Expr, negation, complement, binary, cast, slice, concatenation, Args, noArgs, arg}
+use Rattle.rules.specs.Syntax.{Stmt, apply}
+use Rattle.program.specs.Codes.{argCount}
 use Rattle.program.specs.Stands.{StandsExpr, on-bool, on-bits, on-place, on-valid, on-not, on-complement, on-binary, on-cast, on-slice, on-concatenation, on-call}
 use Rattle.program.specs.Stands.{StandsArgs, on-none, on-arg}
 use Rattle.program.specs.Stands.{StandsStmt, on-empty, on-assign, on-if, on-block, on-call-stmt, on-apply, on-return-value, on-return, on-exit, on-set-valid, on-set-invalid}

@@ -1,7 +1,7 @@
 -- Sums that are cut, and what a list of ceilings holds.
 use mathlib.Core.Bool.{Bool, true, false}
-use mathlib.Core.Option.{Option, none, some}
-use mathlib.Core.Path.{_≡_, refl, sym, _∙_}
+use mathlib.Core.Option.{some}
+use mathlib.Core.Path.{_≡_, refl, _∙_}
 use mathlib.Core.List.{List, [], _∷_, _++_}
 use Prim.Native.Nat.{ℕ, zero, suc, _+_, _≤_, _<_, max}
 use native.Mathlib.Omega.{arith}
@@ -9,7 +9,7 @@ use lib.Dec.{eqb, ltb}
 use lib.ListN.{length, getD, getElem?, length-append, List·getD-append, List·getD-eq-default}
 use borrow.Author.Tests.{ne-eqb, eqb-true, eqb-false, ltb-true, ltb-false}
 use Rattle.rules.specs.Syntax.{Expr, boolLiteral, bitsLiteral, readOf, validOf, negation, complement, binary, cast, slice, concatenation, callExpr, Stmt, empty, assign, ifElse, block, callStmt, apply, returnValue, return, exit, setValid, setInvalid, Callable, Program}
-use Rattle.rules.specs.Ceiling.{mostSteps, ceilingExpr, ceilingArgs, ceilingStmt, ceilingStmts, calleeIn, noTable, ceilingAt, ceilingsBelow}
+use Rattle.rules.specs.Ceiling.{mostSteps, ceilingExpr, ceilingArgs, ceilingStmt, calleeIn, noTable, ceilingAt, ceilingsBelow}
 use Rattle.ceiling.specs.Cut.{cut}
 use Rattle.ceiling.specs.Claims.{calleeBelow, ceilingNumber, appliedIn, operandsIn, calledBy, operandsOf, runBy}
 

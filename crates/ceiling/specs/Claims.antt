@@ -2,13 +2,12 @@
 -- and kept; a slot that holds 0 keeps nothing yet. `reach` is how many callables a body sees.
 use mathlib.Core.Bool.{Bool, true, false}
 use mathlib.Core.Path.{_≡_}
-use mathlib.Core.Option.{Option, some}
 use mathlib.Core.List.{List}
 use Prim.Native.Nat.{ℕ, suc, _-_, _≤_, _<_, max}
 use lib.Dec.{eqb}
 use lib.ListN.{length, getD, getElem?}
 use Rattle.rules.specs.Syntax.{Expr, boolLiteral, bitsLiteral, readOf, validOf, negation, complement, binary, cast, slice, concatenation, callExpr, Args, noArgs, arg}
-use Rattle.rules.specs.Syntax.{Stmt, empty, assign, ifElse, block, callStmt, apply, returnValue, return, exit, setValid, setInvalid, Stmts, Callable, Numeral, Key, Table, Program}
+use Rattle.rules.specs.Syntax.{Stmt, empty, assign, ifElse, block, callStmt, apply, returnValue, return, exit, setValid, setInvalid, Stmts, Numeral, Key, Program}
 use Rattle.rules.specs.Numbers.{mostBytes}
 use Rattle.rules.specs.Reading.{deepest}
 use Rattle.rules.specs.Ceiling.{mostSteps, ceilingExpr, ceilingArgs, ceilingStmt, ceilingStmts, calleeIn, noTable, ceilingAt, ceilingsBelow, ceilingKeys, largestOf, ceilingTable, ceilingOf}

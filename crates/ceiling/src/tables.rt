@@ -1,6 +1,5 @@
 // Tables: the keys' expressions, and the largest of the listed actions' bodies. `tables` is what the cycle takes: no
 // apply stands in what a table runs, so nothing is asked of it.
-ghost use mathlib.Core.Path.{_≡_};
 ghost use Rattle.ceiling.specs.Claims.{AsksKeys, CountsKeys, AsksLargest, CountsLargest, AsksTable, CountsTable, AsksTables, CountsTables};
 use crate::count;
 use crate::operands;

@@ -2,14 +2,13 @@
 use mathlib.Core.Option.{Option, none, some}
 use mathlib.Core.Path.{_≡_, refl, sym, _∙_}
 use mathlib.Core.List.{List, [], _∷_}
-use Prim.Native.Nat.{ℕ, zero, suc, _+_, _-_, _*_, _≤_, _<_, _^_}
+use Prim.Native.Nat.{ℕ, zero, suc, _+_, _-_, _*_, _≤_, _<_}
 use native.Mathlib.Omega.{arith}
 use native.Mathlib.Numerals.{sub-one}
 use lib.ListN.{length, getD, getElem?}
-use Rattle.rules.specs.Words.{widest}
-use Rattle.rules.specs.Syntax.{Ty, GlobalTy, variable, header, HeaderTy, Global, Callable, Key, Table, Program}
-use Rattle.program.specs.Codes.{tyOf, headerNumber, callableKindNumber}
-use Rattle.program.specs.Stands.{Holds, HoldsWithin, HoldsTy, StandsHeader, StandsGlobal, HoldsGlobalTy, HoldsReturns, StandsCallable, StandsTable, StandsKeys, parametersAt, localsAt, bodyAt, keysEnd, actionsAt, defaultAt, StandsList, StandsProgram}
+use Rattle.rules.specs.Syntax.{Ty, GlobalTy, variable, header, Callable, Key}
+use Rattle.program.specs.Codes.{callableKindNumber}
+use Rattle.program.specs.Stands.{HoldsTy, HoldsGlobalTy, HoldsReturns, StandsCallable, StandsTable, StandsKeys, parametersAt, localsAt, bodyAt, keysEnd, actionsAt, defaultAt}
 use Rattle.program.proofs.Views.{expr-begins}
 use Rattle.program.specs.Looks.{Has, Finds, headersOf, globalsOf, callablesOf, tablesOf, GlobalNumber, FoundGlobal, returnsOf, FoundHead, FoundFrame, FoundHeader, FoundTable, KeysInside}
 

@@ -1,15 +1,14 @@
 -- The members of lists of numbers, by position; types as numbers.
-use mathlib.Core.Bool.{Bool, true, false}
-use mathlib.Core.Option.{Option, none, some}
-use mathlib.Core.Path.{_≡_, refl, sym, _∙_}
+use mathlib.Core.Option.{none, some}
+use mathlib.Core.Path.{_≡_, refl, sym}
 use mathlib.Core.List.{List, [], _∷_}
-use Prim.Native.Nat.{ℕ, zero, suc, _+_, _*_, _≤_, _<_}
+use Prim.Native.Nat.{ℕ, zero, suc, _+_, _*_, _≤_}
 use native.Mathlib.Omega.{arith}
-use lib.ListN.{length, getD, getElem?}
+use lib.ListN.{length, getElem?}
 use lib.Dec.{eqb}
 use borrow.Author.Tests.{ne-eqb}
 use Rattle.rules.specs.Words.{widest}
-use Rattle.rules.specs.Syntax.{Ty, bool, bits, Parameter, Numeral}
+use Rattle.rules.specs.Syntax.{Ty, bits, Parameter, Numeral}
 use Rattle.rules.specs.Form.{sameTy}
 use Rattle.program.specs.Codes.{tyOf, directionNumber}
 use Rattle.program.specs.Stands.{Holds, HoldsWithin, HoldsTy, StandsWidths, StandsTypes, StandsParameters, StandsNumeral, StandsNumerals}

@@ -1,25 +1,25 @@
 -- From reading to standing: header types, globals, callables, tables.
-use mathlib.Core.Bool.{Bool, true, false, _&&_}
+use mathlib.Core.Bool.{Bool, true, false}
 use mathlib.Core.Option.{Option, none, some}
 use mathlib.Core.Path.{_≡_, refl, sym, _∙_}
-use mathlib.Core.List.{List, [], _∷_}
+use mathlib.Core.List.{List, []}
 use Prim.Native.Nat.{ℕ, zero, suc, _+_, _-_, _*_, _≤_, _<_}
 use native.Mathlib.Omega.{arith}
 use lib.Dec.{leb}
 use lib.ListN.{length, getD, getElem?}
 use borrow.Author.Tests.{leb-true}
 use Rattle.rules.specs.Words.{widest}
-use Rattle.rules.specs.Syntax.{Ty, bool, bits, GlobalTy, variable, header, Direction, KeyKind, Stmt}
-use Rattle.rules.specs.Syntax.{HeaderTy, Global, Parameter, Callable, Numeral, Key, Table}
-use Rattle.rules.specs.Reading.{Reader, between, standsFor, within, repeat, listOf, deepest, mostFields, mostHeaders, mostParameters, mostLocals, mostKeys, mostActions, mostArguments}
-use Rattle.rules.specs.Reading.{CallableKind, kindAction, kindFunction, callableKinds, directions, keyKinds, bitsOf, typeOf, orHeader, globalTypeOf}
-use Rattle.rules.specs.Reading.{readExpr, readStmt, readHeader, readGlobal, readParameter, readReturns, readCallable, readNumeral, readKey, readTable}
-use Rattle.rules.proofs.Readers.{keeps-here, keeps-number, keeps-stands, keeps-between, keeps-list, keeps-repeat, keeps-expr, keeps-stmt, keeps-parameter, keeps-returns, keeps-numeral, keeps-key, Keeps}
-use Rattle.shape.specs.Ends.{firstAt, keyAt, numeralAt, EndedAll, EndedKey, EndedCallable, EndedTable}
-use Rattle.program.specs.Codes.{tyOf, headerNumber, directionNumber, keyKindNumber, callableKindNumber}
-use Rattle.program.specs.Stands.{Holds, HoldsWithin, HoldsTy, StandsExpr, StandsStmt, StandsWidths, StandsTypes, StandsParameters, StandsNumeral, StandsNumerals, StandsHeader, HoldsGlobalTy, StandsGlobal, HoldsReturns, parametersAt, localsAt, bodyAt, StandsCallable, StandsKeys, keysEnd, actionsAt, defaultAt, StandsTable}
+use Rattle.rules.specs.Syntax.{Ty, bits, GlobalTy, variable, header, Direction, Stmt}
+use Rattle.rules.specs.Syntax.{HeaderTy, Global, Parameter, Callable, Numeral}
+use Rattle.rules.specs.Reading.{between, standsFor, within, repeat, deepest, mostFields, mostParameters, mostLocals}
+use Rattle.rules.specs.Reading.{CallableKind, kindAction, kindFunction, callableKinds, directions, bitsOf, typeOf, orHeader, globalTypeOf}
+use Rattle.rules.specs.Reading.{readHeader, readGlobal, readParameter, readReturns, readCallable, readNumeral}
+use Rattle.rules.proofs.Readers.{keeps-number, keeps-stands, keeps-between, keeps-list, keeps-stmt, keeps-parameter, keeps-returns, keeps-numeral}
+use Rattle.shape.specs.Ends.{firstAt, numeralAt, EndedCallable}
+use Rattle.program.specs.Codes.{tyOf, headerNumber, directionNumber, callableKindNumber}
+use Rattle.program.specs.Stands.{Holds, HoldsWithin, HoldsTy, StandsStmt, StandsWidths, StandsTypes, StandsParameters, StandsNumeral, StandsNumerals, StandsHeader, HoldsGlobalTy, StandsGlobal, HoldsReturns, parametersAt, localsAt, bodyAt, StandsCallable}
 use Rattle.program.proofs.Readings.{Reads, reads-to, reads-from, Both, both, Given, reads-pure, reads-here, Number, reads-number, Meant, reads-stands, within-some, Bounded, reads-between, Counted, reads-list, reads-none, Head, reads-more}
-use Rattle.program.proofs.ExprsStand.{Numbered, numbered-at, expr-at, expr-end, expr-stands}
+use Rattle.program.proofs.ExprsStand.{Numbered, numbered-at}
 use Rattle.program.proofs.StmtsStand.{stmt-stands}
 use native.Mathlib.Nat.{add-zero}
 

@@ -1,15 +1,14 @@
 -- A reader that gave something, taken apart: what the readers in it gave, from which index to which.
-use mathlib.Core.Bool.{Bool, true, false, _&&_}
+use mathlib.Core.Bool.{Bool, true, false}
 use mathlib.Core.Option.{Option, none, some}
 use mathlib.Core.Path.{_≡_, refl, sym, _∙_}
 use mathlib.Core.List.{List, [], _∷_}
-use Prim.Native.Nat.{ℕ, zero, suc, _+_, _≤_, _<_}
+use Prim.Native.Nat.{ℕ, suc, _+_, _≤_, _<_}
 use native.Mathlib.Omega.{arith}
-use native.Mathlib.Numerals.{add-one}
 use lib.ListN.{length, getD, drop}
 use lib.Dec.{ltb, leb}
 use borrow.Author.Tests.{ltb-true, ltb-false, leb-true}
-use Rattle.rules.specs.Reading.{Got, got, bad, Reader, andThen, _>>=_, pure, here, number, meaning, lookedUp, standsFor, within, between, repeat, listOf, tooDeep}
+use Rattle.rules.specs.Reading.{Got, got, bad, Reader, andThen, _>>=_, pure, here, number, meaning, standsFor, within, between, repeat, listOf, tooDeep}
 use Rattle.rules.proofs.Readers.{Kept, Keeps, number-in, number-out, looked-in, looked-out, deep-in, deep-out, keeps-between, keeps-repeat}
 use Rattle.rules.proofs.Readers as gives
 use Rattle.program.specs.Stands.{Holds, HoldsWithin}

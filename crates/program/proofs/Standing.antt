@@ -1,23 +1,23 @@
 -- What the scan of a program promises, for the passes that come after: the program that the rules read stands in the
 -- numbers, by the directory and the ends that the scan left.
-use mathlib.Core.Option.{Option, none, some}
-use mathlib.Core.Path.{_≡_, refl, sym, _∙_}
+use mathlib.Core.Option.{some}
+use mathlib.Core.Path.{_≡_, sym, _∙_}
 use mathlib.Core.List.{List, [], _∷_, map}
 use Prim.Native.Nat.{ℕ, zero, suc, _+_, _-_, _≤_, _<_}
 use native.Mathlib.Omega.{arith}
 use lib.ListN.{length, getD, drop, getElem?}
 use Rattle.rules.specs.Numbers.{mostBytes}
 use Rattle.rules.specs.Syntax.{HeaderTy, Global, Callable, Table, Stmt, Program}
-use Rattle.rules.specs.Reading.{Reader, got, repeat, listOf, deepest, mostHeaders, mostGlobals, mostCallables, mostTables, versionOf, readHeader, readGlobal, readCallable, readTable, readStmt, readAfterVersion, readProgram}
+use Rattle.rules.specs.Reading.{Reader, got, repeat, listOf, deepest, mostHeaders, mostGlobals, mostCallables, mostTables, versionOf, readHeader, readGlobal, readCallable, readTable, readAfterVersion, readProgram}
 use Rattle.rules.proofs.Readers.{Keeps, keeps-stands, keeps-list, keeps-header, keeps-global, keeps-callable, keeps-table, keeps-stmt}
 use Rattle.shape.specs.Directory.{stmtAt, directoryLeft}
 use Rattle.shape.specs.Ends.{firstAt, callableAt, tableAt, EndedAll, EndedStmt, EndedCallable, EndedTable, EndedProgram, ScansProgram}
 use Rattle.shape.specs.declared.Scan.{Scan}
 use Rattle.shape.proofs.Entries.{Entries, entries}
 use Rattle.shape.proofs.Lines.{NoEnded, scan-ended}
-use Rattle.program.specs.Stands.{HoldsWithin, StandsStmt, StandsHeader, StandsGlobal, StandsCallable, StandsTable, StandsList, StandsProgram}
+use Rattle.program.specs.Stands.{StandsStmt, StandsHeader, StandsGlobal, StandsCallable, StandsTable, StandsList, StandsProgram}
 use Rattle.program.proofs.Found.{member-in}
-use Rattle.program.proofs.Readings.{Reads, reads-to, reads-from, Both, both, Given, reads-pure, Counted, reads-list, reads-none, Head, reads-more}
+use Rattle.program.proofs.Readings.{Reads, reads-to, Both, both, Given, reads-pure, Counted, reads-list, reads-none, Head, reads-more}
 use Rattle.program.proofs.StmtsStand.{stmt-at, stmt-stands}
 use Rattle.program.proofs.PartsStand.{header-stands, global-stands, callable-stands}
 use Rattle.program.proofs.TablesStand.{table-stands}

@@ -8,20 +8,20 @@ use native.Mathlib.Numerals.{sub-one}
 use native.Mathlib.Nat.{add-zero}
 use lib.ListN.{length, getD, getElem?}
 use Rattle.rules.specs.Syntax.{Place, Expr}
-use Rattle.rules.specs.Syntax.{Stmt, empty, assign, ifElse, block, callStmt, apply, returnValue, return, exit, setValid, setInvalid, Stmts, noStmts, stmt}
-use Rattle.rules.specs.Reading.{repeat, listOf, mostArguments, mostMembers, exprTags, stmtTags, placeTagOf, toArgs, toStmts, readExpr, readTarget, readStmtAs, readStmt}
-use Rattle.rules.specs.Reading.{PlaceTag, tagLocal, tagParameter, tagGlobal, tagField, ExprTag, tagBool, tagBits, tagPlace, tagValid, tagNot, tagComplement, tagBinary, tagCast, tagSlice, tagConcatenation, tagCall}
+use Rattle.rules.specs.Syntax.{Stmt, empty, assign, ifElse, block, callStmt, apply, returnValue, return, exit, setValid, setInvalid, Stmts, stmt}
+use Rattle.rules.specs.Reading.{repeat, mostArguments, mostMembers, exprTags, stmtTags, placeTagOf, toArgs, toStmts, readExpr, readTarget, readStmtAs, readStmt}
+use Rattle.rules.specs.Reading.{PlaceTag, ExprTag, tagBool, tagBits, tagPlace, tagValid, tagNot, tagComplement, tagBinary, tagCast, tagSlice, tagConcatenation, tagCall}
 use Rattle.rules.specs.Reading.{StmtTag, tagEmpty, tagAssign, tagIf, tagBlock, tagCallStmt, tagApply, tagReturnValue, tagReturn, tagExit, tagSetValid, tagSetInvalid}
 use Rattle.rules.proofs.Readers.{keeps-number, keeps-stands, keeps-list, keeps-place, keeps-expr, keeps-target, keeps-stmt}
 use Rattle.shape.specs.Directory.{stmtAt}
 use Rattle.shape.specs.Ends.{exprAt, stmtsAt, EndedExpr, EndedStmt, EndedStmts}
 use Rattle.shape.proofs.Ended.{own-stmt}
-use Rattle.program.specs.Codes.{placeTag, argCount, memberCount}
-use Rattle.program.specs.Stands.{Holds, HoldsWithin, HoldsTag, StandsPlace, StandsExpr, StandsArgs}
+use Rattle.program.specs.Codes.{placeTag, memberCount}
+use Rattle.program.specs.Stands.{HoldsTag, StandsPlace, StandsExpr}
 use Rattle.program.specs.Stands.{StandsStmt, on-empty, on-assign, on-if, on-block, on-call-stmt, on-apply, on-return-value, on-return, on-exit, on-set-valid, on-set-invalid}
 use Rattle.program.specs.Stands.{StandsStmts, on-no-member, on-member}
 use Rattle.program.proofs.Readings.{Reads, reads-to, reads-from, Both, both, Given, reads-pure, reads-here, Number, reads-number, Meant, reads-stands, Counted, reads-list, reads-none, Head, reads-more, reads-deep}
-use Rattle.program.proofs.ExprsStand.{Numbered, numbered-at, placeNumber, exprNumber, expr-tag, expr-at, expr-end, holds-at, Placed, place-stands, CallStood, call-stands, args-from, expr-stands}
+use Rattle.program.proofs.ExprsStand.{Numbered, numbered-at, placeNumber, exprNumber, expr-tag, expr-at, expr-end, Placed, place-stands, CallStood, call-stands, args-from, expr-stands}
 
 unfoldable stmtNumber : StmtTag → ℕ
 stmtNumber tagEmpty = 0

@@ -2,7 +2,7 @@
 -- from the rules' lists.
 use mathlib.Core.Option.{Option, none, some}
 use Prim.Native.Nat.{ℕ, zero, suc, _+_}
-use Rattle.rules.specs.Syntax.{Ty, bool, bits, GlobalTy, variable, header, Direction, byNone, byIn, byOut, byInout, KeyKind, exact, lpm, ternary}
+use Rattle.rules.specs.Syntax.{Ty, bool, bits, Direction, byNone, byIn, byOut, byInout, KeyKind, exact, lpm, ternary}
 use Rattle.rules.specs.Syntax.{plus, minus, times, and, or, xor, less, lessOrEqual, shiftLeft, shiftRight, equal, unequal, both, either}
 use Rattle.rules.specs.Syntax.{Operator, arithmetic, order, shift, equality, logic, Place, local, parameter, global, field}
 use Rattle.rules.specs.Syntax.{Args, noArgs, arg, Stmts, noStmts, stmt}

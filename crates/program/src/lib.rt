@@ -1,8 +1,7 @@
 // A program as it stands in the numbers, for the passes behind the scan: looks at its globals, header types, callables
 // and tables. Each looks at a fixed number of numbers, a table's also at its keys' ends.
 ghost use mathlib.Core.Path.{_≡_};
-ghost use Prim.Native.Nat.{_+_, _≤_, _<_};
-ghost use lib.ListN.{length, getD};
+ghost use Prim.Native.Nat.{_+_};
 ghost use Rattle.program.specs.Looks.{Has, Finds, headersOf, globalsOf, callablesOf, tablesOf, FoundGlobal, FoundHead, FoundFrame, FoundHeader, FoundTable, KeysInside};
 ghost use Rattle.program.specs.Stands.{keysEnd};
 

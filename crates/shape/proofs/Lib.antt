@@ -14,6 +14,5 @@ mod Programs
 pub mod Ended
 mod Orders
 pub mod Lines
-pub mod Stands
 pub mod Entries
 pub mod Outcomes

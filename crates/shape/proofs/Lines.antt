@@ -4,12 +4,12 @@ use mathlib.Core.Path.{_≡_, refl}
 use mathlib.Core.List.{List, [], _∷_}
 use Prim.Native.Nat.{ℕ, zero, suc, _-_, _≤_}
 use native.Mathlib.Omega.{arith}
-use lib.ListN.{length, getD, drop, getElem?}
+use lib.ListN.{length, drop, getElem?}
 use Rattle.rules.specs.Syntax.{Expr, Stmt, Callable, Key, Numeral, Table, Program}
 use Rattle.rules.specs.Reading.{mostCallables, mostTables, mostActions, mostArguments}
 use Rattle.rules.specs.Reading.{Got, got, bad, Reader, andThen, _>>=_, pure, here, between, standsFor, repeat, listOf, deepest, keyKinds, versionOf}
 use Rattle.rules.specs.Reading.{readExpr, readStmt, readKey, readTable, readCallable, readAfterVersion, readProgram}
-use Rattle.rules.proofs.Readers.{Kept, Keeps, keeps-stands, keeps-between, keeps-list, keeps-expr, keeps-stmt, keeps-key, keeps-numeral, keeps-callable, keeps-table, keeps-program, keeps-then, keeps-pure, keeps-here, Given, Starts, starts-callable}
+use Rattle.rules.proofs.Readers.{Kept, Keeps, keeps-stands, keeps-between, keeps-list, keeps-key, keeps-numeral, keeps-callable, keeps-table, keeps-program, keeps-then, keeps-pure, keeps-here, Given, Starts, starts-callable}
 use Rattle.shape.specs.Directory.{stmtAt}
 use Rattle.shape.specs.Ends.{exprAt, layExpr, layStmt, firstAt, layAll, keyAt, layKey, callableAt, layCallable, numeralAt, layTable, tableAt, endsOf}
 use Rattle.shape.specs.Ends.{EndedExpr, EndedStmt, EndedAll, EndedKey, EndedCallable, EndedTable, EndedProgram, endsLeft, ScansProgram}
@@ -23,7 +23,7 @@ use Rattle.shape.proofs.Parts.{keeps-returning, keeps-frame}
 use Rattle.shape.proofs.Holders.{starts-key, starts-numeral, keeps-choices, begins-default, makeTable, in-two, Frame, makeCallable, readFramed, in-three}
 use Rattle.shape.proofs.Starts.{starts-tables, begins-body}
 use Rattle.shape.proofs.Programs.{Defined, tree, readRest, endsRest, inThree, three, keeps-declared, keeps-defined}
-use Rattle.shape.proofs.Ended.{OrderedExpr, OrderedStmt, Layer, layer-none, layer-both, layer-wide, layer-expr, layer-stmt, own-expr, own-stmt}
+use Rattle.shape.proofs.Ended.{OrderedExpr, OrderedStmt, Layer, layer-none, layer-both, layer-wide, layer-expr, layer-stmt}
 use Rattle.shape.proofs.Orders.{OrderedGot, orders-expr, orders-stmt}
 
 layer-as : {from end : ℕ} {lay other : List ℕ → List ℕ} {E F : List ℕ → Type 0}
@@ -296,37 +296,6 @@ pub program-ended : (nums slots : List ℕ) (p : Program) (left : List ℕ) (end
     → EndedProgram p end (endsOf p end slots)
 program-ended nums slots p left end e room =
     laid-ended keeps-program lines-program nums slots 0 p left end e (omega arith) room
-
--- and an expression or a statement by itself
-pub expr-ended : (version depth : ℕ) (nums slots : List ℕ) (at : ℕ) (e : Expr) (left : List ℕ) (end : ℕ)
-    → readExpr version depth (drop at nums) at ≡ got e left end
-    → at ≤ length nums → length nums ≤ length slots → EndedExpr e end (layExpr e end slots)
-expr-ended version depth = laid-ended (keeps-expr version depth) (lines-expr version depth)
-
-pub stmt-ended : (version depth : ℕ) (nums slots : List ℕ) (at : ℕ) (s : Stmt) (left : List ℕ) (end : ℕ)
-    → readStmt version depth (drop at nums) at ≡ got s left end
-    → at ≤ length nums → length nums ≤ length slots → EndedStmt s end (layStmt s end slots)
-stmt-ended version depth = laid-ended (keeps-stmt version depth) (lines-stmt version depth)
-
--- the slot where a construct begins holds the index where its reading ended; of what stands in it EndedExpr and
--- EndedStmt tell the same
-pub expr-end : (version depth : ℕ) (nums slots : List ℕ) (at : ℕ) (e : Expr) (left : List ℕ) (end : ℕ)
-    → readExpr version depth (drop at nums) at ≡ got e left end
-    → EndedExpr e end slots → getD slots at 0 ≡ end
-unfolding Given
-expr-end version depth nums slots at e left end q h =
-    let s : Given (λ e. exprAt e ≡ at) (got e left end) = rw q at
-    (starts-expr version depth .started (drop at nums) at) in
-    rw (← s) (own-expr e end slots h)
-
-pub stmt-end : (version depth : ℕ) (nums slots : List ℕ) (at : ℕ) (s : Stmt) (left : List ℕ) (end : ℕ)
-    → readStmt version depth (drop at nums) at ≡ got s left end
-    → EndedStmt s end slots → getD slots at 0 ≡ end
-unfolding Given
-stmt-end version depth nums slots at s left end q h =
-    let b : Given (λ s. stmtAt s ≡ at) (got s left end) = rw q at
-    (starts-stmt version depth .started (drop at nums) at) in
-    rw (← b) (own-stmt s end slots h)
 
 -- from what the scan of a program promises
 pub scan-ended : (nums directory directory′ ends ends′ : List ℕ) (r : Scan) (p : Program) (left : List ℕ) (end : ℕ)

@@ -1,8 +1,7 @@
 -- The tables one behind the other. What carries it: each fills its slot, and fewer are left.
 use Prim.Native.Nat.{_-_}
-use native.Mathlib.Omega.{arith}
 use borrow.Author.Needs.{needs}
-use Rattle.ceiling.proofs.CountingTables.{countingTables, tables-slot}
+use Rattle.ceiling.proofs.CountingTables.{countingTables}
 use Prim.Native.Nat.{ℕ, _<_}
 use borrow.Fn.Kinds.{In}
 use borrow.Fn.PlainCycle.{Measures, is, falls, and}
