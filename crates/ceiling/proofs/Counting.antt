@@ -30,7 +30,8 @@ pub resumed : {nums directory ends kept kept₁ : List ℕ} {reach : ℕ} {P : P
 resumed s c = record { end = s .end; stands = s .stands; reaches = s .reaches; keeps = c .keeps }
 
 -- expressions
-module _ (nums directory ends kept : List ℕ) (reach depth at : ℕ) (a : AsksExpr nums directory ends kept reach depth at) where
+module _ (nums directory ends kept : List ℕ) (reach depth at : ℕ)
+    (a : AsksExpr nums directory ends kept reach depth at) where
   pub expr-held : AsksHeld nums ends depth at
   expr-held = record {
     numbers = a .setting .stands .numbers;
@@ -39,7 +40,8 @@ module _ (nums directory ends kept : List ℕ) (reach depth at : ℕ) (a : AsksE
     stands = a .stands;
   }
 
-  module _ (lower first count : ℕ) (calls : Bool) (f : ℕ) (h : HeldExpr nums ends depth at lower first count calls f) where
+  module _ (lower first count : ℕ) (calls : Bool) (f : ℕ)
+      (h : HeldExpr nums ends depth at lower first count calls f) where
     pub expr-operands : AsksExprs nums directory ends kept reach lower first count
     expr-operands =
         let o : Operand nums ends depth lower first count (operandsIn (a .expr)) = h .operands (a .expr) (a .stands) in
@@ -56,19 +58,22 @@ module _ (nums directory ends kept : List ℕ) (reach depth at : ℕ) (a : AsksE
     expr-operands-fall t e =
         rank-lower t reach (4 * depth) (4 * lower + 1) e (omega (arith, h .operands (a .expr) (a .stands) .levels))
 
-    pub expr-call : (inside : ℕ) (kept₁ : List ℕ) → CountsExprs nums directory ends kept kept₁ reach lower first count inside
+    pub expr-call : (inside : ℕ) (kept₁ : List ℕ)
+        → CountsExprs nums directory ends kept kept₁ reach lower first count inside
         → AsksCall nums directory ends kept₁ reach
     expr-call inside kept₁ c =
         let o : Operand nums ends depth lower first count (operandsIn (a .expr)) = h .operands (a .expr) (a .stands) in
         record {
           program = a .program;
-          setting = resumed (a .setting) (c .counted (a .program) (operandsIn (a .expr)) (a .setting) (o .stand) (o .counts));
+          setting = resumed (a .setting) (c .counted (a .program) (operandsIn (a .expr)) (a .setting) (o .stand)
+              (o .counts));
         }
 
   pub expr-call-fall : (t : ℕ) → rank reach (4 * depth) ≡ t → rank reach 0 < t
   expr-call-fall t e = rank-lower t reach (4 * depth) 0 e (omega (arith, expr-begins (a .stands) .levels))
 
-module _ (nums directory ends kept kept₁ : List ℕ) (reach depth at lower first count : ℕ) (calls : Bool) (f inside own : ℕ)
+module _ (nums directory ends kept kept₁ : List ℕ) (reach depth at lower first count : ℕ) (calls : Bool)
+    (f inside own : ℕ)
     (h : HeldExpr nums ends depth at lower first count calls f)
     (c : CountsExprs nums directory ends kept kept₁ reach lower first count inside) (o : own ≡ cut (1 + inside)) where
   own-counted : (P : Program) (e : Expr) → Setting nums directory ends kept reach P → StandsExpr nums ends depth at e
@@ -79,7 +84,8 @@ module _ (nums directory ends kept kept₁ : List ℕ) (reach depth at lower fir
       = c .counted P (operandsIn e) s (p .stand) (p .counts) in
       record { is = cut-own inside own _ (q .is) o; keeps = q .keeps }
 
-  pub expr-calls : (kept₂ : List ℕ) (called r : ℕ) → calls ≡ true → CountsCall nums directory ends kept₁ kept₂ reach f called
+  pub expr-calls : (kept₂ : List ℕ) (called r : ℕ) → calls ≡ true
+      → CountsCall nums directory ends kept₁ kept₂ reach f called
       → r ≡ cut (own + called) → CountsExpr nums directory ends kept kept₂ reach depth at r
   unfolding calling
   expr-calls kept₂ called r k d e = record {
@@ -87,7 +93,8 @@ module _ (nums directory ends kept kept₁ : List ℕ) (reach depth at lower fir
     counted = λ P x s w.
         let p : Counted P (1 + ceilingArgs (calleeBelow P reach) (operandsIn x)) own kept₁ = own-counted P x s w in
         let q : Counted P (calleeBelow P reach f) called kept₂ = d .counted P (resumed s p) in
-        let same : calledBy (calleeBelow P reach) x ≡ calleeBelow P reach f = h .calledIs x w (calleeBelow P reach) ∙ rw k in
+        let same : calledBy (calleeBelow P reach) x ≡ calleeBelow P reach f = h .calledIs x w
+        (calleeBelow P reach) ∙ rw k in
         record {
           is = cut-both own called r _ _ (p .is) (q .is) e ∙ rw (← ceil-expr (calleeBelow P reach) x, same);
           keeps = q .keeps;
@@ -107,7 +114,8 @@ module _ (nums directory ends kept kept₁ : List ℕ) (reach depth at lower fir
   }
 
 -- a list of expressions, summed so far: what is left, and the ceilings kept
-pub record Rest (nums ends : List ℕ) (depth next left total : ℕ) (kept : List ℕ) (P : Program) (reach : ℕ) (xs : Args) : Type 0 where
+pub record Rest (nums ends : List ℕ) (depth next left total : ℕ) (kept : List ℕ) (P : Program) (reach : ℕ)
+    (xs : Args) : Type 0 where
   pub rest : Args
   pub stand : StandsArgs nums ends depth next rest
   pub counts : left ≡ argCount rest
@@ -157,7 +165,8 @@ module _ (nums directory ends kept : List ℕ) (reach depth at count : ℕ) (kep
       pub member-inside : next < length ends
       member-inside = omega (arith, expr-begins (first-of .firstStands) .inside, a .setting .stands .room)
 
-    pub sum-again : (kept₂ : List ℕ) (one total₁ next₁ : ℕ) → CountsExpr nums directory ends kept₁ kept₂ reach depth next one
+    pub sum-again : (kept₂ : List ℕ) (one total₁ next₁ : ℕ)
+        → CountsExpr nums directory ends kept₁ kept₂ reach depth next one
         → total₁ ≡ cut (total + one) → next₁ ≡ getD ends next 0
         → Summed nums directory ends kept reach depth at count kept₂ total₁ next₁ (left - 1)
     unfolding ceilingExpr
@@ -165,7 +174,8 @@ module _ (nums directory ends kept : List ℕ) (reach depth at count : ℕ) (kep
       low = cut-low total₁ (total + one) e;
       going = λ P xs s w k.
           let r : Rest nums ends depth next left total kept₁ P reach xs = g .going P xs s w k in
-          let v : ArgView nums ends depth next left (r .rest) = arg-view left (r .rest) (r .stand) (r .counts) more-left in
+          let v : ArgView nums ends depth next left (r .rest) = arg-view left (r .rest) (r .stand)
+          (r .counts) more-left in
           let q : Counted P (ceilingExpr (calleeBelow P reach) (v .first)) one kept₂
           = c .counted P (v .first)
           (record { end = s .end; stands = s .stands; reaches = s .reaches; keeps = r .keeps }) (v .firstStands) in
@@ -192,7 +202,8 @@ pub member-fall : (t reach depth : ℕ) → rank reach (4 * depth + 1) ≡ t →
 member-fall t reach depth e = rank-lower t reach (4 * depth + 1) (4 * depth) e (omega arith)
 
 -- calls
-module _ (nums directory ends kept : List ℕ) (reach f : ℕ) (a : AsksCall nums directory ends kept reach) (b : f < reach) where
+module _ (nums directory ends kept : List ℕ) (reach f : ℕ) (a : AsksCall nums directory ends kept reach)
+    (b : f < reach) where
   pub callee-has : Has callablesOf nums directory ends f
   unfolding callablesOf
   callee-has = record {

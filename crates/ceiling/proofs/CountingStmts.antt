@@ -66,24 +66,27 @@ module _ (nums directory ends tables kept : List ℕ) (reach depth at : ℕ)
 pub stmt-runs-fall : (t reach depth : ℕ) → rank reach (4 * depth + 2) ≡ t → rank reach (4 * depth + 1) < t
 stmt-runs-fall t reach depth e = rank-lower t reach (4 * depth + 2) (4 * depth + 1) e (omega arith)
 
-pub stmt-counted : (nums directory ends tables kept kept₁ kept₂ : List ℕ) (reach depth at lower first count inside own run r : ℕ)
-    → HeldStmt nums ends depth at lower first count → CountsExprs nums directory ends kept kept₁ reach lower first count inside
+pub stmt-counted : (nums directory ends tables kept kept₁ kept₂ : List ℕ)
+    (reach depth at lower first count inside own run r : ℕ)
+    → HeldStmt nums ends depth at lower first count
+    → CountsExprs nums directory ends kept kept₁ reach lower first count inside
     → own ≡ cut (1 + inside) → CountsRun nums directory ends tables kept₁ kept₂ reach depth at run → r ≡ cut (own + run)
     → CountsStmt nums directory ends tables kept kept₂ reach depth at r
-stmt-counted nums directory ends tables kept kept₁ kept₂ reach depth at lower first count inside own run r h c o d e = record {
-  low = cut-low r (own + run) e;
-  counted = λ P s setting tabled w.
-      let p : Operand nums ends depth lower first count (operandsOf s) = h .operands s w in
-      let q : Counted P (ceilingArgs (calleeBelow P reach) (operandsOf s)) inside kept₁
-      = c .counted P (operandsOf s) setting (p .stand) (p .counts) in
-      let u : Counted P (runBy (calleeBelow P reach) (appliedIn P reach) s) run kept₂
-      = d .counted P s (resumed setting q) tabled w in
-      record {
-        is = cut-both own run r _ _ (cut-own inside own _ (q .is) o) (u .is) e
-            ∙ rw (← ceil-stmt (calleeBelow P reach) (appliedIn P reach) s);
-        keeps = u .keeps;
-      };
-}
+stmt-counted nums directory ends tables kept kept₁ kept₂ reach depth at lower first count inside own run r h c o d e
+    = record {
+      low = cut-low r (own + run) e;
+      counted = λ P s setting tabled w.
+          let p : Operand nums ends depth lower first count (operandsOf s) = h .operands s w in
+          let q : Counted P (ceilingArgs (calleeBelow P reach) (operandsOf s)) inside kept₁
+          = c .counted P (operandsOf s) setting (p .stand) (p .counts) in
+          let u : Counted P (runBy (calleeBelow P reach) (appliedIn P reach) s) run kept₂
+          = d .counted P s (resumed setting q) tabled w in
+          record {
+            is = cut-both own run r _ _ (cut-own inside own _ (q .is) o) (u .is) e
+                ∙ rw (← ceil-stmt (calleeBelow P reach) (appliedIn P reach) s);
+            keeps = u .keeps;
+          };
+    }
 
 -- what it runs, by kind
 record Branched (nums ends : List ℕ) (depth at lower first second : ℕ) (s : Stmt) : Type 0 where
@@ -177,11 +180,16 @@ module _ (nums directory ends tables kept : List ℕ) (reach depth at : ℕ) (ru
           deep = omega (arith, b .levels, a .deep);
         }
 
-    pub run-branches-fall : (t lower first second : ℕ) → rank reach (4 * depth + 1) ≡ t → runs ≡ Branches lower first second
+    pub run-branches-fall : (t lower first second : ℕ) → rank reach (4 * depth + 1) ≡ t
+        → runs ≡ Branches lower first second
         → rank reach (4 * lower + 3) < t
     run-branches-fall t lower first second e q =
         rank-lower t reach (4 * depth + 1) (4 * lower + 3) e
-        (omega (arith, branched nums ends depth at (a .stmt) lower first second runs (h .runs (a .stmt) (a .stands)) q .levels))
+        (omega (
+          arith,
+          branched nums ends depth at (a .stmt) lower first second runs (h .runs (a .stmt)
+              (a .stands)) q .levels,
+        ))
 
     pub run-members-asks : (lower first count : ℕ) → runs ≡ Members lower first count
         → AsksStmts nums directory ends tables kept reach lower first count
@@ -202,7 +210,11 @@ module _ (nums directory ends tables kept : List ℕ) (reach depth at : ℕ) (ru
         → rank reach (4 * lower + 3) < t
     run-members-fall t lower first count e q =
         rank-lower t reach (4 * depth + 1) (4 * lower + 3) e
-        (omega (arith, blocked nums ends depth at (a .stmt) lower first count runs (h .runs (a .stmt) (a .stands)) q .levels))
+        (omega (
+          arith,
+          blocked nums ends depth at (a .stmt) lower first count runs (h .runs (a .stmt)
+              (a .stands)) q .levels,
+        ))
 
   module _ (kept₁ : List ℕ) (r : ℕ) where
     pub run-branches : (lower first second : ℕ) → runs ≡ Branches lower first second
@@ -336,9 +348,11 @@ module _ (nums directory ends tables kept : List ℕ) (reach lower first second 
     deep = a .deep;
   }
 
-  module _ (kept₁ kept₂ : List ℕ) (one other : ℕ) (c : CountsStmt nums directory ends tables kept kept₁ reach lower first one)
+  module _ (kept₁ kept₂ : List ℕ) (one other : ℕ)
+      (c : CountsStmt nums directory ends tables kept kept₁ reach lower first one)
       (d : CountsStmt nums directory ends tables kept₁ kept₂ reach lower second other) where
-    pub larger-second : one < other → CountsBranches nums directory ends tables kept kept₂ reach lower first second other
+    pub larger-second : one < other
+        → CountsBranches nums directory ends tables kept kept₂ reach lower first second other
     larger-second l = record {
       low = d .low;
       counted = λ P a b setting tabled w v.
@@ -364,7 +378,8 @@ pub list-fall : (t reach depth : ℕ) → rank reach (4 * depth + 3) ≡ t → r
 list-fall t reach depth e = rank-lower t reach (4 * depth + 3) (4 * depth + 2) e (omega arith)
 
 -- members, summed so far
-pub record RestStmts (nums ends : List ℕ) (depth next left total : ℕ) (kept : List ℕ) (P : Program) (reach : ℕ) (ss : Stmts)
+pub record RestStmts (nums ends : List ℕ) (depth next left total : ℕ) (kept : List ℕ) (P : Program) (reach : ℕ)
+    (ss : Stmts)
     : Type 0 where
   pub rest : Stmts
   pub stand : StandsStmts nums ends depth next rest
@@ -427,10 +442,12 @@ module _ (nums directory ends tables kept : List ℕ) (reach depth at count : �
       low = cut-low total₁ (total + one) e;
       going = λ P ss s tabled w k.
           let r : RestStmts nums ends depth next left total kept₁ P reach ss = g .going P ss s tabled w k in
-          let v : MemberView nums ends depth next left (r .rest) = member-view left (r .rest) (r .stand) (r .counts) more-left in
+          let v : MemberView nums ends depth next left (r .rest) = member-view left (r .rest) (r .stand)
+          (r .counts) more-left in
           let q : Counted P (ceilingStmt (calleeBelow P reach) (appliedIn P reach) (v .first)) one kept₂
           = c .counted P (v .first)
-          (record { end = s .end; stands = s .stands; reaches = s .reaches; keeps = r .keeps }) tabled (v .firstStands) in
+          (record { end = s .end; stands = s .stands; reaches = s .reaches; keeps = r .keeps }) tabled
+          (v .firstStands) in
           record {
             rest = v .others;
             stand = rw n (v .othersStand);

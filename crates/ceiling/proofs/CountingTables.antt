@@ -133,7 +133,8 @@ pub record ActionRoom (nums : List ℕ) (at : ℕ) : Type 0 where
   pub inside : at < length nums
   pub numbers : length nums ≤ 4096
 
-module _ (nums directory ends kept : List ℕ) (reach at count : ℕ) (a : AsksLargest nums directory ends kept reach at count)
+module _ (nums directory ends kept : List ℕ) (reach at count : ℕ)
+    (a : AsksLargest nums directory ends kept reach at count)
     (n : count ≡ 0 → ⊥) where
   first-action : ActionView nums at count (a .actions)
   first-action = action-view nums at count (a .actions) (a .stand) (a .counts) n
@@ -175,7 +176,8 @@ module _ (nums directory ends kept : List ℕ) (reach at count : ℕ) where
       low = d .low;
       counted = λ P ns s w k.
           let v : ActionView nums at count ns = action-view nums at count ns w k n in
-          let p : Counted P (calleeBelow P reach (v .first .number)) one kept₁ = rw (v .stands .holds .is) at (c .counted P s) in
+          let p : Counted P (calleeBelow P reach (v .first .number)) one kept₁ = rw (v .stands .holds .is) at
+          (c .counted P s) in
           let q : Counted P (largestOf (calleeBelow P reach) (v .others)) others kept₂
           = d .counted P (v .others) (resumed s p) (v .othersStand) (v .fewer) in
           rw (v .same) (record { is = cut-larger one others _ _ (p .is) (q .is) l; keeps = q .keeps });
@@ -187,7 +189,8 @@ module _ (nums directory ends kept : List ℕ) (reach at count : ℕ) where
       low = c .low;
       counted = λ P ns s w k.
           let v : ActionView nums at count ns = action-view nums at count ns w k n in
-          let p : Counted P (calleeBelow P reach (v .first .number)) one kept₁ = rw (v .stands .holds .is) at (c .counted P s) in
+          let p : Counted P (calleeBelow P reach (v .first .number)) one kept₁ = rw (v .stands .holds .is) at
+          (c .counted P s) in
           let q : Counted P (largestOf (calleeBelow P reach) (v .others)) others kept₂
           = d .counted P (v .others) (resumed s p) (v .othersStand) (v .fewer) in
           rw (v .same) (record { is = cut-not-larger one others _ _ (p .is) (q .is) l; keeps = q .keeps });
@@ -244,7 +247,8 @@ module _ (nums directory ends kept : List ℕ) (reach t : ℕ) (a : AsksTable nu
     table-actions kept₁ keys c = record {
       program = a .program;
       actions = found-table .member .actions;
-      setting = resumed (a .setting) (c .counted (a .program) (found-table .member .keys) (a .setting) (found .stands .keys)
+      setting = resumed (a .setting) (c .counted (a .program) (found-table .member .keys) (a .setting)
+          (found .stands .keys)
           (found .stands .keyCount .holds .is));
       stand = found-actions nums ends at actions default (found-table .member) found .0;
       counts = found-actions nums ends at actions default (found-table .member) found .1;
@@ -260,7 +264,8 @@ table-counted nums directory ends kept kept₁ kept₂ reach t at actions defaul
   low = cut-low r (keys + run) e;
   counted = λ P s l.
       let m : At (P .tables) t = member-at (P .tables) t l in
-      let f : FoundTable nums ends at actions default (m .member) = h .finds P (s .end) (m .member) (s .stands) (m .is) in
+      let f : FoundTable nums ends at actions default (m .member) = h .finds P (s .end) (m .member) (s .stands)
+      (m .is) in
       let p : Counted P (ceilingKeys (calleeBelow P reach) (m .member .keys)) keys kept₁
       = c .counted P (m .member .keys) s (f .stands .keys) (f .stands .keyCount .holds .is) in
       let q : Counted P (largestOf (calleeBelow P reach) (m .member .actions)) run kept₂
@@ -272,7 +277,8 @@ table-counted nums directory ends kept kept₁ kept₂ reach t at actions defaul
 pub ruleset countingTable = (table-has, table-keys, table-actions, table-counted)
 
 -- all tables, from a number on
-module _ (nums directory ends kept filled : List ℕ) (reach t : ℕ) (a : AsksTables nums directory ends kept filled reach t)
+module _ (nums directory ends kept filled : List ℕ) (reach t : ℕ)
+    (a : AsksTables nums directory ends kept filled reach t)
     (m : t < getD directory 59 0) where
   pub tables-slot : t < 8
   tables-slot = omega (arith, a .setting .stands .tables .count, a .setting .stands .tables .few)
@@ -306,7 +312,8 @@ pub tables-rest : (nums directory ends kept filled kept₁ : List ℕ) (reach t 
     → AsksTables nums directory ends kept₁ (set filled t one) reach (t + 1)
 tables-rest nums directory ends kept filled kept₁ reach t one a m c =
     let l : t < length (a .program .tables) = omega (arith, a .setting .stands .tables .count) in
-    let p : Counted (a .program) (ceilingTable (calleeBelow (a .program) reach) (getElem? (a .program .tables) t)) one kept₁
+    let p : Counted (a .program) (ceilingTable (calleeBelow (a .program) reach) (getElem?
+    (a .program .tables) t)) one kept₁
     = c .counted (a .program) (a .setting) l in
     record {
       program = a .program;

@@ -87,7 +87,8 @@ module _ (nums ends : List ℕ) (depth at lower first count : ℕ) (calls : Bool
       → HeldExpr nums ends depth at lower first count calls f
   unfolding ExprView operandsIn calledBy
   not-held k r = held-plain nums ends depth at (at + 1) 1 lower first count calls f
-      (λ e s. one-bare nums ends depth at (at + 1) e (negation at) (λ a. refl) (λ a callee. refl) (rw k at (expr-view s))) r
+      (λ e s. one-bare nums ends depth at (at + 1) e (negation at) (λ a. refl) (λ a callee. refl) (rw k at
+      (expr-view s))) r
 
   pub complement-held : getD nums at 0 ≡ 8 → Plain depth (at + 1) 1 lower first count calls
       → HeldExpr nums ends depth at lower first count calls f
@@ -101,7 +102,8 @@ module _ (nums ends : List ℕ) (depth at lower first count : ℕ) (calls : Bool
   unfolding ExprView operandsIn calledBy
   binary-held k r = held-plain nums ends depth at (at + 2) 2 lower first count calls f
       (λ e s. let v : BinaryView nums ends depth at e = rw k at (expr-view s) in
-      two-bare nums ends depth at (at + 2) e (binary at (v .operator)) (λ a b. refl) (λ a b callee. refl) (v .operands)) r
+      two-bare nums ends depth at (at + 2) e (binary at (v .operator)) (λ a b. refl) (λ a b callee. refl)
+      (v .operands)) r
 
   pub cast-held : getD nums at 0 ≡ 10 → Plain depth (at + 2) 1 lower first count calls
       → HeldExpr nums ends depth at lower first count calls f
@@ -115,7 +117,8 @@ module _ (nums ends : List ℕ) (depth at lower first count : ℕ) (calls : Bool
   unfolding ExprView operandsIn calledBy
   slice-held k r = held-plain nums ends depth at (at + 3) 1 lower first count calls f
       (λ e s. let v : SliceView nums ends depth at e = rw k at (expr-view s) in
-      one-bare nums ends depth at (at + 3) e (slice at (v .high) (v .low)) (λ a. refl) (λ a callee. refl) (v .operand)) r
+      one-bare nums ends depth at (at + 3) e (slice at (v .high) (v .low)) (λ a. refl) (λ a callee. refl)
+      (v .operand)) r
 
   pub concatenation-held : getD nums at 0 ≡ 12 → Plain depth (at + 1) 2 lower first count calls
       → HeldExpr nums ends depth at lower first count calls f
@@ -264,7 +267,8 @@ module _ (nums ends : List ℕ) (depth at : ℕ) where
   call-stmt-held k = record {
     operands = λ s w.
         let v : CallStmtView nums ends depth at s = rw k at (stmt-view w) in
-        rw (v .same) (lowered nums ends depth at (at + 3) (getD nums (at + 2) 0) (v .arguments) (stmt-begins w) (v .stand)
+        rw (v .same) (lowered nums ends depth at (at + 3) (getD nums (at + 2) 0) (v .arguments) (stmt-begins w)
+        (v .stand)
         (v .count .holds .is));
   }
 
@@ -308,15 +312,18 @@ module _ (nums ends : List ℕ) (depth at : ℕ) where
   if-runs k = record {
     runs = λ s w.
         let v : IfView nums ends depth at s = rw k at (stmt-view w) in
-        runs-branches {lower = depth - 1} (v .same) (omega (arith, stmt-begins w .levels)) (v .firstStands) (v .secondStands);
+        runs-branches {lower = depth - 1} (v .same) (omega (arith, stmt-begins w .levels)) (v .firstStands)
+        (v .secondStands);
   }
 
-  pub block-runs : getD nums at 0 ≡ 3 → HeldRuns nums ends depth at (Members (depth - 1) (at + 2) (getD nums (at + 1) 0))
+  pub block-runs : getD nums at 0 ≡ 3 → HeldRuns nums ends depth at (Members (depth - 1) (at + 2) (getD nums
+      (at + 1) 0))
   unfolding StmtView
   block-runs k = record {
     runs = λ s w.
         let v : BlockView nums ends depth at s = rw k at (stmt-view w) in
-        runs-members {lower = depth - 1} (v .same) (omega (arith, stmt-begins w .levels)) (v .stand) (v .count .holds .is);
+        runs-members {lower = depth - 1} (v .same) (omega (arith, stmt-begins w .levels)) (v .stand)
+        (v .count .holds .is);
   }
 
   pub call-runs : getD nums at 0 ≡ 4 → HeldRuns nums ends depth at (Body (getD nums (at + 1) 0))

@@ -38,7 +38,8 @@ tabled nums directory ends kept filled P end s c =
     )
 
 -- the apply body's ceiling is the program's
-at-apply : (P : Program) → ceilingStmt (calleeBelow P (length (P .callables))) (appliedIn P (length (P .callables))) (P .body)
+at-apply : (P : Program) → ceilingStmt (calleeBelow P (length (P .callables))) (appliedIn P (length (P .callables)))
+    (P .body)
     ≡ ceilingOf P
 unfolding ceilingOf ceilingWith appliedIn
 at-apply P = rw (appliedIn, eq-eqb (length (P .callables)) (length (P .callables)) refl)
@@ -46,7 +47,8 @@ at-apply P = rw (appliedIn, eq-eqb (length (P .callables)) (length (P .callables
 whole : (P : Program) (n r : ℕ) → n ≡ length (P .callables)
     → r ≡ cut (ceilingStmt (calleeBelow P n) (appliedIn P n) (P .body)) → r ≡ cut (ceilingOf P)
 whole P n r e q =
-    let here : r ≡ cut (ceilingStmt (calleeBelow P (length (P .callables))) (appliedIn P (length (P .callables))) (P .body))
+    let here : r ≡ cut (ceilingStmt (calleeBelow P (length (P .callables))) (appliedIn P (length (P .callables)))
+    (P .body))
     = rw e at q in
     here ∙ rw (at-apply P)
 
@@ -83,7 +85,8 @@ module _ (nums directory ends : List ℕ) where
       told = λ P end s.
           let p : Setting nums directory ends kept (getD directory 42 0) P × TablesKept P (getD directory 42 0) filled
           = tabled nums directory ends kept filled P end s c in
-          let q : Counted P (ceilingStmt (calleeBelow P (getD directory 42 0)) (appliedIn P (getD directory 42 0)) (P .body)) r
+          let q : Counted P (ceilingStmt (calleeBelow P (getD directory 42 0)) (appliedIn P (getD directory 42 0))
+          (P .body)) r
           kept₁ = d .counted P (P .body) (p .0) (p .1) (s .body) in
           whole P (getD directory 42 0) r (s .callables .count) (q .is);
     }
@@ -97,7 +100,8 @@ one-ceiling nums directory ends r s a p q =
     p .told (a .program) (a .end) (a .stands) ∙ sym (q .told (a .program) (a .end) (a .stands))
 
 -- a ceiling that is told as at most so many steps is exact, and one above it is not allowed
-pub told-exact : (nums directory ends : List ℕ) (r : ℕ) (P : Program) (end : ℕ) → StandsProgram nums directory ends P end
+pub told-exact : (nums directory ends : List ℕ) (r : ℕ) (P : Program) (end : ℕ)
+    → StandsProgram nums directory ends P end
     → TellsCeiling nums directory ends r → r ≤ mostSteps → r ≡ ceilingOf P
 unfolding cut
 told-exact nums directory ends r P end s p h = let e : r ≡ cut (ceilingOf P) = p .told P end s in omega (arith, e)

@@ -132,7 +132,8 @@ calling false f callee = 0
 pub record HeldExpr (nums ends : List ℕ) (depth at lower first count : ℕ) (calls : Bool) (f : ℕ) : Type 0 where
   pub operands : (e : Expr) → StandsExpr nums ends depth at e
       → Operand nums ends depth lower first count (operandsIn e)
-  pub calledIs : (e : Expr) → StandsExpr nums ends depth at e → (callee : ℕ → ℕ) → calledBy callee e ≡ calling calls f callee
+  pub calledIs : (e : Expr) → StandsExpr nums ends depth at e → (callee : ℕ → ℕ)
+      → calledBy callee e ≡ calling calls f callee
 
 -- operands of an expression that calls nothing, as they are told
 pub record Plain (depth first count lower first′ count′ : ℕ) (calls : Bool) : Type 0 where
@@ -243,7 +244,8 @@ pub record AsksBranches (nums directory ends tables kept : List ℕ) (reach lowe
   pub otherStands : StandsStmt nums ends lower second other
   pub deep : lower ≤ deepest
 
-pub record CountsBranches (nums directory ends tables kept kept′ : List ℕ) (reach lower first second r : ℕ) : Type 0 where
+pub record CountsBranches (nums directory ends tables kept kept′ : List ℕ)
+    (reach lower first second r : ℕ) : Type 0 where
   pub low : r ≤ suc mostSteps
   pub counted : (P : Program) (a b : Stmt) → Setting nums directory ends kept reach P → TablesKept P reach tables
       → StandsStmt nums ends lower first a → StandsStmt nums ends lower second b

@@ -62,13 +62,89 @@ exprNumber tagCall = 13
 module _ (version : ℕ) where
   pub expr-tag : (n : ℕ) (t : ExprTag) → getElem? (exprTags version) n ≡ some t → n ≡ exprNumber t
   unfolding Numbered exprNumber placeNumber
-  expr-tag n t e = sym (add-zero n) ∙ numbered-at exprNumber 0 (exprTags version)
-      (refl, (refl, (refl, (refl, (refl, (refl, (refl, (refl, (refl, (refl, (refl, (refl, (refl, (refl, tt)))))))))))))) n t e
+  expr-tag n t e = sym (add-zero n) ∙ numbered-at exprNumber 0 (exprTags version) (
+    refl,
+    (
+      refl,
+      (
+        refl,
+        (
+          refl,
+          (
+            refl,
+            (
+              refl,
+              (
+                refl,
+                (
+                  refl,
+                  (
+                    refl,
+                    (
+                      refl,
+                      (
+                        refl,
+                        (
+                          refl,
+                          (
+                            refl,
+                            (refl, tt),
+                          ),
+                        ),
+                      ),
+                    ),
+                  ),
+                ),
+              ),
+            ),
+          ),
+        ),
+      ),
+    ),
+  ) n t e
 
   operator-is : (n : ℕ) (o : Operator) → getElem? (operators version) n ≡ some o → n ≡ operatorNumber o
   unfolding Numbered operatorNumber
-  operator-is n o e = sym (add-zero n) ∙ numbered-at operatorNumber 0 (operators version)
-      (refl, (refl, (refl, (refl, (refl, (refl, (refl, (refl, (refl, (refl, (refl, (refl, (refl, (refl, tt)))))))))))))) n o e
+  operator-is n o e = sym (add-zero n) ∙ numbered-at operatorNumber 0 (operators version) (
+    refl,
+    (
+      refl,
+      (
+        refl,
+        (
+          refl,
+          (
+            refl,
+            (
+              refl,
+              (
+                refl,
+                (
+                  refl,
+                  (
+                    refl,
+                    (
+                      refl,
+                      (
+                        refl,
+                        (
+                          refl,
+                          (
+                            refl,
+                            (refl, tt),
+                          ),
+                        ),
+                      ),
+                    ),
+                  ),
+                ),
+              ),
+            ),
+          ),
+        ),
+      ),
+    ),
+  ) n o e
 
 -- a construct carries its index
 pub expr-at : {nums ends : List ℕ} {depth at : ℕ} {e : Expr} → StandsExpr nums ends depth at e → exprAt e ≡ at
@@ -104,7 +180,8 @@ pub record Placed (nums : List ℕ) (at next : ℕ) (t : PlaceTag) (p : Place) :
   pub stands : StandsPlace nums at p
 
 module _ (version : ℕ) (nums : List ℕ) (at next : ℕ) where
-  pub place-stands : (t : PlaceTag) (p : Place) → Reads (readPlace version t) nums (at + 1) next p → Placed nums at next t p
+  pub place-stands : (t : PlaceTag) (p : Place) → Reads (readPlace version t) nums (at + 1) next p
+      → Placed nums at next t p
   unfolding readPlace StandsPlace placeNumber placeTag
   place-stands tagLocal p r =
       let b : Both _ _ nums (at + 1) next p = both keeps-number r in
@@ -219,7 +296,8 @@ module _ (version : ℕ) (nums ends : List ℕ) (d : ℕ) (operand : (at next : 
         rw (← g .same) (on-bits (tagged 1 k) (w .holds) (holds-at i (n .holds)))
     expr-as (tagPlace t) k r h =
         let b : Both _ _ nums (at + 1) next e = both (keeps-place version t) r in
-        let p : Placed nums at (b .mid) t (b .result) = place-stands version nums at (b .mid) t (b .result) (b .first) in
+        let p : Placed nums at (b .mid) t (b .result) = place-stands version nums at (b .mid) t (b .result)
+        (b .first) in
         let g : Given (readOf at (b .result)) e (b .mid) next = reads-pure (b .second) in
         rw (← g .same) (on-place (tagged (placeTag (b .result)) (k ∙ p .tag)) (p .stands))
     expr-as tagValid k r h =

@@ -129,7 +129,8 @@ module _ (nums directory ends : List ℕ) (f : ℕ) where
   begins = beginsAt directory f
 
   pub action-found : getD nums begins 0 ≡ 0
-      → Finds callablesOf (FoundHead nums (getD nums begins 0) 0 (begins + 2) (getD nums (begins + 1) 0)) nums directory ends
+      → Finds callablesOf (FoundHead nums (getD nums begins 0) 0 (begins + 2) (getD nums
+      (begins + 1) 0)) nums directory ends
       f
   unfolding callablesOf parametersAt returnsOf callableKindNumber
   action-found k = record {
@@ -189,7 +190,8 @@ module _ (nums directory ends : List ℕ) (f : ℕ) where
         let k : getD nums begins 0 ≡ callableKindNumber (c .returns) = t .kind .is in
         let n : getD nums (begins + 1 + callableKindNumber (c .returns)) 0 ≡ length (c .parameters)
         = t .parameterCount .holds .is in
-        let l : getD nums (begins + 1 + callableKindNumber (c .returns) + 1 + 2 * length (c .parameters)) 0 ≡ length (c .locals)
+        let l : getD nums (begins + 1 + callableKindNumber (c .returns) + 1 + 2 * length (c .parameters)) 0 ≡ length
+        (c .locals)
         = t .localCount .holds .is in
         record {
           localsStand = rw (k, n) (t .locals);
@@ -284,4 +286,15 @@ table-found nums directory ends t a e = record {
       record { stands = w; actionsIs = k; defaultIs = rw (k, w .actionCount .holds .is) };
 }
 
-pub ruleset looks = (global-slot, global-inside, global-found, header-slot, header-found, action-found, function-found, frame-found, keys-stand, table-found)
+pub ruleset looks = (
+  global-slot,
+  global-inside,
+  global-found,
+  header-slot,
+  header-found,
+  action-found,
+  function-found,
+  frame-found,
+  keys-stand,
+  table-found,
+)

@@ -29,7 +29,8 @@ unfolding typeOf bitsOf tyOf
 type-means version zero t e = (omega arith, (cc))
 type-means version (suc n) t e = go (within 1 widest (suc n)) refl e
   where
-    go : (x : Option ℕ) → within 1 widest (suc n) ≡ x → bitsOf version x ≡ some t → (suc n ≤ widest) × (bits (suc n) ≡ t)
+    go : (x : Option ℕ) → within 1 widest (suc n) ≡ x → bitsOf version x ≡ some t
+        → (suc n ≤ widest) × (bits (suc n) ≡ t)
     go none w f = let z : _≡_ {A = ℕ} 0 1 = cc in absurd (omega arith)
     go (some m) w f =
         let i : (suc n ≡ m) × ((1 ≤ suc n) × (suc n ≤ widest)) = within-some 1 widest (suc n) m w in
@@ -39,7 +40,8 @@ type-means version (suc n) t e = go (within 1 widest (suc n)) refl e
 ty-holds : (version : ℕ) {nums : List ℕ} {at next : ℕ} {t : Ty} → Meant (typeOf version) nums at next t
     → HoldsTy nums at t
 ty-holds version {nums} {at} {next} {t} m =
-    let e : (getD nums at 0 ≤ widest) × (tyOf (getD nums at 0) ≡ t) = type-means version (getD nums at 0) t (m .means) in
+    let e : (getD nums at 0 ≤ widest) × (tyOf (getD nums at 0) ≡ t) = type-means version (getD nums at 0) t
+    (m .means) in
     record { inside = m .inside; most = e .0; is = e .1 }
 
 -- the kinds of callables
@@ -88,7 +90,8 @@ module _ (version : ℕ) where
       let b : Both _ _ nums at next p = both (keeps-stands _) r in
       let m : Meant (getElem? (directions version)) nums at (b .mid) (b .result) = reads-stands (b .first) in
       let c : Both _ _ nums (b .mid) next p = both (keeps-stands _) (b .second) in
-      let t : Meant (typeOf version) nums (at + 1) (c .mid) (c .result) = reads-stands (reads-from (m .nextIs) (c .first)) in
+      let t : Meant (typeOf version) nums (at + 1) (c .mid) (c .result) = reads-stands (reads-from (m .nextIs)
+      (c .first)) in
       let g : Given (record { direction = b .result; ty = c .result }) p (c .mid) next = reads-pure (c .second) in
       rw (← g .same) (record {
         direction = record { inside = m .inside; is = direction-is (getD nums at 0) (b .result) (m .means) };
@@ -178,7 +181,8 @@ module _ (version : ℕ) where
       beyond : (b : Bool) → leb 128 (getD nums at 0) ≡ b → (d : Bool) → leb (getD nums at 0) 135 ≡ d
           → orHeader version (getD nums at 0) none ≡ some x → HoldsGlobalTy nums at x
       beyond true p true q f =
-          let same : header (getD nums at 0 - 128) ≡ x = let g : some (header (getD nums at 0 - 128)) ≡ some x = rw (orHeader, p, q) at f in cc in
+          let same : header (getD nums at 0 - 128) ≡ x = let g : some (header (getD nums at 0 - 128)) ≡ some x = rw
+          (orHeader, p, q) at f in cc in
           let low : 128 ≤ getD nums at 0 = leb-true 128 (getD nums at 0) p in
           let high : getD nums at 0 ≤ 135 = leb-true (getD nums at 0) 135 q in
           rw (← same) (record { inside = h; is = omega (arith, low) }, omega (arith, low, high))
@@ -218,7 +222,8 @@ module _ (version : ℕ) where
     pub holds : HoldsReturns nums at x
     pub nextIs : next ≡ at + callableKindNumber x
 
-  returns-stand : (nums : List ℕ) (at next : ℕ) (k : CallableKind) (x : Option Ty) → Reads (readReturns version k) nums at next x
+  returns-stand : (nums : List ℕ) (at next : ℕ) (k : CallableKind) (x : Option Ty)
+      → Reads (readReturns version k) nums at next x
       → ReturnsStood nums at next k x
   unfolding readReturns kindNumber callableKindNumber HoldsReturns
   returns-stand nums at next kindAction x r =
@@ -238,11 +243,13 @@ module _ (version : ℕ) where
   types-next (suc n) nums at next ts r =
       let t : Head n (standsFor (typeOf version)) nums at next ts = reads-more (keeps-stands _) r in
       let m : Meant (typeOf version) nums at (t .mid) (t .member) = reads-stands (t .first) in
-      let s : next ≡ at + 1 + length (t .others) = types-next n nums (at + 1) next (t .others) (reads-from (m .nextIs) (t .rest)) in
+      let s : next ≡ at + 1 + length (t .others) = types-next n nums (at + 1) next (t .others) (reads-from
+      (m .nextIs) (t .rest)) in
       rw (t .same) (omega (arith, s))
 
   -- from the indices at which its parts were read to those that its tree gives
-  callable-parts : (nums ends : List ℕ) (at : ℕ) (returns : Option Ty) (ps : List Parameter) (ls : List Ty) (body : Stmt)
+  callable-parts : (nums ends : List ℕ) (at : ℕ) (returns : Option Ty) (ps : List Parameter) (ls : List Ty)
+      (body : Stmt)
       (i j k : ℕ) → Holds nums at (callableKindNumber returns) → HoldsReturns nums (at + 1) returns
       → i ≡ at + 1 + callableKindNumber returns → HoldsWithin 0 mostParameters nums i (length ps)
       → StandsParameters nums (i + 1) ps → j ≡ i + 1 + 2 * length ps → HoldsWithin 0 mostLocals nums j (length ls)
@@ -269,12 +276,15 @@ module _ (version : ℕ) where
       let y : Both _ _ nums (x .mid) next c = both (keeps-returns version (x .result)) (x .second) in
       let t : ReturnsStood nums (at + 1) (y .mid) (x .result) (y .result)
       = returns-stand nums (at + 1) (y .mid) (x .result) (y .result) (reads-from (m .nextIs) (y .first)) in
-      let z : Both _ _ nums (y .mid) next c = both (keeps-list 0 mostParameters (keeps-parameter version)) (y .second) in
-      let p : Counted 0 mostParameters (readParameter version) nums (y .mid) (z .mid) (z .result) = reads-list (z .first) in
+      let z : Both _ _ nums (y .mid) next c = both (keeps-list 0 mostParameters (keeps-parameter version))
+      (y .second) in
+      let p : Counted 0 mostParameters (readParameter version) nums (y .mid) (z .mid) (z .result) = reads-list
+      (z .first) in
       let ps : ParametersStood nums (y .mid + 1) (z .mid) (z .result)
       = parameters-stand (length (z .result)) nums (y .mid + 1) (z .mid) (z .result) (p .members) in
       let w : Both _ _ nums (z .mid) next c = both (keeps-list 0 mostLocals (keeps-stands _)) (z .second) in
-      let l : Counted 0 mostLocals (standsFor (typeOf version)) nums (z .mid) (w .mid) (w .result) = reads-list (w .first) in
+      let l : Counted 0 mostLocals (standsFor (typeOf version)) nums (z .mid) (w .mid) (w .result) = reads-list
+      (w .first) in
       let v : Both _ _ nums (w .mid) next c = both (keeps-stmt version deepest) (w .second) in
       let g : Given (record {
         at = at;
@@ -283,7 +293,8 @@ module _ (version : ℕ) where
         locals = w .result;
         body = v .result;
       }) c (v .mid) next = reads-pure (v .second) in
-      rw (← g .same) (callable-parts nums ends at (y .result) (z .result) (w .result) (v .result) (y .mid) (z .mid) (w .mid)
+      rw (← g .same) (callable-parts nums ends at (y .result) (z .result) (w .result) (v .result) (y .mid) (z .mid)
+      (w .mid)
       (record { inside = m .inside; is = kind-is (getD nums at 0) (x .result) (m .means) ∙ t .kind })
       (t .holds) (t .nextIs) (p .holds) (ps .stand) (ps .nextIs) (l .holds)
       (types-stand (length (w .result)) nums (z .mid + 1) (w .mid) (w .result) (l .members))

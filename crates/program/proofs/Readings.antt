@@ -40,7 +40,15 @@ module _ {A B : Type 0} {read : Reader A} {k : A → Reader B} {nums : List ℕ}
       go : (x : Got A) → read (drop at nums) at ≡ x → Kept nums at x → andThen x k ≡ got b (drop next nums) next
           → Both read k nums at next b
       go (got a left mid) e l f =
-          record { result = a; mid = mid; first = record { gave = e ∙ rw (l .rest) }; second = record { gave = rw (l .rest) at f } }
+          record {
+            result = a;
+            mid = mid;
+            first = record { gave = e ∙ rw (l .rest) };
+            second = record {
+              gave = rw
+                  (l .rest) at f;
+            };
+          }
       go (bad fault index) e l f = let z : _≡_ {A = ℕ} 0 1 = cc in absurd (omega arith)
 
 -- nothing read, and the index itself
@@ -48,11 +56,13 @@ pub record Given {A : Type 0} (a b : A) (at next : ℕ) : Type 0 where
   pub same : a ≡ b
   pub stays : at ≡ next
 
-pub reads-pure : {A : Type 0} {a b : A} {nums : List ℕ} {at next : ℕ} → Reads (pure a) nums at next b → Given a b at next
+pub reads-pure : {A : Type 0} {a b : A} {nums : List ℕ} {at next : ℕ} → Reads (pure a) nums at next b
+    → Given a b at next
 unfolding pure
 reads-pure r = record { same = let e = r .gave in cc; stays = let e = r .gave in cc }
 
-pub reads-here : {B : Type 0} (k : ℕ → Reader B) {nums : List ℕ} {at next : ℕ} {b : B} → Reads (here >>= k) nums at next b
+pub reads-here : {B : Type 0} (k : ℕ → Reader B) {nums : List ℕ} {at next : ℕ} {b : B}
+    → Reads (here >>= k) nums at next b
     → Reads (k at) nums at next b
 unfolding here _>>=_ andThen
 reads-here k r = record { gave = r .gave }
@@ -149,7 +159,8 @@ reads-between {least} {most} {nums} {at} {next} {n} r =
     }
 
 -- a list: its count, then so many
-pub record Counted {A : Type 0} (least most : ℕ) (one : Reader A) (nums : List ℕ) (at next : ℕ) (xs : List A) : Type 0 where
+pub record Counted {A : Type 0} (least most : ℕ) (one : Reader A) (nums : List ℕ) (at next : ℕ)
+    (xs : List A) : Type 0 where
   pub holds : HoldsWithin least most nums at (length xs)
   pub members : Reads (repeat (length xs) one) nums (at + 1) next xs
 

@@ -28,7 +28,8 @@ record AllStood {A : Type 0} (start : A → ℕ) (Stands : ℕ → A → Type 0)
   pub member : (i : ℕ) (x : A) → getElem? xs i ≡ some x → Stands (start x) x
 
 module _ {A : Type 0} (start : A → ℕ) (Ended : A → ℕ → List ℕ → Type 0) (Stands : ℕ → A → Type 0) (one : Reader A)
-    (nums ends : List ℕ) (keeps : Keeps one) (each : (at next : ℕ) (x : A) → Reads one nums at next x → Ended x next ends
+    (nums ends : List ℕ) (keeps : Keeps one) (each : (at next : ℕ) (x : A) → Reads one nums at next x
+    → Ended x next ends
     → (start x ≡ at) × Stands at x) where
   all-more : (at mid next : ℕ) (x : A) (xs : List A) → Reads one nums at mid x → Ended x (firstAt start xs next) ends
       → AllStood start Stands mid next xs → AllStood start Stands at next (x ∷ xs)
@@ -120,14 +121,16 @@ module _ (version : ℕ) (nums ends : List ℕ) where
   callables-stand : (at next : ℕ) (cs : List Callable)
       → Reads (listOf 0 mostCallables (readCallable version)) nums at next cs
       → EndedAll callableAt EndedCallable cs next ends
-      → (length cs ≤ mostCallables) × ((i : ℕ) (x : Callable) → getElem? cs i ≡ some x → StandsCallable nums ends (x .at) x)
+      → (length cs ≤ mostCallables) × ((i : ℕ) (x : Callable) → getElem? cs i ≡ some x
+      → StandsCallable nums ends (x .at) x)
   unfolding callableAt
   callables-stand at next cs r h =
       let c : Counted 0 mostCallables (readCallable version) nums at next cs = reads-list r in (
         c .holds .atMost,
         all-stand callableAt EndedCallable (StandsCallable nums ends) (readCallable version) nums ends
             (keeps-callable version)
-            (λ at next c r e. let s : StandsCallable nums ends at c = callable-stands version nums ends at next c r e in (s .index, s))
+            (λ at next c r e. let s : StandsCallable nums ends at c = callable-stands version nums ends at next c r
+            e in (s .index, s))
             (length cs) (at + 1) next cs (c .members) h .member,
       )
 
@@ -144,7 +147,8 @@ module _ (version : ℕ) (nums ends : List ℕ) where
       let c : Counted 0 mostTables (readTable version) nums at next ts = reads-list r in
       let a : AllStood tableAt (StandsTable nums ends) (at + 1) next ts
       = all-stand tableAt EndedTable (StandsTable nums ends) (readTable version) nums ends (keeps-table version)
-      (λ at next t r e. let s : StandsTable nums ends at t = table-stands version nums ends at next t r e in (s .index, s))
+      (λ at next t r e. let s : StandsTable nums ends at t = table-stands version nums ends at next t r e in
+      (s .index, s))
       (length ts) (at + 1) next ts (c .members) h in
       record { few = c .holds .atMost; stand = a .member; begin = a .begin }
 
@@ -178,7 +182,15 @@ module _ (version : ℕ) (nums ends : List ℕ) where
           × ((i : ℕ) (x : Callable) → getElem? cs i ≡ some x → StandsCallable nums ends (x .at) x))
           → (EndedAll tableAt EndedTable ts j ends → TablesStood i j ts)
           → (EndedStmt body next ends → StandsStmt nums ends deepest j body)
-          → EndedProgram (record { version = version; headers = hs; globals = gs; callables = cs; tables = ts; body = body })
+          → EndedProgram (record {
+            version = version;
+            headers = hs;
+            globals = gs;
+            callables = cs;
+            tables = ts;
+            body
+                = body;
+          })
           next ends
           → PartsStood nums ends (record {
             version = version;
@@ -223,13 +235,17 @@ program-stands nums directory directory′ ends ends′ r P end w e few room roo
       numbers = few;
       room = room′;
       slots = slots′;
-      headers = in-slots (λ h. h .at) (StandsHeader nums) directory′ 0 mostHeaders (P .headers) (d .headers) (p .headersFew)
+      headers = in-slots (λ h. h .at) (StandsHeader nums) directory′ 0 mostHeaders (P .headers) (d .headers)
+          (p .headersFew)
           (d .header) (p .headers);
-      globals = in-slots (λ g. g .at) (StandsGlobal nums) directory′ 9 mostGlobals (P .globals) (d .globals) (p .globalsFew)
+      globals = in-slots (λ g. g .at) (StandsGlobal nums) directory′ 9 mostGlobals (P .globals) (d .globals)
+          (p .globalsFew)
           (d .global) (p .globals);
-      callables = in-slots (λ c. c .at) (StandsCallable nums ends′) directory′ 42 mostCallables (P .callables) (d .callables)
+      callables = in-slots (λ c. c .at) (StandsCallable nums ends′) directory′ 42 mostCallables (P .callables)
+          (d .callables)
           (p .callablesFew) (d .callable) (p .callables);
-      tables = in-slots (λ t. t .at) (StandsTable nums ends′) directory′ 59 mostTables (P .tables) (d .tables) (p .tablesFew)
+      tables = in-slots (λ t. t .at) (StandsTable nums ends′) directory′ 59 mostTables (P .tables) (d .tables)
+          (p .tablesFew)
           (d .table) (p .tables);
       body = rw (d .body) (p .body);
       ending = d .ending;

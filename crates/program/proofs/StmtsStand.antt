@@ -116,7 +116,11 @@ module _ (version : ℕ) (nums ends : List ℕ) (d : ℕ) (inner : (at next : �
   members-more m mid next s ss p h others =
       let ended : EndedStmt s mid ends = rw (others .begin) at h in
       let first : StandsStmt nums ends (suc d - 1) m s = inner m mid s p ended in
-      record { stand = on-member {ss = ss} first (rw (stmt-end s mid first ended) (others .stand)); begin = stmt-at first }
+      record {
+        stand = on-member {ss = ss} first (rw (stmt-end s mid first ended)
+            (others .stand));
+        begin = stmt-at first;
+      }
 
   members-stand : (n m next : ℕ) (ss : List Stmt) → Reads (repeat n (readStmt version d)) nums m next ss
       → EndedStmts (toStmts version ss) next ends → MembersStood m next (toStmts version ss)
@@ -163,7 +167,8 @@ module _ (version : ℕ) (nums ends : List ℕ) (d : ℕ) (inner : (at next : �
     tagged n k = record { levels = omega arith; holds = record { inside = inside; is = k } }
 
     stmt-as : (t : StmtTag) → getD nums at 0 ≡ stmtNumber t
-        → Reads (readStmtAs version t at (readExpr version d) (readTarget version d) (readStmt version d)) nums (at + 1) next s
+        → Reads (readStmtAs version t at (readExpr version d) (readTarget version d) (readStmt version d)) nums
+        (at + 1) next s
         → EndedStmt s next ends → StandsStmt nums ends (suc d) at s
     unfolding readStmtAs stmtNumber EndedStmt
     stmt-as tagEmpty k r h =
@@ -171,7 +176,8 @@ module _ (version : ℕ) (nums ends : List ℕ) (d : ℕ) (inner : (at next : �
         rw (← g .same) (on-empty (tagged 0 k))
     stmt-as tagAssign k r h =
         let b : Both _ _ nums (at + 1) next s = both (keeps-target version d) r in
-        let t : Target nums d (at + 1) (b .result) = target-stands version nums d (at + 1) (b .mid) (b .result) (b .first) in
+        let t : Target nums d (at + 1) (b .result) = target-stands version nums d (at + 1) (b .mid) (b .result)
+        (b .first) in
         let c : Both _ _ nums (b .mid) next s = both (keeps-expr version d) (b .second) in
         let g : Given (assign at (b .result .0) (b .result .1) (c .result)) s (c .mid) next = reads-pure (c .second) in
         let f : EndedStmt (assign at (b .result .0) (b .result .1) (c .result)) next ends = rw (← g .same) at h in
@@ -179,7 +185,8 @@ module _ (version : ℕ) (nums ends : List ℕ) (d : ℕ) (inner : (at next : �
         = operand (b .mid) next (c .result) (reads-to (g .stays) (c .first)) (f .1 .1) in
         rw (← g .same) (assigned (b .result .0) (b .result .1) (c .result) (b .mid) k t (f .1 .0) v)
       where
-        assigned : (target : ℕ) (p : Place) (e : Expr) (mid : ℕ) → getD nums at 0 ≡ 1 → Target nums d (at + 1) (target, p)
+        assigned : (target : ℕ) (p : Place) (e : Expr) (mid : ℕ) → getD nums at 0 ≡ 1
+            → Target nums d (at + 1) (target, p)
             → getD ends target 0 ≡ exprAt e → StandsExpr nums ends (suc d - 1) mid e
             → StandsStmt nums ends (suc d) at (assign at target p e)
         assigned target p e mid k t f v =

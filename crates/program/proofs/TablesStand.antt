@@ -68,7 +68,8 @@ module _ (version : ℕ) where
         begin = s .index;
       }
 
-  keys-stand : (n : ℕ) (nums ends : List ℕ) (at next : ℕ) (ks : List Key) → Reads (repeat n (readKey version)) nums at next ks
+  keys-stand : (n : ℕ) (nums ends : List ℕ) (at next : ℕ) (ks : List Key)
+      → Reads (repeat n (readKey version)) nums at next ks
       → EndedAll keyAt EndedKey ks next ends → KeysStood nums ends at next ks
   unfolding StandsKeys keysEnd firstAt EndedAll
   keys-stand zero nums ends at next ks r h =
@@ -123,8 +124,10 @@ module _ (version : ℕ) where
       let z : Both _ _ nums (y .mid) next T = both (keeps-numeral version) (y .second) in
       let d : NumeralStood version nums (y .mid) (z .mid) (z .result)
       = numeral-stands version nums (y .mid) (z .mid) (z .result) (z .first) in
-      let w : Both _ _ nums (z .mid) next T = both (keeps-list 0 mostArguments (keeps-numeral version)) (reads-here _ (z .second)) in
-      let xc : Counted 0 mostArguments (readNumeral version) nums (z .mid) (w .mid) (w .result) = reads-list (w .first) in
+      let w : Both _ _ nums (z .mid) next T = both (keeps-list 0 mostArguments (keeps-numeral version))
+      (reads-here _ (z .second)) in
+      let xc : Counted 0 mostArguments (readNumeral version) nums (z .mid) (w .mid) (w .result) = reads-list
+      (w .first) in
       let g : Given (record {
         at = at;
         keys = x .result;
@@ -139,6 +142,7 @@ module _ (version : ℕ) where
       let before : firstAt numeralAt (y .result) (z .result .at) - 1 ≡ x .mid = omega (arith, first) in
       let ks : KeysStood nums ends (at + 1) (x .mid) (x .result)
       = keys-stand (length (x .result)) nums ends (at + 1) (x .mid) (x .result) (kc .members) (rw before at f) in
-      rw (← g .same) (table-parts nums ends at (x .result) (y .result) (z .result) (z .mid) (w .result) (x .mid) (y .mid)
+      rw (← g .same) (table-parts nums ends at (x .result) (y .result) (z .result) (z .mid) (w .result) (x .mid)
+      (y .mid)
       (kc .holds) (ks .stand) (ks .end) (ac .holds) (cs .stand) (cs .nextIs) (d .stands) (d .nextIs) (xc .holds)
       (numerals-stand version (length (w .result)) nums (z .mid + 1) (w .mid) (w .result) (xc .members) .stand))

@@ -94,7 +94,8 @@ module _ (nums ends : List ℕ) (depth at : ℕ) (e : Expr) where
   ExprView (suc (suc (suc (suc (suc (suc (suc (suc (suc zero))))))))) = BinaryView
   ExprView (suc (suc (suc (suc (suc (suc (suc (suc (suc (suc zero)))))))))) = CastView
   ExprView (suc (suc (suc (suc (suc (suc (suc (suc (suc (suc (suc zero))))))))))) = SliceView
-  ExprView (suc (suc (suc (suc (suc (suc (suc (suc (suc (suc (suc (suc zero)))))))))))) = TwoView (concatenation at) (at + 1)
+  ExprView (suc (suc (suc (suc (suc (suc (suc (suc (suc (suc (suc (suc zero)))))))))))) = TwoView (concatenation at)
+      (at + 1)
   ExprView (suc (suc (suc (suc (suc (suc (suc (suc (suc (suc (suc (suc (suc zero))))))))))))) = CallView
   ExprView (suc (suc (suc (suc (suc (suc (suc (suc (suc (suc (suc (suc (suc (suc n)))))))))))))) = ⊥
 
