@@ -1,20 +1,20 @@
 -- The cycle of expressions, calls and arguments: what each step asks of the next, what it learns from it, and that the
 -- measure falls: the depth, and the count of arguments at one depth.
 use mathlib.Core.Bool.{Bool, true, false, not, _&&_, _||_}
-use mathlib.Core.Option.{Option, none, some}
+use mathlib.Core.Option.{Option, some}
 use mathlib.Core.Path.{_≡_, refl, sym, ap, _∙_}
 use mathlib.Core.List.{List, [], _∷_}
-use Prim.Native.Nat.{ℕ, zero, suc, _+_, _-_, _*_, _≤_, _<_}
+use Prim.Native.Nat.{ℕ, suc, _+_, _-_, _*_, _≤_, _<_}
 use native.Mathlib.Omega.{arith}
 use native.Mathlib.Numerals.{add-one}
-use lib.ListN.{length, getD, getElem?}
+use lib.ListN.{length, getD}
 use lib.Dec.{ltb, eqb}
 use borrow.Author.Tests.{lt-ltb, le-ltb, ne-eqb}
 use Rattle.rules.specs.Words.{widest}
-use Rattle.rules.specs.Syntax.{Ty, Direction, byNone, byIn, byOut, byInout, Parameter, Callable, Expr, callExpr, Args, noArgs, arg, placeIn}
-use Rattle.rules.specs.Form.{Res, ok, fault, _>>=_, named, need, onlyIf, callableBelow, wantsPlace, Scope, writableIn, sameTy, Given, typesAgree, placesAgree, judgeGiven, functionTy, judgeExpr, judgeArgs}
-use Rattle.program.specs.Codes.{tyOf, directionNumber, argCount}
-use Rattle.program.specs.Stands.{StandsExpr, StandsArgs, StandsParameters}
+use Rattle.rules.specs.Syntax.{Ty, Direction, byNone, byIn, byOut, byInout, Parameter, Callable, Expr, callExpr, Args, arg, placeIn}
+use Rattle.rules.specs.Form.{Res, ok, fault, _>>=_, named, need, onlyIf, callableBelow, wantsPlace, Scope, writableIn, Given, typesAgree, placesAgree, judgeGiven, functionTy, judgeExpr, judgeArgs}
+use Rattle.program.specs.Codes.{tyOf, directionNumber}
+use Rattle.program.specs.Stands.{StandsExpr, StandsParameters}
 use Rattle.program.specs.Scopes.{StandsScope}
 use Rattle.program.specs.Looks.{Has, Finds, callablesOf, returnsOf, FoundHead}
 use Rattle.program.proofs.Views.{ExprView, CallView, expr-view, expr-begins, ArgView, no-args, arg-view}
@@ -29,7 +29,7 @@ use Rattle.bodies.specs.declared.Passed.the-variants.{Agree, Unpassed}
 use Rattle.bodies.specs.declared.Wanted.{Wanted}
 use Rattle.bodies.specs.Claims.{toldTy, TyMost, AsksExpr, JudgesExpr}
 use Rattle.bodies.specs.Leaves.{Tells, valueTy, AsksWritable, IsWritable, AsksLeaf, JudgesLeaf, AsksOperands}
-use Rattle.bodies.specs.Calls.{Agreement, agreement, toldPassed, AsksArgs, JudgesArgs, AsksWanted, NextWanted, NoneWanted, WantedIf, IsWanted, weighed, Weighs, StandsCall, judgeCall, toldCall, CalledMost, AsksCall, JudgesCall, Settles}
+use Rattle.bodies.specs.Calls.{Agreement, agreement, toldPassed, AsksArgs, JudgesArgs, AsksWanted, WantedIf, IsWanted, weighed, Weighs, StandsCall, judgeCall, toldCall, CalledMost, AsksCall, JudgesCall, Settles}
 use Rattle.bodies.proofs.Operating.{typed-is, fault-is}
 
 -- the measure: levels, then what is left at one level
@@ -61,8 +61,10 @@ module _ (nums directory ends scope : List ℕ) (depth at t : ℕ) where
 pub ruleset descending = (to-operands, to-operand, to-args, to-arg, to-rest)
 
 -- a call, and what follows on what it returns
-pub call-then : {C G O T : Type 0} (x : Res C) (y : Res G) (z : C → G → Res (Unit {0})) (returns : C → O) (l : O → Res T)
-    → ((x >>= λ c. y >>= λ g. z c g >>= λ _. ok (returns c)) >>= l) ≡ (x >>= λ c. y >>= λ g. z c g >>= λ _. l (returns c))
+pub call-then : {C G O T : Type 0} (x : Res C) (y : Res G) (z : C → G → Res (Unit {0})) (returns : C → O) (l : O
+    → Res T)
+    → ((x >>= λ c. y >>= λ g. z c g >>= λ _. ok (returns c)) >>= l)
+    ≡ (x >>= λ c. y >>= λ g. z c g >>= λ _. l (returns c))
 unfolding _>>=_
 call-then (fault number index) y z returns l = refl
 call-then (ok c) (fault number index) z returns l = refl
@@ -79,18 +81,6 @@ value-of-call Γ at f xs =
     call-then (named (suc at) (callableBelow (Γ .program) (Γ .reach) f)) (judgeArgs Γ xs)
     (λ c given. judgeGiven at (c .parameters) given) (λ c. c .returns) (functionTy at)
 
--- what an answer says of the call that it is about
-module _ {nums directory ends scope : List ℕ} {depth at : ℕ} {a : Called} (j : JudgesCall nums directory ends scope depth at a)
-    (Γ : Scope) (f : ℕ) (xs : Args) (s : StandsScope nums directory ends scope Γ) (h : StandsCall nums ends depth at f xs)
-  where
-    pub returns-are : (kind returns : ℕ) → a ≡ Returns kind returns → judgeCall Γ at f xs ≡ ok (returnsOf kind returns)
-    unfolding toldCall
-    returns-are kind returns k = sym (j .judged Γ f xs s h) ∙ rw k
-
-    pub uncalled-is : (number index : ℕ) → a ≡ Uncalled number index → judgeCall Γ at f xs ≡ fault number index
-    unfolding toldCall
-    uncalled-is number index k = sym (j .judged Γ f xs s h) ∙ rw k
-
 -- expressions
 module _ (nums directory ends scope : List ℕ) (depth at : ℕ) where
   pub expr-inside : AsksExpr nums directory ends scope depth at → at < length nums
@@ -100,7 +90,8 @@ module _ (nums directory ends scope : List ℕ) (depth at : ℕ) where
       → AsksLeaf nums directory ends scope at
   leaf-asks asks h = record { depth = depth; asks = asks; leaf = h }
 
-  pub leaf-told : (r : Typed) → JudgesLeaf nums directory ends scope at r → JudgesExpr nums directory ends scope depth at r
+  pub leaf-told : (r : Typed) → JudgesLeaf nums directory ends scope at r
+      → JudgesExpr nums directory ends scope depth at r
   leaf-told r j = j .judges depth
 
   pub typed-again : (a : Typed) (t : ℕ) → JudgesExpr nums directory ends scope depth at a → a ≡ typed.Ty t
@@ -217,7 +208,8 @@ settled-as at true true x = refl
 settled-as at true false x = refl
 settled-as at false places x = refl
 
-settled-call : (at : ℕ) (types places : Bool) (returned : Option Ty) (c : Callable) (x : Res (List Given)) (given : List Given)
+settled-call : (at : ℕ) (types places : Bool) (returned : Option Ty) (c : Callable) (x : Res (List Given))
+    (given : List Given)
     → x ≡ ok given → types ≡ typesAgree (c .parameters) given → places ≡ placesAgree (c .parameters) given
     → returned ≡ c .returns
     → (need 7 at types >>= λ _. need 8 at places >>= λ _. ok returned)
@@ -349,7 +341,8 @@ in-only byIn = refl
 in-only byOut = refl
 in-only byInout = refl
 
-none-agree : (ps : List Parameter) (n : ℕ) → n ≡ length ps → agreement ps [] ≡ record { types = eqb n 0; places = true }
+none-agree : (ps : List Parameter) (n : ℕ) → n ≡ length ps
+    → agreement ps [] ≡ record { types = eqb n 0; places = true }
 unfolding agreement typesAgree placesAgree
 none-agree [] n e = rw e
 none-agree (p ∷ ps) n e = rw (e, ne-eqb (length (p ∷ ps)) 0 (λ z. absurd (omega (arith, z))))
@@ -360,13 +353,15 @@ record LeftOver (nums : List ℕ) (w : Wanted) : Type 0 where
   stand : StandsParameters nums (w .next) wanted
   leftIs : w .left ≡ length wanted
 
-unfoldable left-over : (nums : List ℕ) (w : Wanted) (ps : List Parameter) (b : Bool) → WantedIf b nums w ps → LeftOver nums w
+unfoldable left-over : (nums : List ℕ) (w : Wanted) (ps : List Parameter) (b : Bool) → WantedIf b nums w ps
+    → LeftOver nums w
 unfolding WantedIf StandsParameters
 left-over nums w ps true q = record { wanted = q .others; stand = q .othersStand; leftIs = q .leftIs }
 left-over nums w ps false q = record { wanted = []; stand = tt; leftIs = q .leftIs }
 
 next-agree : (p : Parameter) (others : List Parameter) (direction ty t : ℕ) (writable types places : Bool)
-    (given : List Given) → direction ≡ directionNumber (p .direction) → tyOf ty ≡ p .ty → types ≡ typesAgree others given
+    (given : List Given) → direction ≡ directionNumber (p .direction) → tyOf ty ≡ p .ty
+    → types ≡ typesAgree others given
     → places ≡ placesAgree others given
     → record { types = eqb ty t && types; places = (ltb direction 2 || writable) && places }
     ≡ agreement (p ∷ others) (record { ty = tyOf t; writable = writable } ∷ given)
@@ -430,7 +425,8 @@ module _ (nums directory ends scope : List ℕ) (depth at count parameters left 
       pub rest-asks : (w : Wanted) → IsWanted nums parameters left w
           → AsksArgs nums directory ends scope depth (getD ends at 0) (count - 1) (w .next) (w .left)
       rest-asks w q =
-          let v : LeftOver nums w = left-over nums w (asks .wanted) (w .present) (q .told (asks .wanted) (asks .wantedStand) (asks .leftIs)) in
+          let v : LeftOver nums w = left-over nums w (asks .wanted) (w .present) (q .told (asks .wanted)
+          (asks .wantedStand) (asks .leftIs)) in
           record {
             scopeOf = asks .scopeOf;
             arguments = someArg .others;
@@ -474,7 +470,8 @@ module _ (nums directory ends scope : List ℕ) (depth at count parameters left 
                 rw (v .same, typed-is j Γ (v .first) s (v .firstStands) t k, z);
           }
 
-          pub rest-told : (types places : Bool) → b ≡ Agree types places → (writable : Bool) → IsWritable nums scope at writable
+          pub rest-told : (types places : Bool) → b ≡ Agree types places → (writable : Bool)
+              → IsWritable nums scope at writable
               → (c : Passed) → Weighs w t writable types places c
               → JudgesArgs nums directory ends scope depth at count parameters left c
           unfolding toldPassed _>>=_
@@ -486,7 +483,8 @@ module _ (nums directory ends scope : List ℕ) (depth at count parameters left 
                 = given-of (judgeArgs Γ (v .others)) (left-over nums w ps (w .present) o .wanted) types places
                 (rw m at (rest-is Γ s xs v ps (left-over nums w ps (w .present) o))) in
                 ap toldPassed (z .told)
-                ∙ weighed-agree nums w ps (w .present) o t writable types places (x .given) (x .typesAre) (x .placesAre)
+                ∙ weighed-agree nums w ps (w .present) o t writable types places (x .given) (x .typesAre)
+                (x .placesAre)
                 ∙ ap (λ y. y >>= λ given. ok (agreement ps given)) (args-given Γ (v .first) (v .others) xs t writable
                 (x .given) (v .same) (typed-is j Γ (v .first) s (v .firstStands) t k) (x .is)
                 (i .told directory ends depth Γ (v .first) s (v .firstStands)));

@@ -7,3 +7,4 @@ pub mod Judging
 pub mod Forming
 pub mod Single
 pub mod Stating
+pub mod Same
