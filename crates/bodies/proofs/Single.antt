@@ -25,7 +25,8 @@ use Rattle.bodies.specs.Leaves.{AsksName, AsksWritable, IsWritable, Asks
 use Rattle.bodies.specs.Calls.{StandsCall, judgeCall, toldCall, AsksCall, JudgesCall}
 use Rattle.bodies.specs.Forms.{Forms, ruled, assigned, FormsIn, calledIn, returnedIn, appliedIn, Applies, leftIn, MarksIn, AsksTagged, AsksSingle}
 use Rattle.bodies.proofs.Operating.{place-low, typed-is, fault-is}
-use Rattle.bodies.proofs.Judging.{call-then, settled-as}
+use Rattle.bodies.proofs.Judging.{call-then}
+use Rattle.bodies.proofs.Passing.{settled-as}
 
 assign-is : (Γ : Scope) (at : ℕ) (p : Place) (e : Expr) (t u : ℕ) (writes : Bool) (s : Stmt)
     → s ≡ assign at (at + 1) p e → judgeExpr Γ (readOf (at + 1) p) ≡ ok (tyOf t) → judgeExpr Γ e ≡ ok (tyOf u)

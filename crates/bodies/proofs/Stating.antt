@@ -45,9 +45,9 @@ module _ (nums directory ends scope : List ℕ) (depth at t : ℕ) where
 pub ruleset sinking = (to-if, to-stmt, to-branches, to-members)
 
 -- what an answer says of the statement that it is about
-record FineOf (x : Res (Unit {0})) (b c : Bool) : Type 0 where
-  is : x ≡ ok tt
-  same : b ≡ c
+pub record FineOf (x : Res (Unit {0})) (b c : Bool) : Type 0 where
+  pub is : x ≡ ok tt
+  pub same : b ≡ c
 
 fine-of : (x : Res (Unit {0})) (b c : Bool) → ok b ≡ (x >>= λ _. ok c) → FineOf x b c
 unfolding _>>=_
@@ -66,11 +66,11 @@ faulty-of (fault m i) number index c e =
 module _ {nums directory ends scope : List ℕ} {depth at : ℕ} {a : Formed}
     (j : JudgesStmt nums directory ends scope depth at a)
     (Γ : Scope) (s : Stmt) (z : StandsScope nums directory ends scope Γ) (h : StandsStmt nums ends depth at s) where
-  fine-is : (b : Bool) → a ≡ Fine b → FineOf (judgeStmt Γ s) b (returnsOn s)
+  pub fine-is : (b : Bool) → a ≡ Fine b → FineOf (judgeStmt Γ s) b (returnsOn s)
   unfolding toldStmt
   fine-is b k = fine-of (judgeStmt Γ s) b (returnsOn s) (rw k at (j .judged Γ s z h))
 
-  faulty-is : (number index : ℕ) → a ≡ Faulty number index → judgeStmt Γ s ≡ fault number index
+  pub faulty-is : (number index : ℕ) → a ≡ Faulty number index → judgeStmt Γ s ≡ fault number index
   unfolding toldStmt
   faulty-is number index k = faulty-of (judgeStmt Γ s) number index (returnsOn s) (rw k at (j .judged Γ s z h))
 

@@ -1,5 +1,5 @@
--- The cycle of statements. What carries it: the steps of Stating; the depth falls, and the members of a block are a loop
--- over what is left of them.
+-- The cycle of statements. What carries it: the steps of Stating; the depth falls, and the members of a block are a
+-- loop over what is left of them.
 use borrow.Author.Needs.{needs}
 use Rattle.bodies.proofs.Judging.{rank}
 use Rattle.bodies.proofs.Stating.{Pending, stating, branching, choosing, pending, sinking}
