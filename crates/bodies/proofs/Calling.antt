@@ -1,31 +1,25 @@
 -- What calls rest on: the parameters that are left, and how arguments are held against them.
-use mathlib.Core.Bool.{Bool, true, false, not, _&&_, _||_}
-use mathlib.Core.Option.{Option, none, some}
+use mathlib.Core.Bool.{Bool, true, false, _&&_, _||_}
 use mathlib.Core.Path.{_≡_, refl, sym, _∙_}
 use mathlib.Core.List.{List, [], _∷_}
 use Prim.Native.Nat.{ℕ, zero, suc, _+_, _-_, _≤_, _<_}
 use native.Mathlib.Omega.{arith}
-use native.Mathlib.Numerals.{sub-one}
 use lib.ListN.{length, getD}
 use lib.Dec.{ltb, eqb}
 use borrow.Author.Tests.{ne-eqb}
 use Rattle.rules.specs.Words.{widest}
-use Rattle.rules.specs.Syntax.{Ty, Parameter, Direction, byNone, byIn, byOut, byInout}
-use Rattle.rules.specs.Form.{Res, ok, fault, _>>=_, need, wantsPlace, functionTy}
-use Rattle.program.specs.Codes.{tyOf, directionNumber}
+use Rattle.rules.specs.Syntax.{Ty, Parameter}
+use Rattle.rules.specs.Form.{ok, _>>=_, need, functionTy}
+use Rattle.program.specs.Codes.{tyOf}
 use Rattle.program.specs.Stands.{StandsParameters}
 use Rattle.program.specs.Looks.{returnsOf}
-use Rattle.program.proofs.Members.{StandsParameter}
-use Rattle.bodies.specs.declared.Typed.{Typed}
 use Rattle.bodies.specs.declared.Typed.the-variants as typed
-use Rattle.bodies.specs.declared.Called.{Called}
 use Rattle.bodies.specs.declared.Called.the-variants.{Returns, Uncalled}
-use Rattle.bodies.specs.declared.Passed.{Passed}
-use Rattle.bodies.specs.declared.Passed.the-variants.{Agree, Unpassed}
+use Rattle.bodies.specs.declared.Passed.the-variants.{Agree}
 use Rattle.bodies.specs.declared.Wanted.{Wanted}
 use Rattle.bodies.specs.Claims.{toldTy, TyMost}
 use Rattle.bodies.specs.Leaves.{Tells, takesTwo, leadBy, leadLength, OperandsAt, valueTy}
-use Rattle.bodies.specs.Calls.{AsksWanted, NextWanted, NoneWanted, WantedIf, IsWanted, weighed, Weighs, toldCall, CalledMost, Settles}
+use Rattle.bodies.specs.Calls.{AsksWanted, NextWanted, WantedIf, IsWanted, weighed, Weighs, toldCall, CalledMost, Settles}
 
 -- where operands stand, by the tag
 module _ (nums : List ℕ) (at : ℕ) where

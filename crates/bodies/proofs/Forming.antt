@@ -21,7 +21,7 @@ use Rattle.bodies.specs.declared.Formed.{Formed}
 use Rattle.bodies.specs.declared.Formed.the-variants.{Fine, Faulty}
 use Rattle.bodies.specs.Claims.{toldTy, toldStmt}
 use Rattle.bodies.specs.Leaves.{TypedIn, headerTy}
-use Rattle.bodies.specs.Forms.{Forms, ruled, assigned, FormsIn, calledIn, returnedIn, appliedIn, Applies, leftIn, MarksIn}
+use Rattle.bodies.specs.Forms.{Forms, ruled, assigned, chosenAs, FormsIn, calledIn, returnedIn, appliedIn, Applies, leftIn, MarksIn}
 use Rattle.bodies.proofs.Typing.{more}
 
 -- a rule that holds, and one that does not
@@ -35,13 +35,25 @@ module _ (number at : ℕ) (holds returns : Bool) where
   rule-not e = record { judged = rw e }
 
 module _ (at : ℕ) (same writable : Bool) where
-  pub assign-rule : (r : Formed) → same ≡ true → Forms r (ruled 8 at writable false) → Forms r (assigned at same writable)
+  pub assign-rule : (r : Formed) → same ≡ true → Forms r (ruled 8 at writable false)
+      → Forms r (assigned at same writable)
   unfolding assigned need _>>=_
   assign-rule r e f = record { judged = rw e (f .judged) }
 
   pub assign-not : same ≡ false → Forms (Faulty 7 at) (assigned at same writable)
   unfolding assigned toldStmt need _>>=_
   assign-not e = record { judged = rw e }
+
+module _ (at t : ℕ) (branches : Formed) where
+  pub chosen-fine : (x : Bool) → branches ≡ Fine x → (r : Formed) → Forms r (ruled 7 at (eqb t 0) x)
+      → Forms r (chosenAs at t (toldStmt branches))
+  unfolding chosenAs toldStmt _>>=_
+  chosen-fine x e r f = record { judged = rw e (f .judged) }
+
+  pub chosen-fault : (number index : ℕ) → branches ≡ Faulty number index
+      → Forms (Faulty number index) (chosenAs at t (toldStmt branches))
+  unfolding chosenAs toldStmt _>>=_
+  chosen-fault number index e = record { judged = rw e }
 
 -- the kinds of bodies
 other : (k : ℕ) → eqb (suc (suc k)) 1 ≡ false
@@ -96,13 +108,26 @@ module _ (scope : List ℕ) (at : ℕ) (r : Formed) where
   unfolding leftIn
   left-in f = record { judged = λ body e. f .judged ∙ rw (← e, is-function (getD scope 5 0) (getD scope 6 0)) }
 
-pub returned-out : (scope : List ℕ) (at t : ℕ) → (getD scope 5 0 ≡ 1 → ⊥) → FormsIn scope (returnedIn at t) (Faulty 8 at)
+pub returned-out : (scope : List ℕ) (at t : ℕ) → (getD scope 5 0 ≡ 1 → ⊥)
+    → FormsIn scope (returnedIn at t) (Faulty 8 at)
 unfolding returnedIn toldStmt _>>=_
 returned-out scope at t x = record {
   judged = λ body e. rw (← e, no-function at (getD scope 5 0) (getD scope 6 0) (tyOf t) x);
 }
 
-pub ruleset ruling = (rule-holds, rule-not, assign-rule, assign-not, called-in, returned-in, returned-out, applied-in, left-in)
+pub ruleset ruling = (
+  rule-holds,
+  rule-not,
+  assign-rule,
+  assign-not,
+  chosen-fine,
+  chosen-fault,
+  called-in,
+  returned-in,
+  returned-out,
+  applied-in,
+  left-in,
+)
 
 -- names: a table, a header
 unnamed : (at : ℕ) → toldStmt (Faulty 6 (at + 1)) ≡ fault 6 (suc at)

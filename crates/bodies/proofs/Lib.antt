@@ -4,6 +4,8 @@ pub mod Plain
 pub mod Calling
 pub mod Operating
 pub mod Judging
+pub mod Passing
 pub mod Forming
 pub mod Single
 pub mod Stating
+pub mod Same

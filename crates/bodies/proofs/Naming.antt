@@ -1,20 +1,19 @@
 -- What the looks at names rest on: a name that is inside its list has what stands there, any other has nothing.
-use mathlib.Core.Bool.{Bool, true, false, not, _&&_, _||_}
-use mathlib.Core.Option.{Option, none, some}
-use mathlib.Core.Path.{_≡_, refl, sym, _∙_}
+use mathlib.Core.Bool.{true, false}
+use mathlib.Core.Option.{some}
+use mathlib.Core.Path.{_≡_, refl, _∙_}
 use mathlib.Core.List.{List}
 use Prim.Native.Nat.{ℕ, zero, suc, _+_, _-_, _*_, _≤_, _<_}
 use native.Mathlib.Omega.{arith}
 use native.Mathlib.Numerals.{add-one}
-use lib.ListN.{length, getD, getElem?}
-use lib.Dec.{ltb, leb, eqb}
-use borrow.Author.Tests.{le-leb, lt-leb}
+use lib.ListN.{length, getD}
+use lib.Dec.{leb}
 use Rattle.rules.specs.Numbers.{mostBytes}
 use Rattle.rules.specs.Words.{widest}
-use Rattle.rules.specs.Syntax.{Ty, bool, bits, GlobalTy, variable, header, HeaderTy, Global, Parameter, Program, local, parameter, global, field}
+use Rattle.rules.specs.Syntax.{Ty, GlobalTy, variable, header, Program, local, parameter, global, field}
 use Rattle.rules.specs.Syntax.{Direction, byNone, byIn, byOut, byInout}
-use Rattle.rules.specs.Form.{Res, ok, fault, _>>=_, named, need, andLook, Shape, aVariable, aHeader, shapeIn, globalAt, calleeMayWrite, Body, inFunction, inAction, inApply, Scope, seesGlobals, writableAs, writable}
-use Rattle.rules.specs.Form.{judgeVariable, judgeField, judgeHeader, judgeGlobal, judgePlace, judgeHeaderAt}
+use Rattle.rules.specs.Form.{fault, _>>=_, named, need, andLook, aVariable, shapeIn, globalAt, calleeMayWrite, Scope, seesGlobals, writableAs, writable}
+use Rattle.rules.specs.Form.{judgeField, judgePlace}
 use Rattle.program.specs.Codes.{tyOf, headerNumber, directionNumber}
 use Rattle.program.specs.Stands.{Holds, HoldsWithin, HoldsTy, StandsWidths, StandsHeader, StandsProgram}
 use Rattle.program.specs.Scopes.{bodyNumbered, StandsScope}
@@ -26,7 +25,7 @@ use Rattle.bodies.specs.declared.Typed.the-variants as typed
 use Rattle.bodies.specs.declared.Found.{Found}
 use Rattle.bodies.specs.declared.Found.the-variants.{Variable, Header, Nothing}
 use Rattle.bodies.specs.Claims.{toldTy, TyMost}
-use Rattle.bodies.specs.Leaves.{AsksName, TypedIn, AsksFieldName, AsksSlot, SlotTyped, localTy, parameterTy, variableTy, fieldTy, headerTy, AsksProgram, HeaderFound, FoundShape, FindsGlobal, FindsHeader, SeenTyped, AsksField, FieldTyped, IsWritableParameter}
+use Rattle.bodies.specs.Leaves.{AsksSlot, SlotTyped, localTy, parameterTy, AsksProgram, FoundShape, FindsGlobal, FindsHeader, SeenTyped, AsksField, FieldTyped, IsWritableParameter}
 
 -- what stands at a local's, a parameter's and a field's number
 record HoldsLocal (nums scope : List ℕ) (i : ℕ) (Γ : Scope) : Type 0 where
@@ -324,7 +323,8 @@ module _ (nums : List ℕ) (at header : ℕ) where
       most = t .most;
     }
 
-  pub field-none : (scope : List ℕ) → getD nums header 0 ≤ fieldNumber → FieldTyped nums scope at header (typed.Fault 6 (at + 2))
+  pub field-none : (scope : List ℕ) → getD nums header 0 ≤ fieldNumber
+      → FieldTyped nums scope at header (typed.Fault 6 (at + 2))
   unfolding toldTy TyMost judgeField named _>>=_
   field-none scope h = record {
     judged = λ b e widths c s.

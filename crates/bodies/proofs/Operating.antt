@@ -2,12 +2,12 @@
 use mathlib.Core.Bool.{Bool, true, false}
 use mathlib.Core.Path.{_≡_, refl, sym, _∙_}
 use mathlib.Core.List.{List}
-use Prim.Native.Nat.{ℕ, zero, suc, _+_, _-_, _≤_, _<_}
+use Prim.Native.Nat.{ℕ, _+_, _-_, _≤_, _<_}
 use native.Mathlib.Omega.{arith}
 use lib.ListN.{length, getD}
 use Rattle.rules.specs.Words.{widest}
 use Rattle.rules.specs.Syntax.{Place, local, parameter, global, field, Expr}
-use Rattle.rules.specs.Form.{Res, ok, fault, _>>=_, Scope, judgeExpr}
+use Rattle.rules.specs.Form.{ok, fault, _>>=_, Scope, judgeExpr}
 use Rattle.program.specs.Codes.{tyOf, placeTag}
 use Rattle.program.specs.Stands.{Holds, StandsExpr, on-bool, on-bits, on-place, on-valid, on-not, on-complement, on-binary, on-cast, on-slice, on-concatenation, on-call}
 use Rattle.program.specs.Scopes.{StandsScope}
@@ -135,7 +135,8 @@ slice-in (on-concatenation t d e) low x f a b c = true-false (rw (t .holds .is) 
 slice-in (on-call t n m xs) low x f a b c = absurd (x (t .holds .is))
 
 -- what an answer says of the expression that it is about
-module _ {nums directory ends scope : List ℕ} {depth at : ℕ} {a : Typed} (j : JudgesExpr nums directory ends scope depth at a)
+module _ {nums directory ends scope : List ℕ} {depth at : ℕ} {a : Typed}
+    (j : JudgesExpr nums directory ends scope depth at a)
     (Γ : Scope) (e : Expr) (s : StandsScope nums directory ends scope Γ) (h : StandsExpr nums ends depth at e) where
   pub typed-is : (t : ℕ) → a ≡ typed.Ty t → judgeExpr Γ e ≡ ok (tyOf t)
   unfolding toldTy
@@ -180,7 +181,8 @@ module _ (nums directory ends scope : List ℕ) (depth at : ℕ) where
     unfolding OperandsOf
     own-one k e h = rw k at (own e h)
 
-    asked : (e : Expr) → StandsExpr nums ends (depth - 1) first e → AsksExpr nums directory ends scope (depth - 1) first
+    asked : (e : Expr) → StandsExpr nums ends (depth - 1) first e
+        → AsksExpr nums directory ends scope (depth - 1) first
     asked e h = record { scopeOf = asks .asks .scopeOf; expr = e; seen = asks .asks .seen; stands = h }
 
     pub first-asks : AsksExpr nums directory ends scope (depth - 1) first
@@ -188,10 +190,12 @@ module _ (nums directory ends scope : List ℕ) (depth at : ℕ) where
       where
         go : (b : Bool) → two ≡ b → AsksExpr nums directory ends scope (depth - 1) first
         go true k =
-            let q : TwoOf nums ends depth at first (asks .asks .expr) = own-two k (asks .asks .expr) (asks .asks .stands) in
+            let q : TwoOf nums ends depth at first (asks .asks .expr) = own-two k (asks .asks .expr)
+            (asks .asks .stands) in
             asked (q .left) (q .leftStands)
         go false k =
-            let q : OneOf nums ends depth at first (asks .asks .expr) = own-one k (asks .asks .expr) (asks .asks .stands) in
+            let q : OneOf nums ends depth at first (asks .asks .expr) = own-one k (asks .asks .expr)
+            (asks .asks .stands) in
             asked (q .operand) (q .stands)
 
     pub first-ends : first < length ends
@@ -199,7 +203,8 @@ module _ (nums directory ends scope : List ℕ) (depth at : ℕ) where
 
     pub second-asks : two ≡ true → AsksExpr nums directory ends scope (depth - 1) (getD ends first 0)
     second-asks k =
-        let q : TwoOf nums ends depth at first (asks .asks .expr) = own-two k (asks .asks .expr) (asks .asks .stands) in
+        let q : TwoOf nums ends depth at first (asks .asks .expr) = own-two k (asks .asks .expr)
+        (asks .asks .stands) in
         record { scopeOf = asks .asks .scopeOf; expr = q .right; seen = asks .asks .seen; stands = q .rightStands }
 
     module _ (a : Typed) (j : JudgesExpr nums directory ends scope (depth - 1) first a) where
@@ -236,7 +241,8 @@ module _ (nums directory ends scope : List ℕ) (depth at : ℕ) where
             most = q .most;
           }
 
-        module _ (f : two ≡ true) (b : Typed) (l : JudgesExpr nums directory ends scope (depth - 1) (getD ends first 0) b) where
+        module _ (f : two ≡ true) (b : Typed) (l : JudgesExpr nums directory ends scope (depth - 1)
+            (getD ends first 0) b) where
           pub second-fault : (number index : ℕ) → b ≡ typed.Fault number index
               → JudgesExpr nums directory ends scope depth at (typed.Fault number index)
           unfolding toldTy TyMost

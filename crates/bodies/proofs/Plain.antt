@@ -1,24 +1,24 @@
 -- Expressions with no operands: what a global's shape and a tag say of the rules' judgement.
 use mathlib.Core.Bool.{Bool, true, false}
-use mathlib.Core.Option.{Option, none, some}
-use mathlib.Core.Path.{_≡_, refl, sym, _∙_}
+use mathlib.Core.Option.{none}
+use mathlib.Core.Path.{_≡_, refl, _∙_}
 use mathlib.Core.List.{List}
-use Prim.Native.Nat.{ℕ, zero, suc, _+_, _≤_, _<_}
+use Prim.Native.Nat.{ℕ, _+_, _≤_, _<_}
 use native.Mathlib.Omega.{arith}
 use lib.ListN.{length, getD}
 use Rattle.rules.specs.Numbers.{mostBytes}
 use Rattle.rules.specs.Words.{widest}
-use Rattle.rules.specs.Syntax.{Ty, bool, Place, local, parameter, global, field, Expr, boolLiteral, bitsLiteral, readOf, validOf, negation, complement, binary, cast, slice, concatenation, callExpr, Program, placeIn}
-use Rattle.rules.specs.Form.{Res, ok, fault, _>>=_, named, need, seesGlobals, Shape, aVariable, aHeader, globalAt, Scope, writable, writableIn, judgeVariable, judgeField, judgeHeader, judgeGlobal, judgePlace, judgeHeaderAt, judgeExpr}
+use Rattle.rules.specs.Syntax.{bool, Place, local, parameter, global, field, Expr, readOf, placeIn}
+use Rattle.rules.specs.Form.{Res, ok, fault, _>>=_, named, need, seesGlobals, globalAt, Scope, writable, writableIn, judgeVariable, judgeField, judgeHeader, judgeGlobal, judgePlace, judgeHeaderAt, judgeExpr}
 use Rattle.program.specs.Codes.{tyOf, placeTag}
-use Rattle.program.specs.Stands.{Holds, HoldsTag, StandsPlace, StandsExpr, StandsProgram, on-bool, on-bits, on-place, on-valid, on-not, on-complement, on-binary, on-cast, on-slice, on-concatenation, on-call}
+use Rattle.program.specs.Stands.{StandsPlace, StandsExpr, on-bool, on-bits, on-place, on-valid, on-not, on-complement, on-binary, on-cast, on-slice, on-concatenation, on-call}
 use Rattle.program.specs.Scopes.{StandsScope}
 use Rattle.program.proofs.Views.{ExprView, BoolView, BitsView, PlaceView, ValidView, expr-view, expr-begins}
 use Rattle.bodies.specs.declared.Typed.{Typed}
 use Rattle.bodies.specs.declared.Typed.the-variants as typed
 use Rattle.bodies.specs.declared.Found.{Found}
 use Rattle.bodies.specs.declared.Found.the-variants.{Variable, Header, Nothing}
-use Rattle.bodies.specs.Claims.{toldTy, TyMost, AsksExpr, JudgesExpr}
+use Rattle.bodies.specs.Claims.{toldTy, TyMost}
 use Rattle.bodies.specs.Leaves.{Tells, IsWidth, boolTy, bitsTy, AsksName, AsksFieldName, TypedIn, AsksSlot, SlotTyped, localTy, parameterTy, variableTy, fieldTy, headerTy, AsksProgram, HeaderFound, FoundShape, FindsGlobal, SeenTyped, AsksField, FieldTyped, AsksWritable, IsWritableParameter, IsWritable, AsksLeaf, JudgesLeaf}
 use Rattle.bodies.proofs.Naming.{none-found}
 
@@ -45,7 +45,8 @@ module _ (nums directory ends scope : List ℕ) (at : ℕ) where
       unfolding FoundShape
       variable-most asks = shape-of x (Variable t) f e (asks .scopeOf) (asks .seen) .0
 
-      pub variable-seen : (r : Typed) → SeenTyped scope at t r → TypedIn nums directory ends scope (variableTy nums at) r
+      pub variable-seen : (r : Typed) → SeenTyped scope at t r
+          → TypedIn nums directory ends scope (variableTy nums at) r
       unfolding FoundShape variableTy judgePlace judgeGlobal judgeVariable named _>>=_
       variable-seen r q = record {
         judged = λ Γ s. rw (shape-of x (Variable t) f e Γ s .1) (q .judged (Γ .body) (s .body));
@@ -82,7 +83,8 @@ module _ (nums directory ends scope : List ℕ) (at : ℕ) where
             stand = q .stand;
           }
 
-      pub field-seen : (r : Typed) → FieldTyped nums scope at h r → TypedIn nums directory ends scope (fieldTy nums at) r
+      pub field-seen : (r : Typed) → FieldTyped nums scope at h r
+          → TypedIn nums directory ends scope (fieldTy nums at) r
       unfolding fieldTy judgePlace judgeGlobal named _>>=_
       field-seen r q = record {
         judged = λ Γ s.
@@ -94,7 +96,8 @@ module _ (nums directory ends scope : List ℕ) (at : ℕ) where
       pub header-seen : (r : Typed) → SeenTyped scope at 0 r → TypedIn nums directory ends scope (headerTy nums at) r
       unfolding headerTy judgeHeaderAt judgeGlobal judgeHeader named _>>=_
       header-seen r q = record {
-        judged = λ Γ s. rw (header-found Γ s .is) (q .judged (Γ .body) (s .body) ∙ marked (need 8 at (seesGlobals (Γ .body))));
+        judged = λ Γ s. rw (header-found Γ s .is) (q .judged (Γ .body) (s .body) ∙ marked (need 8 at (seesGlobals
+            (Γ .body))));
         most = q .most;
       }
 
@@ -404,7 +407,8 @@ module _ (nums scope : List ℕ) (at : ℕ) where
   pub writable-slot : AsksWritable nums scope at → getD nums at 0 ≡ 3 → AsksSlot nums scope at
   unfolding ExprView
   writable-slot asks k =
-      let v : PlaceView nums (asks .ends) (asks .depth) at (asks .asks .expr) 3 = rw k at (expr-view (asks .asks .stands)) in
+      let v : PlaceView nums (asks .ends) (asks .depth) at (asks .asks .expr) 3 = rw k at (expr-view
+      (asks .asks .stands)) in
       record {
         directory = asks .directory;
         ends = asks .ends;

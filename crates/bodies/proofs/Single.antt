@@ -1,37 +1,32 @@
 -- Statements that hold no statement, by their tag: what is asked of their operands, and what is judged.
-use mathlib.Core.Bool.{Bool, true, false, not, _||_}
-use mathlib.Core.Option.{Option, none, some}
+use mathlib.Core.Bool.{Bool, false}
 use mathlib.Core.Path.{_≡_, refl, sym, ap, _∙_}
 use mathlib.Core.List.{List}
-use Prim.Native.Nat.{ℕ, zero, suc, _+_, _-_, _≤_, _<_}
+use Prim.Native.Nat.{ℕ, suc, _+_, _-_, _<_}
 use native.Mathlib.Omega.{arith}
-use native.Mathlib.Numerals.{add-one}
 use lib.ListN.{length, getD, getElem?}
-use lib.Dec.{leb, eqb}
-use borrow.Author.Tests.{ne-eqb, le-leb}
+use lib.Dec.{eqb}
 use Rattle.rules.specs.Numbers.{mostBytes}
-use Rattle.rules.specs.Syntax.{Ty, Place, Expr, readOf, Args, placeIn, Stmt, empty, assign, callStmt, apply, returnValue, return, exit, setValid, setInvalid}
-use Rattle.rules.specs.Form.{Res, ok, fault, _>>=_, named, need, callableBelow, sameTy, Body, Scope, writable, writableIn, judgePlace, judgeHeaderAt, needTy, judgeGiven, mayCall, judgeExpr, judgeArgs, judgeReturned, isApply, isFunction, judgeStmt, returnsOn}
-use Rattle.program.specs.Codes.{tyOf, placeTag}
-use Rattle.program.specs.Stands.{Holds, HoldsTag, StandsExpr, on-place, StandsStmt, on-empty, on-assign, on-if, on-block, on-call-stmt, on-apply, on-return-value, on-return, on-exit, on-set-valid, on-set-invalid}
-use Rattle.program.specs.Scopes.{bodyNumbered, StandsScope}
-use Rattle.program.specs.Looks.{returnsOf}
+use Rattle.rules.specs.Syntax.{Ty, Place, Expr, readOf, Args, placeIn, Stmt, empty, assign, callStmt, apply, return, exit}
+use Rattle.rules.specs.Form.{Res, ok, fault, _>>=_, named, need, callableBelow, Scope, writableIn, judgeHeaderAt, needTy, judgeGiven, mayCall, judgeExpr, judgeArgs, isApply, judgeStmt, returnsOn}
+use Rattle.program.specs.Codes.{tyOf}
+use Rattle.program.specs.Stands.{Holds, StandsExpr, on-place, StandsStmt, on-empty, on-assign, on-if, on-block, on-call-stmt, on-apply, on-return-value, on-return, on-exit, on-set-valid, on-set-invalid}
+use Rattle.program.specs.Scopes.{StandsScope}
 use Rattle.program.proofs.Views.{expr-begins, StmtView, BareView, AssignView, CallStmtView, NamedView, ReturnView, stmt-view, stmt-begins}
-use Rattle.program.proofs.Found.{At, member-at}
-use Rattle.program.proofs.Members.{no-member, same-types}
+use Rattle.program.proofs.Members.{same-types}
 use Rattle.bodies.specs.declared.Typed.{Typed}
 use Rattle.bodies.specs.declared.Typed.the-variants as typed
 use Rattle.bodies.specs.declared.Formed.{Formed}
 use Rattle.bodies.specs.declared.Formed.the-variants.{Fine, Faulty}
 use Rattle.bodies.specs.declared.Called.{Called}
 use Rattle.bodies.specs.declared.Called.the-variants.{Returns, Uncalled}
-use Rattle.bodies.specs.Claims.{toldTy, AsksExpr, JudgesExpr, toldStmt, AsksStmt, JudgesStmt}
-use Rattle.bodies.specs.Leaves.{AsksName, TypedIn, headerTy, AsksWritable, IsWritable, AsksLeaf, JudgesLeaf}
+use Rattle.bodies.specs.Claims.{AsksExpr, JudgesExpr, toldStmt, JudgesStmt}
+use Rattle.bodies.specs.Leaves.{AsksName, AsksWritable, IsWritable, AsksLeaf, JudgesLeaf}
 use Rattle.bodies.specs.Calls.{StandsCall, judgeCall, toldCall, AsksCall, JudgesCall}
 use Rattle.bodies.specs.Forms.{Forms, ruled, assigned, FormsIn, calledIn, returnedIn, appliedIn, Applies, leftIn, MarksIn, AsksTagged, AsksSingle}
-use Rattle.bodies.proofs.Typing.{more}
 use Rattle.bodies.proofs.Operating.{place-low, typed-is, fault-is}
-use Rattle.bodies.proofs.Judging.{call-then, settled-as, returns-are, uncalled-is}
+use Rattle.bodies.proofs.Judging.{call-then}
+use Rattle.bodies.proofs.Passing.{settled-as}
 
 assign-is : (Γ : Scope) (at : ℕ) (p : Place) (e : Expr) (t u : ℕ) (writes : Bool) (s : Stmt)
     → s ≡ assign at (at + 1) p e → judgeExpr Γ (readOf (at + 1) p) ≡ ok (tyOf t) → judgeExpr Γ e ≡ ok (tyOf u)
@@ -115,7 +110,8 @@ module _ (nums directory ends scope : List ℕ) (depth at : ℕ) where
               );
         }
 
-        pub assign-told : (u : ℕ) → b ≡ typed.Ty u → (writes : Bool) → IsWritable nums scope (at + 1) writes → (r : Formed)
+        pub assign-told : (u : ℕ) → b ≡ typed.Ty u → (writes : Bool) → IsWritable nums scope (at + 1) writes
+            → (r : Formed)
             → Forms r (assigned at (eqb t u) writes) → JudgesStmt nums directory ends scope depth at r
         assign-told u m writes i r f = record {
           judged = λ Γ s z h.
@@ -291,7 +287,8 @@ module _ (nums directory ends scope : List ℕ) (depth at : ℕ) where
     pub apply-inside : getD nums at 0 ≡ 5 → at + 1 < length nums
     unfolding StmtView
     apply-inside k =
-        let v : NamedView nums ends depth at (asks .asks .stmt) (apply at) = rw k at (stmt-view (asks .asks .stands)) in
+        let v : NamedView nums ends depth at (asks .asks .stmt) (apply at) = rw k at (stmt-view
+        (asks .asks .stands)) in
         v .holds .inside
 
     module _ (x₀ : getD nums at 0 ≡ 0 → ⊥) (x₁ : getD nums at 0 ≡ 1 → ⊥) (x₄ : getD nums at 0 ≡ 4 → ⊥)
@@ -307,7 +304,8 @@ module _ (nums directory ends scope : List ℕ) (depth at : ℕ) where
         inside = marks (asks .asks .stmt) (asks .asks .stands) .holds .inside;
       }
 
-      pub mark-told : (r : Formed) → MarksIn nums directory ends scope at r → JudgesStmt nums directory ends scope depth at r
+      pub mark-told : (r : Formed) → MarksIn nums directory ends scope at r
+          → JudgesStmt nums directory ends scope depth at r
       mark-told r f = record {
         judged = λ Γ s z h. f .judged Γ z ∙ rw (marks s h .holds .is) (sym (marks s h .judged Γ));
       }
@@ -321,7 +319,8 @@ module _ (nums directory ends scope : List ℕ) (depth at : ℕ) where
   }
 
   module _ (r : Formed) where
-    pub apply-told : getD nums at 0 ≡ 5 → Applies nums directory scope at r → JudgesStmt nums directory ends scope depth at r
+    pub apply-told : getD nums at 0 ≡ 5 → Applies nums directory scope at r
+        → JudgesStmt nums directory ends scope depth at r
     unfolding StmtView
     apply-told k f = record {
       judged = λ Γ s z h.
@@ -329,7 +328,8 @@ module _ (nums directory ends scope : List ℕ) (depth at : ℕ) where
           f .judged ends Γ z ∙ apply-is Γ at (v .name) (getD nums (at + 1) 0) s (v .same) (v .holds .is);
     }
 
-    pub return-told : getD nums at 0 ≡ 7 → FormsIn scope (leftIn at) r → JudgesStmt nums directory ends scope depth at r
+    pub return-told : getD nums at 0 ≡ 7 → FormsIn scope (leftIn at) r
+        → JudgesStmt nums directory ends scope depth at r
     unfolding StmtView leftIn ruled judgeStmt returnsOn
     return-told k f = record {
       judged = λ Γ s z h.

@@ -3,12 +3,12 @@
 use mathlib.Core.Bool.{Bool, true, false, _&&_, _||_}
 use mathlib.Core.Path.{_≡_, refl, sym, ap, _∙_}
 use mathlib.Core.List.{List}
-use Prim.Native.Nat.{ℕ, zero, suc, _+_, _-_, _≤_, _<_}
+use Prim.Native.Nat.{ℕ, zero, suc, _+_, _-_, _<_}
 use native.Mathlib.Omega.{arith}
 use lib.ListN.{length, getD}
 use lib.Dec.{eqb}
 use Rattle.rules.specs.Numbers.{mostBytes}
-use Rattle.rules.specs.Syntax.{bool, Expr, Stmt, ifElse, block, Stmts, noStmts, stmt}
+use Rattle.rules.specs.Syntax.{bool, Expr, Stmt, ifElse, block, Stmts, stmt}
 use Rattle.rules.specs.Form.{Res, ok, fault, _>>=_, need, sameTy, needTy, Scope, judgeExpr, judgeStmt, judgeStmts, returnsOn, someReturns}
 use Rattle.program.specs.Codes.{tyOf, memberCount}
 use Rattle.program.specs.Stands.{StandsStmt, StandsStmts}
@@ -19,7 +19,7 @@ use Rattle.bodies.specs.declared.Typed.the-variants as typed
 use Rattle.bodies.specs.declared.Formed.{Formed}
 use Rattle.bodies.specs.declared.Formed.the-variants.{Fine, Faulty}
 use Rattle.bodies.specs.Claims.{AsksExpr, JudgesExpr, toldStmt, AsksStmt, JudgesStmt}
-use Rattle.bodies.specs.Forms.{Forms, ruled, AsksTagged, AsksSingle, AsksBranches, JudgesBranches, AsksStmts, JudgesStmts}
+use Rattle.bodies.specs.Forms.{Forms, ruled, chosenAs, AsksTagged, AsksSingle, AsksBranches, JudgesBranches, AsksStmts, JudgesStmts}
 use Rattle.bodies.proofs.Typing.{more}
 use Rattle.bodies.proofs.Operating.{typed-is, fault-is}
 use Rattle.bodies.proofs.Judging.{rank}
@@ -45,9 +45,9 @@ module _ (nums directory ends scope : List ℕ) (depth at t : ℕ) where
 pub ruleset sinking = (to-if, to-stmt, to-branches, to-members)
 
 -- what an answer says of the statement that it is about
-record FineOf (x : Res (Unit {0})) (b c : Bool) : Type 0 where
-  is : x ≡ ok tt
-  same : b ≡ c
+pub record FineOf (x : Res (Unit {0})) (b c : Bool) : Type 0 where
+  pub is : x ≡ ok tt
+  pub same : b ≡ c
 
 fine-of : (x : Res (Unit {0})) (b c : Bool) → ok b ≡ (x >>= λ _. ok c) → FineOf x b c
 unfolding _>>=_
@@ -63,13 +63,14 @@ faulty-of (fault m i) number index c e =
     let g : i ≡ index = cc in
     rw (f, g)
 
-module _ {nums directory ends scope : List ℕ} {depth at : ℕ} {a : Formed} (j : JudgesStmt nums directory ends scope depth at a)
+module _ {nums directory ends scope : List ℕ} {depth at : ℕ} {a : Formed}
+    (j : JudgesStmt nums directory ends scope depth at a)
     (Γ : Scope) (s : Stmt) (z : StandsScope nums directory ends scope Γ) (h : StandsStmt nums ends depth at s) where
-  fine-is : (b : Bool) → a ≡ Fine b → FineOf (judgeStmt Γ s) b (returnsOn s)
+  pub fine-is : (b : Bool) → a ≡ Fine b → FineOf (judgeStmt Γ s) b (returnsOn s)
   unfolding toldStmt
   fine-is b k = fine-of (judgeStmt Γ s) b (returnsOn s) (rw k at (j .judged Γ s z h))
 
-  faulty-is : (number index : ℕ) → a ≡ Faulty number index → judgeStmt Γ s ≡ fault number index
+  pub faulty-is : (number index : ℕ) → a ≡ Faulty number index → judgeStmt Γ s ≡ fault number index
   unfolding toldStmt
   faulty-is number index k = faulty-of (judgeStmt Γ s) number index (returnsOn s) (rw k at (j .judged Γ s z h))
 
@@ -95,7 +96,8 @@ module _ (nums directory ends scope : List ℕ) (depth at : ℕ) where
       judged = λ Γ s u z h i. rw (faulty-is j Γ s z h number index k);
     }
 
-    module _ (x : Bool) (k : a ≡ Fine x) (b : Formed) (l : JudgesStmt nums directory ends scope depth (getD ends at 0) b) where
+    module _ (x : Bool) (k : a ≡ Fine x) (b : Formed) (l : JudgesStmt nums directory ends scope depth
+        (getD ends at 0) b) where
       pub second-faulty : (number index : ℕ) → b ≡ Faulty number index
           → JudgesBranches nums directory ends scope depth at (Faulty number index)
       unfolding toldStmt _>>=_
@@ -103,7 +105,8 @@ module _ (nums directory ends scope : List ℕ) (depth at : ℕ) where
         judged = λ Γ s u z h i. rw (fine-is j Γ s z h x k .is, faulty-is l Γ u z i number index m);
       }
 
-      pub branches-fine : (y c : Bool) → b ≡ Fine y → c ≡ (x && y) → JudgesBranches nums directory ends scope depth at (Fine c)
+      pub branches-fine : (y c : Bool) → b ≡ Fine y → c ≡ (x && y)
+          → JudgesBranches nums directory ends scope depth at (Fine c)
       unfolding toldStmt _>>=_
       branches-fine y c m e = record {
         judged = λ Γ s u z h i.
@@ -121,26 +124,12 @@ unfolding needTy sameTy tyOf
 bool-rule at zero = refl
 bool-rule at (suc t) = rw (more t)
 
-if-fine : (x y n : Res (Unit {0})) (b c : Bool) → ok b ≡ (x >>= λ _. y >>= λ _. ok c)
-    → (n >>= λ _. ok b) ≡ ((x >>= λ _. y >>= λ _. n) >>= λ _. ok c)
+if-then : (x y n : Res (Unit {0})) (b : Bool)
+    → ((x >>= λ _. y >>= λ _. ok b) >>= λ returns. n >>= λ _. ok returns) ≡ ((x >>= λ _. y >>= λ _. n) >>= λ _. ok b)
 unfolding _>>=_
-if-fine (ok u) (ok v) n b c e = let q : b ≡ c = cc in rw q
-if-fine (ok u) (fault number index) n b c e = let z : _≡_ {A = ℕ} 0 1 = cc in absurd (omega arith)
-if-fine (fault number index) y n b c e = let z : _≡_ {A = ℕ} 0 1 = cc in absurd (omega arith)
-
-if-faulty : (x y n : Res (Unit {0})) (number index : ℕ) (c : Bool)
-    → fault number index ≡ (x >>= λ _. y >>= λ _. ok c)
-    → fault number index ≡ ((x >>= λ _. y >>= λ _. n) >>= λ _. ok c)
-unfolding _>>=_
-if-faulty (ok u) (ok v) n number index c e = let z : _≡_ {A = ℕ} 0 1 = cc in absurd (omega arith)
-if-faulty (ok u) (fault m i) n number index c e =
-    let f : number ≡ m = cc in
-    let g : index ≡ i = cc in
-    rw (f, g)
-if-faulty (fault m i) y n number index c e =
-    let f : number ≡ m = cc in
-    let g : index ≡ i = cc in
-    rw (f, g)
+if-then (ok u) (ok v) n b = refl
+if-then (ok u) (fault number index) n b = refl
+if-then (fault number index) y n b = refl
 
 if-is : (Γ : Scope) (at t : ℕ) (c : Expr) (a b s : Stmt) → s ≡ ifElse at c a b → judgeExpr Γ c ≡ ok (tyOf t)
     → ((judgeStmt Γ a >>= λ _. judgeStmt Γ b >>= λ _. need 7 at (eqb t 0)) >>= λ _. ok (returnsOn a && returnsOn b))
@@ -194,40 +183,21 @@ module _ (nums directory ends scope : List ℕ) (depth at : ℕ) where
             rw (v .same, fault-is j Γ (v .condition) z (v .conditionStands) number index k);
       }
 
-      module _ (t : ℕ) (k : a ≡ typed.Ty t) (b : Formed)
-          (l : JudgesBranches nums directory ends scope (depth - 1) (getD ends (at + 1) 0) b) where
-        if-judged : (Γ : Scope) (s : Stmt) → StandsScope nums directory ends scope Γ → (v : IfView nums ends depth at s)
-            → ((judgeStmt Γ (v .first) >>= λ _. judgeStmt Γ (v .second) >>= λ _. need 7 at (eqb t 0))
-            >>= λ _. ok (returnsOn (v .first) && returnsOn (v .second)))
-            ≡ (judgeStmt Γ s >>= λ _. ok (returnsOn s))
-        if-judged Γ s z v =
-            if-is Γ at t (v .condition) (v .first) (v .second) s (v .same)
-            (typed-is j Γ (v .condition) z (v .conditionStands) t k)
-
-        pub branches-fault : (number index : ℕ) → b ≡ Faulty number index
-            → JudgesStmt nums directory ends scope depth at (Faulty number index)
-        unfolding toldStmt
-        branches-fault number index m = record {
-          judged = λ Γ s z h.
-              let v : IfView nums ends depth at s = if-of s h (asks .is) in
-              if-faulty (judgeStmt Γ (v .first)) (judgeStmt Γ (v .second)) (need 7 at (eqb t 0)) number index
-              (returnsOn (v .first) && returnsOn (v .second))
-              (rw m at (l .judged Γ (v .first) (v .second) z (v .firstStands) (v .secondStands)))
-              ∙ if-judged Γ s z v;
-        }
-
-        pub if-told : (x : Bool) → b ≡ Fine x → (r : Formed) → Forms r (ruled 7 at (eqb t 0) x)
-            → JudgesStmt nums directory ends scope depth at r
-        unfolding toldStmt ruled
-        if-told x m r f = record {
-          judged = λ Γ s z h.
-              let v : IfView nums ends depth at s = if-of s h (asks .is) in
-              f .judged
-              ∙ if-fine (judgeStmt Γ (v .first)) (judgeStmt Γ (v .second)) (need 7 at (eqb t 0)) x
-              (returnsOn (v .first) && returnsOn (v .second))
-              (rw m at (l .judged Γ (v .first) (v .second) z (v .firstStands) (v .secondStands)))
-              ∙ if-judged Γ s z v;
-        }
+      pub if-told : (t : ℕ) → a ≡ typed.Ty t → (b : Formed)
+          → JudgesBranches nums directory ends scope (depth - 1) (getD ends (at + 1) 0) b → (r : Formed)
+          → Forms r (chosenAs at t (toldStmt b)) → JudgesStmt nums directory ends scope depth at r
+      unfolding chosenAs ruled
+      if-told t k b l r f = record {
+        judged = λ Γ s z h.
+            let v : IfView nums ends depth at s = if-of s h (asks .is) in
+            f .judged
+            ∙ ap (λ x. x >>= λ returns. need 7 at (eqb t 0) >>= λ _. ok returns)
+            (l .judged Γ (v .first) (v .second) z (v .firstStands) (v .secondStands))
+            ∙ if-then (judgeStmt Γ (v .first)) (judgeStmt Γ (v .second)) (need 7 at (eqb t 0))
+            (returnsOn (v .first) && returnsOn (v .second))
+            ∙ if-is Γ at t (v .condition) (v .first) (v .second) s (v .same)
+            (typed-is j Γ (v .condition) z (v .conditionStands) t k);
+      }
 
 pub ruleset choosing = (
   condition-asks,
@@ -236,7 +206,6 @@ pub ruleset choosing = (
   if-deep,
   branches-ask,
   condition-fault,
-  branches-fault,
   if-told,
 )
 
@@ -276,7 +245,8 @@ module _ (nums directory ends scope : List ℕ) (depth at count : ℕ) where
     pending = λ Γ ss z h e. record { rest = ss; stand = h; counted = e; same = refl };
   }
 
-  module _ (next left : ℕ) (returns : Bool) (p : Pending nums directory ends scope depth at count next left returns) where
+  module _ (next left : ℕ) (returns : Bool)
+      (p : Pending nums directory ends scope depth at count next left returns) where
     pub pending-done : left ≡ 0 → JudgesStmts nums directory ends scope depth at count (Fine returns)
     unfolding toldStmt judgeStmts someReturns _>>=_
     pending-done k = record {
@@ -369,7 +339,8 @@ module _ (nums directory ends scope : List ℕ) (depth at : ℕ) where
     pub if-asks : getD nums at 0 ≡ 2 → AsksTagged 2 nums directory ends scope depth at
     if-asks k = record { asks = asks; is = k }
 
-    pub single-asks : (getD nums at 0 ≡ 2 → ⊥) → (getD nums at 0 ≡ 3 → ⊥) → AsksSingle nums directory ends scope depth at
+    pub single-asks : (getD nums at 0 ≡ 2 → ⊥) → (getD nums at 0 ≡ 3 → ⊥)
+        → AsksSingle nums directory ends scope depth at
     single-asks x y = record { asks = asks; noIf = x; noBlock = y }
 
     module _ (k : getD nums at 0 ≡ 3) where

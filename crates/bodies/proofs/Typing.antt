@@ -7,7 +7,7 @@ use native.Mathlib.Omega.{arith}
 use lib.ListN.{length, getD}
 use lib.Dec.{ltb, leb, eqb}
 use borrow.Author.Tests.{ne-eqb, le-ltb, le-leb, lt-leb, leb-true, ltb-true}
-use Rattle.rules.specs.Words.{widest, fitsWidth, sliceFits, sliceWidth, joinFits}
+use Rattle.rules.specs.Words.{fitsWidth, sliceFits, sliceWidth, joinFits}
 use Rattle.rules.specs.Syntax.{Ty, bool, bits, Arithmetic, plus, minus, times, and, or, xor, Order, less, lessOrEqual, Shift, shiftLeft, shiftRight, Equality, equal, unequal, Logic, both, either}
 use Rattle.rules.specs.Syntax.{Operator, arithmetic, order, shift, equality, logic}
 use Rattle.rules.specs.Form.{Res, ok, fault, _>>=_, need, sameTy, fits, widthAt, needTy, judgeOperator}
@@ -16,7 +16,7 @@ use Rattle.program.proofs.Members.{same-types, bits-of}
 use Rattle.bodies.specs.declared.Typed.{Typed}
 use Rattle.bodies.specs.declared.Typed.the-variants as typed
 use Rattle.bodies.specs.Claims.{toldTy, TyMost}
-use Rattle.bodies.specs.Leaves.{Tells, checkedTy, MostIf, IsWidth, boolTy, bitsTy, notTy, complementTy, castTy, sliceTy, SliceMost, AsksOne, OneTyped, joinTy, TwoMost, OperatorTyped, TwoTyped}
+use Rattle.bodies.specs.Leaves.{Tells, checkedTy, MostIf, IsWidth, boolTy, bitsTy, notTy, complementTy, castTy, sliceTy, SliceMost, AsksOne, OneTyped, joinTy, OperatorTyped, TwoTyped}
 
 -- a rule that holds, and one that does not
 module _ (at t : ℕ) (holds : Bool) where
@@ -61,7 +61,8 @@ cast-is at zero t h = absurd (omega arith)
 cast-is at (suc width) zero h = refl
 cast-is at (suc width) (suc t) h = rw (more t)
 
-slice-is : (at high low t : ℕ) → sliceTy at high low (tyOf t) ≡ checkedTy at (leb low high && ltb high t) (bits (suc high - low))
+slice-is : (at high low t : ℕ)
+    → sliceTy at high low (tyOf t) ≡ checkedTy at (leb low high && ltb high t) (bits (suc high - low))
 unfolding checkedTy sliceTy widthAt tyOf sliceFits sliceWidth need _>>=_
 slice-is at high low zero = rw (le-ltb high 0 (omega arith)) (go (leb low high))
   where
@@ -242,7 +243,8 @@ module _ (at operator t u : ℕ) (r : Typed) where
       go (order x) q = absurd (omega (arith, q, order-number x))
       go (logic x) q = absurd (omega (arith, q, logic-number x))
 
-  pub shift-told : 6 ≤ operator → operator < 8 → (b : Bool) → b ≡ (not (eqb t 0) && not (eqb u 0)) → Tells r (checkedTy at b (tyOf t))
+  pub shift-told : 6 ≤ operator → operator < 8 → (b : Bool) → b ≡ (not (eqb t 0) && not (eqb u 0))
+      → Tells r (checkedTy at b (tyOf t))
       → OperatorTyped at operator t u r
   shift-told low high b e h = record { judged = go; most = h .most }
     where
@@ -264,7 +266,8 @@ module _ (at operator t u : ℕ) (r : Typed) where
       go (order x) q = absurd (omega (arith, q, order-number x))
       go (logic x) q = absurd (omega (arith, q, logic-number x))
 
-  pub order-told : 10 ≤ operator → operator < 12 → (b : Bool) → b ≡ (not (eqb t 0) && eqb t u) → Tells r (checkedTy at b (tyOf 0))
+  pub order-told : 10 ≤ operator → operator < 12 → (b : Bool) → b ≡ (not (eqb t 0) && eqb t u)
+      → Tells r (checkedTy at b (tyOf 0))
       → OperatorTyped at operator t u r
   order-told low high b e h = record { judged = go; most = h .most }
     where

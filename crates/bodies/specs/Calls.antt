@@ -5,7 +5,7 @@ use mathlib.Core.Path.{_≡_}
 use mathlib.Core.List.{List, [], _∷_}
 use Prim.Native.Nat.{ℕ, suc, _+_, _-_, _≤_, _<_}
 use lib.Dec.{ltb, eqb}
-use lib.ListN.{length, getD}
+use lib.ListN.{length}
 use Rattle.rules.specs.Numbers.{mostBytes}
 use Rattle.rules.specs.Words.{widest}
 use Rattle.rules.specs.Syntax.{Ty, Parameter, Args}
@@ -45,7 +45,8 @@ pub record AsksArgs (nums directory ends scope : List ℕ) (depth at count param
   pub wantedStand : StandsParameters nums parameters wanted
   pub leftIs : left ≡ length wanted
 
-pub record JudgesArgs (nums directory ends scope : List ℕ) (depth at count parameters left : ℕ) (r : Passed) : Type 0 where
+pub record JudgesArgs (nums directory ends scope : List ℕ) (depth at count parameters left : ℕ)
+    (r : Passed) : Type 0 where
   pub judged : (Γ : Scope) (xs : Args) (ps : List Parameter) → StandsScope nums directory ends scope Γ
       → StandsArgs nums ends depth at xs → count ≡ argCount xs → StandsParameters nums parameters ps → left ≡ length ps
       → toldPassed r ≡ (judgeArgs Γ xs >>= λ given. ok (agreement ps given))

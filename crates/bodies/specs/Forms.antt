@@ -3,6 +3,7 @@ use mathlib.Core.Bool.{Bool, true, false, not, _&&_}
 use mathlib.Core.Path.{_≡_}
 use mathlib.Core.List.{List}
 use Prim.Native.Nat.{ℕ, suc, _+_}
+use lib.Dec.{eqb}
 use lib.ListN.{getD, getElem?}
 use Rattle.rules.specs.Syntax.{Stmt, Stmts}
 use Rattle.rules.specs.Form.{Res, ok, _>>=_, named, need, judgeHeaderAt, Body, Scope, mayCall, judgeReturned, isApply, isFunction, judgeStmt, judgeStmts, returnsOn, someReturns}
@@ -25,6 +26,9 @@ ruled number at holds returns = need number at holds >>= λ _. ok returns
 unfoldable pub assigned : ℕ → Bool → Bool → Res Bool
 assigned at same writable = need 7 at same >>= λ _. ruled 8 at writable false
 
+unfoldable pub chosenAs : ℕ → ℕ → Res Bool → Res Bool
+chosenAs at t branches = branches >>= λ returns. ruled 7 at (eqb t 0) returns
+
 pub record FormsIn (scope : List ℕ) (judge : Body → Res Bool) (r : Formed) : Type 0 where
   pub judged : (b : Body) → bodyNumbered (getD scope 5 0) (getD scope 6 0) ≡ b → toldStmt r ≡ judge b
 
@@ -39,7 +43,8 @@ appliedIn at b = ruled 8 at (isApply b) false
 
 pub record Applies (nums directory scope : List ℕ) (at : ℕ) (r : Formed) : Type 0 where
   pub judged : (ends : List ℕ) (Γ : Scope) → StandsScope nums directory ends scope Γ
-      → toldStmt r ≡ (named (suc at) (getElem? (Γ .program .tables) (getD nums (at + 1) 0)) >>= λ _. appliedIn at (Γ .body))
+      → toldStmt r ≡ (named (suc at) (getElem? (Γ .program .tables) (getD nums (at + 1) 0)) >>= λ _. appliedIn at
+      (Γ .body))
 
 unfoldable pub leftIn : ℕ → Body → Res Bool
 leftIn at b = ruled 8 at (not (isFunction b)) false

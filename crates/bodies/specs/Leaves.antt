@@ -1,11 +1,11 @@
 -- What the functions below the passes ask and promise: literals, operators, places and names.
-use mathlib.Core.Bool.{Bool, true, false, _&&_, _||_}
+use mathlib.Core.Bool.{Bool, true, false, _||_}
 use mathlib.Core.Option.{Option, none, some}
 use mathlib.Core.Path.{_≡_}
 use mathlib.Core.List.{List}
-use Prim.Native.Nat.{ℕ, suc, _+_, _≤_, _<_}
+use Prim.Native.Nat.{ℕ, _+_, _≤_, _<_}
 use lib.Dec.{eqb}
-use lib.ListN.{length, getD, getElem?}
+use lib.ListN.{length, getD}
 use Rattle.rules.specs.Numbers.{mostBytes}
 use Rattle.rules.specs.Words.{widest, sliceFits, sliceWidth, joinFits}
 use Rattle.rules.specs.Syntax.{Ty, bool, bits, Operator, local, parameter, global, field, header, Expr, Program, placeIn}
@@ -187,7 +187,8 @@ pub record FindsGlobal (nums directory ends : List ℕ) (g : ℕ) (r : Found) : 
   pub found : (P : Program) (end : ℕ) → StandsProgram nums directory ends P end → FoundShape nums r (globalAt P g)
 
 pub record FindsHeader (nums directory ends : List ℕ) (h : ℕ) (r : Found) : Type 0 where
-  pub found : (P : Program) (end : ℕ) → StandsProgram nums directory ends P end → FoundShape nums r (shapeIn P (header h))
+  pub found : (P : Program) (end : ℕ) → StandsProgram nums directory ends P end
+      → FoundShape nums r (shapeIn P (header h))
 
 -- a type behind a global that is seen
 pub record SeenTyped (scope : List ℕ) (at t : ℕ) (r : Typed) : Type 0 where
@@ -205,7 +206,8 @@ pub record AsksField (nums : List ℕ) (at header : ℕ) : Type 0 where
 pub record FieldTyped (nums scope : List ℕ) (at header : ℕ) (r : Typed) : Type 0 where
   pub judged : (b : Body) → bodyNumbered (getD scope 5 0) (getD scope 6 0) ≡ b → (widths : List ℕ)
       → Holds nums header (length widths) → StandsWidths nums (header + 1) widths
-      → toldTy r ≡ (judgeField at (getD nums (at + 2) 0) (aHeader widths) >>= λ t. need 8 at (seesGlobals b) >>= λ _. ok t)
+      → toldTy r ≡ (judgeField at (getD nums (at + 2) 0) (aHeader widths) >>= λ t. need 8 at
+      (seesGlobals b) >>= λ _. ok t)
   pub most : TyMost r
 
 -- whether the expression at an index is a place that may be written

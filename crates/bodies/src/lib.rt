@@ -2,6 +2,7 @@
 // construct is looked at once, and no callee's body is entered.
 pub mod calls;
 pub mod exprs;
+pub mod forms;
 pub mod places;
 pub mod singles;
 pub mod stmts;

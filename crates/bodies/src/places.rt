@@ -1,5 +1,4 @@
 // Names: locals, parameters, globals, fields and headers, and which places may be written.
-ghost use mathlib.Core.Path.{_≡_};
 ghost use Prim.Native.Nat.{_≤_};
 ghost use Rattle.rules.specs.Words.{widest};
 ghost use Rattle.bodies.specs.Leaves.{AsksName, TypedIn, AsksSlot, SlotTyped, localTy, parameterTy, variableTy, fieldTy, headerTy, AsksProgram, FindsGlobal, FindsHeader, SeenTyped, AsksField, FieldTyped, AsksFieldName, AsksWritable, IsWritable, AsksLeaf, JudgesLeaf, IsWritableParameter};

@@ -3,81 +3,20 @@ ghost use Prim.Native.Nat.{_+_, _<_};
 ghost use lib.ListN.{length};
 ghost use Rattle.bodies.specs.Claims.{JudgesStmt};
 ghost use Rattle.bodies.specs.Leaves.{AsksName};
-ghost use Rattle.bodies.specs.Forms.{Forms, ruled, assigned, FormsIn, calledIn, returnedIn, appliedIn, Applies, leftIn, MarksIn, AsksTagged, AsksSingle};
+ghost use Rattle.bodies.specs.Forms.{Applies, MarksIn, AsksTagged, AsksSingle};
 use super::Called;
 use super::Formed;
 use super::Typed;
 use super::exprs::judge_call;
 use super::exprs::judge_expr;
+use super::forms::applied;
+use super::forms::assign;
+use super::forms::called;
+use super::forms::left;
+use super::forms::returned;
 use super::places::header_type;
 use super::places::judge_leaf;
 use super::places::writable_at;
-use super::types::either;
-use program::APPLY;
-use program::FUNCTION;
-use program::KIND;
-use program::RETURNS;
-
-// Fine where a rule holds, and its refusal where it does not.
-pub fn rule(number: u64, at: usize, holds: bool, returns: bool) -> Formed
-    ensures { λ r. ⌜ Forms r (ruled number at holds returns) ⌝ }
-{
-    if holds {
-        Formed::Fine(returns)
-    } else {
-        Formed::Faulty { number, index: at }
-    }
-}
-
-// An assignment whose sides are judged: one type, and a target that may be written.
-fn assign(at: usize, same: bool, writable: bool) -> Formed
-    ensures { λ r. ⌜ Forms r (assigned at same writable) ⌝ }
-{
-    if same {
-        rule(8, at, writable, false)
-    } else {
-        Formed::Faulty {
-            number: 7,
-            index: at,
-        }
-    }
-}
-
-// A call that is a statement: a function calls functions only.
-fn called(scope: &[u64; program::SCOPE], at: usize, kind: u64, returns: u64) -> Formed
-    ensures { λ r. ⌜ FormsIn (now (scope .entry)) (calledIn at kind returns) r ⌝ }
-{
-    let may = either(kind != 0, scope[KIND] != FUNCTION);
-    rule(8, at, may, false)
-}
-
-// A value of a type that is returned: in functions only.
-fn returned(scope: &[u64; program::SCOPE], at: usize, t: u64) -> Formed
-    ensures { λ r. ⌜ FormsIn (now (scope .entry)) (returnedIn at t) r ⌝ }
-{
-    if scope[KIND] == FUNCTION {
-        rule(7, at, scope[RETURNS] == t, true)
-    } else {
-        Formed::Faulty {
-            number: 8,
-            index: at,
-        }
-    }
-}
-
-// An apply: in the apply body only.
-fn applied(scope: &[u64; program::SCOPE], at: usize) -> Formed
-    ensures { λ r. ⌜ FormsIn (now (scope .entry)) (appliedIn at) r ⌝ }
-{
-    rule(8, at, APPLY <= scope[KIND], false)
-}
-
-// A return without a value, or an exit: not in functions.
-fn left(scope: &[u64; program::SCOPE], at: usize) -> Formed
-    ensures { λ r. ⌜ FormsIn (now (scope .entry)) (leftIn at) r ⌝ }
-{
-    rule(8, at, scope[KIND] != FUNCTION, false)
-}
 
 // An assignment: its target, its value, then itself.
 fn judge_assign(

@@ -5,8 +5,8 @@ ghost use Rattle.bodies.specs.Forms.{AsksTagged, AsksBranches, JudgesBra
 use super::Formed;
 use super::Typed;
 use super::exprs::judge_expr;
+use super::forms::chosen;
 use super::singles::judge_single;
-use super::singles::rule;
 use super::types::both;
 use super::types::either;
 
@@ -83,10 +83,7 @@ fn judge_if(
         Typed::Ty(t) => {
             let behind = ends[at + 1] as usize;
             let branches = judge_branches(nums, ends, directory, scope, depth - 1, behind);
-            match branches {
-                Formed::Fine(returns) => rule(7, at, t == 0, returns),
-                Formed::Faulty { number, index } => Formed::Faulty { number, index },
-            }
+            chosen(at, t, branches)
         }
         Typed::Fault { number, index } => Formed::Faulty { number, index },
     }

@@ -1,9 +1,10 @@
--- The cycle of expressions, calls and arguments. What carries it: the steps of Judging and Operating; the depth falls, and
--- at one depth the count of arguments.
+-- The cycle of expressions, calls and arguments. What carries it: the steps of Judging, Operating and Passing; the depth
+-- falls, and at one depth the count of arguments.
 use Prim.Native.Nat.{_+_}
 use borrow.Author.Needs.{needs}
 use Rattle.bodies.proofs.Operating.{operating}
-use Rattle.bodies.proofs.Judging.{rank, descending, judging, calling, args-ask, passing}
+use Rattle.bodies.proofs.Judging.{rank, descending, judging}
+use Rattle.bodies.proofs.Passing.{calling, args-ask, passing}
 use Prim.Native.Nat.{ℕ, _<_}
 use borrow.Fn.Kinds.{In}
 use borrow.Fn.PlainCycle.{Measures, is, falls, and}

@@ -1,5 +1,5 @@
--- The cycle of statements. What carries it: the steps of Stating; the depth falls, and the members of a block are a loop
--- over what is left of them.
+-- The cycle of statements. What carries it: the steps of Stating; the depth falls, and the members of a block are a
+-- loop over what is left of them.
 use borrow.Author.Needs.{needs}
 use Rattle.bodies.proofs.Judging.{rank}
 use Rattle.bodies.proofs.Stating.{Pending, stating, branching, choosing, pending, sinking}
@@ -19,8 +19,8 @@ use Rattle.bodies.proofs.stmts.judge_stmts.Reads as judge-stmts
 use Rattle.bodies.proofs.stmts.judge_stmts.Kinds as judge-stmts-kinds
 use Rattle.bodies.proofs.stmts.+judge_branches+judge_if+judge_stmt+judge_stmts.Lts-judge_stmts as judge-stmts-lts
 use Rattle.bodies.proofs.exprs.judge_expr.Reads as judge-expr-reads
+use Rattle.bodies.proofs.forms.chosen.Reads as chosen-reads
 use Rattle.bodies.proofs.singles.judge_single.Reads as judge-single-reads
-use Rattle.bodies.proofs.singles.rule.Reads as rule-reads
 use Rattle.bodies.proofs.types.both.Reads as both-reads
 use Rattle.bodies.proofs.types.either.Reads as either-reads
 use Rattle.bodies.proofs.stmts.+judge_branches+judge_if+judge_stmt+judge_stmts.{statement}
@@ -88,7 +88,7 @@ module _ (t : ℕ) where
   judge-branches-claims = (judge-stmt-below t, judge-stmt.Post, both-reads.Asked, both-reads.Learnt)
 
   abbrev judge-if-claims : judge-if-lts.Claims
-  judge-if-claims = (judge-expr-reads.Asked, judge-expr-reads.Learnt, judge-branches-below t, judge-branches.Post, rule-reads.Asked, rule-reads.Learnt)
+  judge-if-claims = (judge-expr-reads.Asked, judge-expr-reads.Learnt, judge-branches-below t, judge-branches.Post, chosen-reads.Asked, chosen-reads.Learnt)
 
   abbrev judge-stmt-claims : judge-stmt-lts.Claims
   judge-stmt-claims = (judge-if-below t, judge-if.Post, judge-stmts-below t, judge-stmts.Post, judge-single-reads.Asked, judge-single-reads.Learnt)
@@ -159,14 +159,8 @@ module _ (t : ℕ) where
   judge-if-judge-branches-requires : judge-if-lts.Need-judge-branches-requires judge-if-claims (judge-if-at t) judge-if.Post
   judge-if-judge-branches-requires c κs = search (stating, branching, choosing, pending, sinking, needs)
 
-  judge-if-enum-known-branches : judge-if-lts.Need-enum-known-branches judge-if-claims (judge-if-at t) judge-if.Post
-  judge-if-enum-known-branches c = search (stating, branching, choosing, pending, sinking, needs)
-
-  judge-if-rule-requires : judge-if-lts.Need-rule-requires judge-if-claims (judge-if-at t) judge-if.Post
-  judge-if-rule-requires c κs = search (stating, branching, choosing, pending, sinking, needs)
-
-  judge-if-enum-known-branches-2 : judge-if-lts.Need-enum-known-branches-2 judge-if-claims (judge-if-at t) judge-if.Post
-  judge-if-enum-known-branches-2 c = search (stating, branching, choosing, pending, sinking, needs)
+  judge-if-chosen-requires : judge-if-lts.Need-chosen-requires judge-if-claims (judge-if-at t) judge-if.Post
+  judge-if-chosen-requires c κs = search (stating, branching, choosing, pending, sinking, needs)
 
   judge-if-enum-known-condition-2 : judge-if-lts.Need-enum-known-condition-2 judge-if-claims (judge-if-at t) judge-if.Post
   judge-if-enum-known-condition-2 c = search (stating, branching, choosing, pending, sinking, needs)
@@ -176,9 +170,6 @@ module _ (t : ℕ) where
 
   judge-if-returns-2 : judge-if-lts.Need-returns-2 judge-if-claims (judge-if-at t) judge-if.Post
   judge-if-returns-2 c = search (stating, branching, choosing, pending, sinking, needs)
-
-  judge-if-returns-3 : judge-if-lts.Need-returns-3 judge-if-claims (judge-if-at t) judge-if.Post
-  judge-if-returns-3 c = search (stating, branching, choosing, pending, sinking, needs)
 
   judge-stmt-mul-tag : judge-stmt-lts.Need-mul-tag judge-stmt-claims (judge-stmt-at t) judge-stmt.Post
   judge-stmt-mul-tag c = search (stating, branching, choosing, pending, sinking, needs)
@@ -302,13 +293,10 @@ pub +judge-branches+judge-if+judge-stmt+judge-stmts-spec : {M : Type 1} → stat
     (judge-if-shared-slice-read-behind t)
     (judge-if-sub-judge-branches t)
     (judge-if-judge-branches-requires t)
-    (judge-if-enum-known-branches t)
-    (judge-if-rule-requires t)
-    (judge-if-enum-known-branches-2 t)
+    (judge-if-chosen-requires t)
     (judge-if-enum-known-condition-2 t)
     (judge-if-returns t)
-    (judge-if-returns-2 t)
-    (judge-if-returns-3 t))
+    (judge-if-returns-2 t))
     (λ t. judge-stmt-lts.spec (judge-stmt-claims t)
     (judge-stmt-at t)
     judge-stmt.Post

@@ -1,8 +1,8 @@
 -- What carries it: a rule that holds or does not, and the kinds of bodies.
 use Rattle.bodies.proofs.Forming.{ruling}
 use borrow.Author.Needs.{needs}
-use Rattle.bodies.proofs.singles.returned.Statement.{statement}
-use Rattle.bodies.proofs.singles.returned.Tie as tie
+use Rattle.bodies.proofs.forms.returned.Statement.{statement}
+use Rattle.bodies.proofs.forms.returned.Tie as tie
 
 element-copy-out-if1 : tie.Need-element-copy-out-if1
 element-copy-out-if1 c = search (ruling, needs)

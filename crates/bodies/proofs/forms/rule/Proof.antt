@@ -1,8 +1,8 @@
 -- What carries it: a rule that holds or does not, and the kinds of bodies.
 use Rattle.bodies.proofs.Forming.{ruling}
 use borrow.Author.Needs.{needs}
-use Rattle.bodies.proofs.singles.rule.Statement.{statement}
-use Rattle.bodies.proofs.singles.rule.Tie as tie
+use Rattle.bodies.proofs.forms.rule.Statement.{statement}
+use Rattle.bodies.proofs.forms.rule.Tie as tie
 
 returns : tie.Need-returns
 returns c = search (ruling, needs)

@@ -1,8 +1,8 @@
 -- What carries it: a rule that holds or does not, and the kinds of bodies.
 use Rattle.bodies.proofs.Forming.{ruling}
 use borrow.Author.Needs.{needs}
-use Rattle.bodies.proofs.singles.assign.Statement.{statement}
-use Rattle.bodies.proofs.singles.assign.Tie as tie
+use Rattle.bodies.proofs.forms.assign.Statement.{statement}
+use Rattle.bodies.proofs.forms.assign.Tie as tie
 
 rule-requires : tie.Need-rule-requires
 rule-requires c κs = search (ruling, needs)

@@ -1,8 +1,8 @@
 -- What carries it: a rule that holds or does not, and the kinds of bodies.
 use Rattle.bodies.proofs.Forming.{ruling}
 use borrow.Author.Needs.{needs}
-use Rattle.bodies.proofs.singles.called.Statement.{statement}
-use Rattle.bodies.proofs.singles.called.Tie as tie
+use Rattle.bodies.proofs.forms.called.Statement.{statement}
+use Rattle.bodies.proofs.forms.called.Tie as tie
 
 element-copy-out-either : tie.Need-element-copy-out-either
 element-copy-out-either c = search (ruling, needs)
