@@ -1,0 +1,7 @@
+pub mod Steps
+mod Walking
+mod Seen
+mod OfGlobals
+mod OfCallables
+mod OfKeys
+mod OfKinds
