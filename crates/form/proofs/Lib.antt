@@ -5,3 +5,9 @@ mod OfGlobals
 mod OfCallables
 mod OfKeys
 mod OfKinds
+mod OfNumerals
+mod OfActions
+mod OfNames
+mod OfDefaults
+mod OfTables
+mod Whole

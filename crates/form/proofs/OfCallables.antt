@@ -25,7 +25,7 @@ use Rattle.form.proofs.Seen.{callableScope, callable-scope}
 use Rattle.form.proofs.Steps.{FineOf, fine-of, fault-of}
 use Rattle.form.proofs.Walking.{Walk, walk-asks, walk-done, walk-next, walk-stop}
 
-is-action : (kind : ℕ) (x : Option Ty) → kind ≡ callableKindNumber x → not (isFunction (bodyOf x)) ≡ eqb kind 0
+pub is-action : (kind : ℕ) (x : Option Ty) → kind ≡ callableKindNumber x → not (isFunction (bodyOf x)) ≡ eqb kind 0
 unfolding callableKindNumber isFunction bodyOf
 is-action kind none k = rw k
 is-action kind (some t) k = rw k

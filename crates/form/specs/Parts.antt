@@ -21,7 +21,7 @@ use Rattle.form.specs.declared.Formal.{Formal}
 use Rattle.form.specs.declared.Formal.the-variants.{Well}
 use Rattle.form.specs.declared.keys.Keyed.{Keyed}
 use Rattle.form.specs.declared.keys.Keyed.the-variants.{AllBits, Boolean, Unkeyed}
-use Rattle.form.specs.Claims.{toldForm, keyWidths, layTables}
+use Rattle.form.specs.Claims.{toldForm, keyWidths, layTables, widthsLeft}
 
 -- an answer is the rules'
 pub record Says (r : Formal) (is : Res (Unit {0})) : Type 0 where
@@ -44,7 +44,7 @@ globalIs P g x = named (x .at) (shapeIn P (x .ty)) >>= λ _. ok tt
 unfoldable pub globalsAre : Program → ℕ → List Global → Res (Unit {0})
 globalsAre P g xs = judgeGlobals P xs
 
--- the apply body, and the expression of a key, which see the same
+-- the expression of a key, and the apply body, which see the same
 pub record JudgesApply (nums directory ends : List ℕ) (r : Formal) : Type 0 where
   pub judged : (P : Program) (end : ℕ) → StandsProgram nums directory ends P end
       → toldForm r ≡ judgeStmt (applyScope P) (P .body)
@@ -247,3 +247,11 @@ pub record LaysTables (nums directory ends : List ℕ) (t : ℕ) (widths widths�
   pub judges : JudgesParts tablesOf tablesAre nums directory ends t r
   pub laid : r ≡ Well → (P : Program) (end : ℕ) → StandsProgram nums directory ends P end
       → widths′ ≡ layTables P t (drop t (P .tables)) widths
+
+-- the tables and the apply body
+unfoldable pub restIs : Program → Res (Unit {0})
+restIs P = judgeTables P (P .tables) >>= λ tables. judgeStmt (applyScope P) (P .body)
+
+pub record LaysRest (nums directory ends widths widths′ : List ℕ) (r : Formal) : Type 0 where
+  pub judged : (P : Program) (end : ℕ) → StandsProgram nums directory ends P end → toldForm r ≡ restIs P
+  pub laid : (P : Program) (end : ℕ) → StandsProgram nums directory ends P end → widths′ ≡ widthsLeft (restIs P) P widths
