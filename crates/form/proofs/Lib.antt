@@ -1,0 +1,13 @@
+pub mod Steps
+mod Walking
+mod Seen
+mod OfGlobals
+mod OfCallables
+mod OfKeys
+mod OfKinds
+mod OfNumerals
+mod OfActions
+mod OfNames
+mod OfDefaults
+mod OfTables
+mod Whole
