@@ -1,4 +1,4 @@
-pub mod Steps
+mod Steps
 mod Walking
 mod Seen
 mod OfGlobals
@@ -11,3 +11,6 @@ mod OfNames
 mod OfDefaults
 mod OfTables
 mod Whole
+mod Widths
+pub mod Laid
+pub mod Outcomes
