@@ -198,3 +198,17 @@ pub entries : (nums left slots : List ℕ) (p : Program) (end : ℕ) → readPro
     → Entries p end (directoryOf p end slots)
 unfolding Given directoryOf declared defined
 entries nums left slots p end e room = laid-entries p end slots room (rw e at (gives-bounded .given nums 0))
+
+-- which has as many slots as it had
+pub directory-long : (p : Program) (end : ℕ) (slots : List ℕ) → length (directoryOf p end slots) ≡ length slots
+unfolding directoryOf declared defined
+directory-long p end slots =
+    let h : List ℕ = listed slots headersSlot (map (λ h. h .at) (p .headers)) in
+    let g : List ℕ = listed h globalsSlot (map (λ g. g .at) (p .globals)) in
+    let c : List ℕ = listed g callablesSlot (map (λ c. c .at) (p .callables)) in
+    let t : List ℕ = listed c tablesSlot (map (λ t. t .at) (p .tables)) in
+    length-sets t bodySlot (stmtAt (p .body) ∷ end ∷ [])
+    ∙ listed-length c tablesSlot (map (λ t. t .at) (p .tables))
+    ∙ listed-length g callablesSlot (map (λ c. c .at) (p .callables))
+    ∙ listed-length h globalsSlot (map (λ g. g .at) (p .globals))
+    ∙ listed-length slots headersSlot (map (λ h. h .at) (p .headers))

@@ -305,3 +305,12 @@ pub scan-ended : (nums directory directory′ ends ends′ : List ℕ) (r : Scan
 unfolding endsLeft
 scan-ended nums directory directory′ ends ends′ r p left end w e room =
     rw (w .laid, e) (program-ended nums ends p left end e room)
+
+-- and it keeps as many slots as there were
+pub scan-long : (nums directory directory′ ends ends′ : List ℕ) (r : Scan) (p : Program) (left : List ℕ) (end : ℕ)
+    → ScansProgram nums directory directory′ ends ends′ r → readProgram nums 0 ≡ got p left end
+    → length ends′ ≡ length ends
+unfolding endsLeft LinedAt
+scan-long nums directory directory′ ends ends′ r p left end w e =
+    let m : Layer 0 end (endsOf p end) (EndedProgram p end) = rw e at (lines-program .lined nums 0) in
+    rw (w .laid, e) (m .long ends)

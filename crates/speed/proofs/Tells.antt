@@ -1,6 +1,9 @@
 -- The one number that each operation answers, by the cases of the answer below it.
+use Rattle.judge.specs.Verdicts.{ofVerdict, judgingSays, JudgesNumbers}
+use Rattle.judge.specs.declared.Verdict.the-variants.{Accepted, Refused}
+use Rattle.judge.specs.declared.Verdict.{Verdict}
+use mathlib.Core.List.{List, [], _∷_}
 use mathlib.Core.Path.{_≡_}
-use mathlib.Core.List.{List}
 use Prim.Native.Nat.{ℕ}
 use lib.ListN.{length}
 use Rattle.rules.specs.declared.Refusal.{Refusal}
@@ -35,3 +38,17 @@ module _ (nums directory directory′ ends ends′ : List ℕ) (a : Scan)
   scan-none number index e = rw (← p .answer, e)
 
 pub ruleset tells = (read-told, read-none, scan-told, scan-none)
+
+-- the judge's three numbers are those that the rules say
+module _ (nums directory directory′ ends ends′ widths widths′ entries entries′ offsets offsets′ : List ℕ) (r : Verdict)
+    (j : JudgesNumbers nums directory directory′ ends ends′ widths widths′ entries entries′ offsets offsets′ r) where
+  pub accepted-told : (ceiling store size : ℕ) → r ≡ Accepted ceiling store size
+      → (1 ∷ ceiling ∷ size ∷ []) ≡ judgingSays nums
+  unfolding ofVerdict
+  accepted-told ceiling store size e = rw e at (j .answer)
+
+  pub refused-told : (number index : ℕ) → r ≡ Refused number index → (0 ∷ number ∷ index ∷ []) ≡ judgingSays nums
+  unfolding ofVerdict
+  refused-told number index e = rw e at (j .answer)
+
+pub ruleset judging = (accepted-told, refused-told)

@@ -4,9 +4,11 @@ ghost use Prim.Native.Nat.{_≤_};
 ghost use lib.ListN.{length};
 ghost use Rattle.rules.specs.Answers.{readSays};
 ghost use Rattle.rules.specs.Reading.{readProgram};
+ghost use Rattle.judge.specs.Verdicts.{judgingSays};
 ghost use Rattle.shape.specs.Scans.{scanOf};
 ghost use Rattle.shape.specs.Ends.{mostNumbers};
 ghost use Rattle.speed.specs.Told.{countTold, endTold};
+use judge::Verdict;
 use rules::ReadAnswer;
 use shape::Scan;
 
@@ -37,5 +39,39 @@ pub extern "C" fn nentuvar_scan(
             number: _,
             index: _,
         } => 0,
+    }
+}
+
+// What the judge says of the numbers: 1, the ceiling and the store's length; or 0, the refusal's number and the index of
+// the number at fault.
+#[no_mangle]
+pub extern "C" fn nentuvar_judge(nums: &[u64], answer: &mut [u64; 3])
+    requires { ⌜ length (now nums) ≤ mostNumbers ⌝ }
+    ensures { λ r. ⌜ now (answer .exit) ≡ judgingSays (now (nums .entry)) ⌝ }
+{
+    let mut directory = [0u64; shape::SLOTS];
+    let mut ends = [0u64; shape::NUMBERS];
+    let mut widths = [0u64; lists::WIDTHS];
+    let mut entries = [0u64; lists::ENTRIES];
+    let mut offsets = [0u64; lists::OFFSETS];
+    let verdict = judge::judge(
+        nums,
+        &mut directory,
+        &mut ends,
+        &mut widths,
+        &mut entries,
+        &mut offsets,
+    );
+    match verdict {
+        Verdict::Accepted {
+            ceiling,
+            store: _,
+            length,
+        } => {
+            *answer = [1, ceiling, length as u64];
+        }
+        Verdict::Refused { number, index } => {
+            *answer = [0, number, index as u64];
+        }
     }
 }

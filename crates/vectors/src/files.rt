@@ -3,6 +3,7 @@ ghost use Prim.Native.Nat.{_≤_};
 ghost use lib.ListN.{length};
 ghost use Rattle.shape.specs.Ends.{mostNumbers};
 use crate::lines;
+use judge::Verdict;
 use rules::ReadAnswer;
 use rules::Refusal;
 use shape::Scan;
@@ -70,8 +71,46 @@ fn scan(name: &[u8], bytes: &[u8], list: &[u64])
         Scan::Past(end) => {
             lines::text(b" shape");
             lines::number(numbers::place_of(bytes, end) as u64);
+            lines::end();
+            verdict(name, bytes, list);
         }
         Scan::Fault { number, index } => {
+            let place = numbers::place_of(bytes, index);
+            lines::refusal(Refusal { number, place });
+            lines::end();
+        }
+    }
+}
+
+// The judge's verdict on the list of numbers.
+fn verdict(name: &[u8], bytes: &[u8], list: &[u64])
+    requires { ⌜ length (now list) ≤ mostNumbers ⌝ }
+{
+    let mut directory = [0u64; shape::SLOTS];
+    let mut ends = [0u64; shape::NUMBERS];
+    let mut widths = [0u64; lists::WIDTHS];
+    let mut entries = [0u64; lists::ENTRIES];
+    let mut offsets = [0u64; lists::OFFSETS];
+    let answer = judge::judge(
+        list,
+        &mut directory,
+        &mut ends,
+        &mut widths,
+        &mut entries,
+        &mut offsets,
+    );
+    lines::text(name);
+    match answer {
+        Verdict::Accepted {
+            ceiling,
+            store: _,
+            length,
+        } => {
+            lines::text(b" judged");
+            lines::number(ceiling);
+            lines::number(length as u64);
+        }
+        Verdict::Refused { number, index } => {
             let place = numbers::place_of(bytes, index);
             lines::refusal(Refusal { number, place });
         }

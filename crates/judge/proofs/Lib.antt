@@ -1,0 +1,3 @@
+mod Bridge
+mod Passes
+pub mod Outcomes
