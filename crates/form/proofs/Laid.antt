@@ -71,7 +71,8 @@ module _ (P : Program) where
       let most : length (x .keys) ≤ mostKeys = few 0 x refl in
       let inside : j < length (x .keys) = member-in (x .keys) j k here in
       let at : mostKeys * (t + 0) + j ≡ mostKeys * t + j = omega arith in
-      rw at (tables-below (suc t) Ts (sets slots (mostKeys * t) (keyWidths P (x .keys))) (mostKeys * t + j) (omega arith)
+      rw at
+      (tables-below (suc t) Ts (sets slots (mostKeys * t) (keyWidths P (x .keys))) (mostKeys * t + j) (omega arith)
       ∙ within slots (mostKeys * t) (keyWidths P (x .keys)) j (omega (arith, widths-length P (x .keys)))
       (omega (arith, widths-length P (x .keys)))
       ∙ width-in P (x .keys) j k here)
@@ -97,12 +98,13 @@ module _ (nums directory ends : List ℕ) (P : Program) (end : ℕ) (s : StandsP
   pub keys-laid : (widths : List ℕ) → length widths ≡ mostKeys * mostTables → judgeProgram P ≡ ok tt
       → KeysLaid P (widthsLeft (judgeProgram P) P widths)
   unfolding widthsLeft
-  keys-laid widths room fine = rw fine (record { is = is; most = λ t j T k e q. rw (is t j T k e q) (most t j T k e q) })
+  keys-laid widths room fine =
+      rw fine (record { is = is; most = λ t j T k e q. rw (is t j T k e q) (most t j T k e q) })
     where
       is : (t j : ℕ) (T : Table) (k : Key) → getElem? (P .tables) t ≡ some T → getElem? (T .keys) j ≡ some k
-          → getD (layTables P 0 (P .tables) widths) (4 * t + j) 0 ≡ keyWidth P k
+          → getD (layTables P 0 (P .tables) widths) (mostKeys * t + j) 0 ≡ keyWidth P k
       is t j T k e q =
-          let at : 4 * t + j ≡ 4 * (0 + t) + j = omega arith in
+          let at : mostKeys * t + j ≡ mostKeys * (0 + t) + j = omega arith in
           rw at (tables-laid P 0 (P .tables) widths (omega (arith, s .tables .few))
           (λ i x g. s .tables .member i x g .keyCount .atMost) t j T k e q)
 

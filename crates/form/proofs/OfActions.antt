@@ -1,5 +1,5 @@
 -- Actions: that numbers name callables, and that a table may list these.
-use mathlib.Core.Bool.{Bool, true, false, not, _&&_}
+use mathlib.Core.Bool.{Bool, true, false, _&&_}
 use mathlib.Core.Option.{some}
 use mathlib.Core.Path.{_≡_, refl, sym, _∙_}
 use mathlib.Core.List.{List, [], _∷_}
@@ -8,7 +8,7 @@ use native.Mathlib.Omega.{arith}
 use lib.ListN.{length, getD, getElem?}
 use lib.Dec.{eqb}
 use Rattle.rules.specs.Syntax.{Direction, byNone, byIn, byOut, byInout, Parameter, Callable, Numeral, Program}
-use Rattle.rules.specs.Form.{Res, ok, fault, _>>=_, named, need, tableGives, isFunction, bodyOf, judgeActions, tableGivesAll, listable, judgeListed}
+use Rattle.rules.specs.Form.{Res, ok, fault, _>>=_, named, need, tableGives, judgeActions, tableGivesAll, listable, judgeListed}
 use Rattle.program.specs.Codes.{directionNumber}
 use Rattle.program.specs.Stands.{StandsProgram}
 use Rattle.program.specs.Looks.{Has, Finds, callablesOf, FoundHead}
@@ -17,7 +17,7 @@ use Rattle.program.proofs.Members.{no-member}
 use Rattle.form.specs.declared.Formal.{Formal}
 use Rattle.form.specs.declared.Formal.the-variants.{Well, Ill}
 use Rattle.form.specs.Claims.{toldForm}
-use Rattle.form.specs.Parts.{NumeralsAt, ParametersAt, AsksExist, JudgesExist, NamesAll, names-none, names-next, AsksGiven, GivesAll, AsksListed, JudgesListed}
+use Rattle.form.specs.Parts.{NumeralsAt, ParametersAt, AsksExist, JudgesExist, NamesAll, names-next, AsksGiven, GivesAll, AsksListed, JudgesListed}
 use Rattle.form.proofs.OfCallables.{is-action}
 use Rattle.form.proofs.OfNumerals.{FirstNumeral, first-numeral, FirstParameter, first-parameter}
 
@@ -122,7 +122,8 @@ module _ (nums : List ℕ) (at count : ℕ) where
   given-next r more z j = record {
     gives = λ ps h.
         let p : FirstParameter nums at count ps = first-parameter nums at count ps h more in
-        rw (p .same, gives (p .first .direction) (getD nums at 0) (p .direction .is) z) (j .gives (p .others) (p .rest));
+        rw (p .same, gives (p .first .direction) (getD nums at 0) (p .direction .is) z)
+        (j .gives (p .others) (p .rest));
   }
 
   pub given-not : (count ≡ 0 → ⊥) → (getD nums at 0 ≡ 0 → ⊥) → GivesAll nums at count false
@@ -211,8 +212,8 @@ module _ (nums directory ends : List ℕ) (at count : ℕ) (more : count ≡ 0 �
     }
 
   module _ (kind returns parameters parameterCount : ℕ) (given fine : Bool)
-      (f : Finds callablesOf (FoundHead nums kind returns parameters parameterCount) nums directory ends (getD nums at 0))
-      (g : GivesAll nums parameters parameterCount given) (is : fine ≡ (eqb kind 0 && given))
+      (f : Finds callablesOf (FoundHead nums kind returns parameters parameterCount) nums directory ends
+      (getD nums at 0)) (g : GivesAll nums parameters parameterCount given) (is : fine ≡ (eqb kind 0 && given))
     where
       listable-is : (P : Program) (end : ℕ) (ns : List Numeral) (cs : List Callable)
           → StandsProgram nums directory ends P end → (l : Listed P ns cs) (b : Bool) → fine ≡ b
@@ -241,7 +242,8 @@ module _ (nums directory ends : List ℕ) (at count : ℕ) (more : count ≡ 0 �
       listed-next b r e j q = record {
         judged = λ P end ns cs s h k.
             let l : Listed P ns cs = listed-first P ns cs h k in
-            rw q at (j .judged P end (l .numeral .others) (l .callable .others) s (l .numeral .rest) (l .callable .rest))
+            rw q at
+            (j .judged P end (l .numeral .others) (l .callable .others) s (l .numeral .rest) (l .callable .rest))
             ∙ sym (open-listed ns cs _ _ _ _ (l .numeral .same) (l .callable .same)
             ∙ rw (listable-is P end ns cs s l true e));
       }

@@ -1,14 +1,14 @@
 -- Callables: the body in its scope, then that a function returns on each path.
 use mathlib.Core.Bool.{Bool, not, _||_}
 use mathlib.Core.Option.{Option, none, some}
-use mathlib.Core.Path.{_≡_, refl, sym, _∙_}
+use mathlib.Core.Path.{_≡_, refl, _∙_}
 use mathlib.Core.List.{List}
-use Prim.Native.Nat.{ℕ, _+_, _-_, _^_, _≤_, _<_}
+use Prim.Native.Nat.{ℕ, _+_, _-_, _≤_, _<_}
 use native.Mathlib.Omega.{arith}
-use lib.ListN.{length, getD, getElem?}
+use lib.ListN.{getD, getElem?}
 use lib.Dec.{eqb}
 use Rattle.rules.specs.Syntax.{Ty, Callable, Program}
-use Rattle.rules.specs.Form.{ok, fault, _>>=_, need, isFunction, judgeStmt, returnsOn, bodyOf, scopeOf, judgeCallable, judgeCallables}
+use Rattle.rules.specs.Form.{ok, _>>=_, need, isFunction, judgeStmt, returnsOn, bodyOf, scopeOf, judgeCallable, judgeCallables}
 use Rattle.program.specs.Codes.{callableKindNumber}
 use Rattle.program.specs.Stands.{StandsProgram, SomeProgram}
 use Rattle.program.specs.Looks.{Has, Finds, callablesOf, FoundHead, FoundFrame}
@@ -73,7 +73,8 @@ module _ (nums directory ends : List ℕ) (n : ℕ) where
         unfolding callablesOf judgeCallable toldStmt toldForm _>>=_
         callable-fault number index k = record {
           judged = λ P end c s e.
-              rw (fault-of (judgeStmt (scopeOf P n c) (c .body)) number index (returnsOn (c .body)) (rw k at (told P end c s e)));
+              rw (fault-of (judgeStmt (scopeOf P n c) (c .body)) number index (returnsOn (c .body))
+              (rw k at (told P end c s e)));
         }
 
         pub callable-judged : (b e : Bool) (r : Formal) → a ≡ Fine b → e ≡ (eqb kind 0 || b)

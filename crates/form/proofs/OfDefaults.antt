@@ -1,15 +1,14 @@
 -- A table behind its keys: its default's literals, at most one lpm key, and what a table may list.
-use mathlib.Core.Bool.{Bool, true, false}
+use mathlib.Core.Bool.{false}
 use mathlib.Core.Option.{some}
-use mathlib.Core.Path.{_≡_, refl, sym, _∙_}
+use mathlib.Core.Path.{_≡_, sym, _∙_}
 use mathlib.Core.List.{List}
-use Prim.Native.Nat.{ℕ, suc, _+_, _^_, _≤_, _<_}
+use Prim.Native.Nat.{ℕ, _+_, _^_, _<_}
 use native.Mathlib.Omega.{arith}
 use lib.ListN.{length, getD, getElem?}
-use lib.Dec.{eqb}
 use borrow.Author.Tests.{eq-eqb, ne-eqb}
 use Rattle.rules.specs.Syntax.{Callable, Table, Program}
-use Rattle.rules.specs.Form.{_>>=_, need, literalsFit, oneLpm}
+use Rattle.rules.specs.Form.{_>>=_, need, oneLpm}
 use Rattle.program.specs.Stands.{StandsNumeral}
 use Rattle.program.specs.Looks.{Has, Finds, callablesOf, FoundHead}
 use Rattle.program.proofs.Found.{member-in}
@@ -40,7 +39,8 @@ module _ (nums directory ends : List ℕ) (at actions default : ℕ) where
       let p : TableParts nums ends at actions default T = parts P T cs c h in
       let m : NamedAt P (T .actions) (T .default .number) c = named-at (h .names) (T .default .number) c (h .is) in
       let s : StandsNumeral nums (actions + 1 + T .default .number) (m .numeral)
-      = numeral-at nums (actions + 1) (T .actions) (p .actionsStand .stand) (T .default .number) (m .numeral) (m .listed) in
+      = numeral-at nums (actions + 1) (T .actions) (p .actionsStand .stand) (T .default .number) (m .numeral)
+      (m .listed) in
       record {
         inside = rw (p .defaultStands .holds .is) (s .holds .inside);
         is = rw (p .defaultStands .holds .is, s .holds .is) (m .is);

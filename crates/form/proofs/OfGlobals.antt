@@ -1,23 +1,21 @@
 -- Globals: what a global's number says of its header type.
 use mathlib.Core.Bool.{Bool, true, false}
-use mathlib.Core.Option.{Option, none, some}
-use mathlib.Core.Path.{_≡_, refl, sym, _∙_}
-use mathlib.Core.List.{List, [], _∷_}
-use Prim.Native.Nat.{ℕ, suc, _+_, _-_, _^_, _≤_, _<_}
+use mathlib.Core.Path.{_≡_, refl, _∙_}
+use mathlib.Core.List.{List}
+use Prim.Native.Nat.{ℕ, _+_, _-_, _^_, _≤_, _<_}
 use native.Mathlib.Omega.{arith}
-use lib.ListN.{length, getD, getElem?}
+use lib.ListN.{getD}
 use lib.Dec.{ltb}
 use borrow.Author.Tests.{lt-ltb, ltb-true, ltb-false}
-use Rattle.rules.specs.Syntax.{GlobalTy, variable, header, Global, Program}
-use Rattle.rules.specs.Form.{Res, ok, fault, _>>=_, named, need, andLook, shapeIn, judgeGlobals}
+use Rattle.rules.specs.Syntax.{GlobalTy, variable, header, Program}
+use Rattle.rules.specs.Form.{ok, _>>=_, named, need, andLook, shapeIn, judgeGlobals}
 use Rattle.program.specs.Codes.{headerNumber}
 use Rattle.program.specs.Stands.{StandsProgram, SomeProgram}
 use Rattle.program.specs.Looks.{Has, Finds, globalsOf, GlobalNumber, FoundGlobal}
-use Rattle.program.proofs.Found.{At, member-at, global-slot}
+use Rattle.program.proofs.Found.{member-at, global-slot}
 use Rattle.program.proofs.Members.{no-member}
 use Rattle.form.specs.declared.Formal.{Formal}
 use Rattle.form.specs.declared.Formal.the-variants.{Well, Ill}
-use Rattle.form.specs.Claims.{toldForm}
 use Rattle.form.specs.Parts.{Says, JudgesPart, JudgesParts, globalIs, globalsAre}
 use Rattle.form.proofs.Steps.{forgotten}
 use Rattle.form.proofs.Walking.{Walk, walk-asks, walk-done, walk-next, walk-stop}
@@ -48,7 +46,8 @@ module _ (nums directory ends : List ℕ) (g : ℕ) where
   unfolding globalsOf FoundGlobal globalIs
   global-judged ty r f s = record {
     judged = λ P end x p e.
-        s .judged ∙ rw (p .globals .member g x e .index) (shape-is P end ty (getD directory (10 + g) 0) (x .ty) p (f .finds P end x p e));
+        s .judged ∙ rw (p .globals .member g x e .index)
+        (shape-is P end ty (getD directory (10 + g) 0) (x .ty) p (f .finds P end x p e));
   }
 
 pub ruleset globals = (types-few, global-slot, global-judged)

@@ -1,12 +1,12 @@
 -- Keys: the type of each, one after the other, and that each is bits.
-use mathlib.Core.Path.{_≡_, refl, sym, ap, _∙_}
+use mathlib.Core.Path.{_≡_, refl, sym, _∙_}
 use mathlib.Core.List.{List, [], _∷_}
-use Prim.Native.Nat.{ℕ, zero, suc, _+_, _-_, _^_, _≤_, _<_}
+use Prim.Native.Nat.{ℕ, zero, suc, _+_, _-_, _^_, _<_}
 use native.Mathlib.Omega.{arith}
 use native.Mathlib.Numerals.{add-one}
 use lib.ListN.{length, getD, set}
 use lib.Seq.{sets}
-use Rattle.rules.specs.Syntax.{Ty, bool, bits, Key, Program}
+use Rattle.rules.specs.Syntax.{Ty, Key, Program}
 use Rattle.rules.specs.Form.{Res, ok, fault, _>>=_, judgeExpr, widthAt, applyScope, judgeKeys, keysAreBits}
 use Rattle.rules.specs.Lists.{widthOf, keyWidth}
 use Rattle.program.specs.Codes.{tyOf, keyKindNumber}
@@ -35,7 +35,6 @@ module _ (nums directory ends : List ℕ) (at : ℕ) where
       → JudgesKey nums directory ends at r
   key-judged r j = record {
     judged = λ P end e s h. j .judged (applyScope P) e (apply-scope nums directory ends P end s) h;
-    most = j .most;
   }
 
 pub ruleset typing = (key-asks, key-judged)

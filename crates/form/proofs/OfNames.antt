@@ -8,9 +8,9 @@ use native.Mathlib.Omega.{arith}
 use lib.ListN.{length, getD, getElem?}
 use lib.Dec.{ltb}
 use borrow.Author.Tests.{ltb-true, ltb-false}
-use Rattle.rules.specs.Syntax.{Callable, Numeral, Key, Table, Program}
+use Rattle.rules.specs.Syntax.{Callable, Numeral, Table, Program}
 use Rattle.rules.specs.Form.{Res, ok, fault, _>>=_, named, need, judgeActions}
-use Rattle.program.specs.Stands.{StandsNumeral, StandsNumerals, actionsAt, defaultAt}
+use Rattle.program.specs.Stands.{StandsNumeral, StandsNumerals}
 use Rattle.program.specs.Looks.{FoundTable}
 use Rattle.program.proofs.Found.{member-at}
 use Rattle.program.proofs.Members.{no-member}
@@ -18,7 +18,6 @@ use Rattle.form.specs.declared.Formal.{Formal}
 use Rattle.form.specs.declared.Formal.the-variants.{Well, Ill}
 use Rattle.form.specs.Claims.{toldForm}
 use Rattle.form.specs.Parts.{Says, KeysAt, NumeralsAt, AsksExist, JudgesExist, NamesAll, names-none, names-next, TableAt, namesOf, AsksNames, JudgesNames}
-use Rattle.form.proofs.Steps.{ill-is}
 
 -- a table's parts
 pub record TableParts (nums ends : List ℕ) (at actions default : ℕ) (T : Table) : Type 0 where
@@ -137,7 +136,8 @@ module _ (nums directory : List ℕ) (at actions default : ℕ) where
         go (ok cs) y e = let z : _≡_ {A = ℕ} 0 1 = cc in absurd (omega arith)
         go (fault m i) y e = e
 
-    pub names-judged : (r : Formal) → a ≡ Well → Says r (need 6 default (ltb (getD nums default 0) (getD nums actions 0)))
+    pub names-judged : (r : Formal) → a ≡ Well
+        → Says r (need 6 default (ltb (getD nums default 0) (getD nums actions 0)))
         → JudgesNames nums directory at actions default r
     unfolding toldForm namesOf _>>=_
     names-judged r k s = record {

@@ -69,7 +69,8 @@ fits-bits (suc ty) n r x e = e
 pub ruleset fitting = (fits-bool, fits-bits)
 
 -- what the step over a literal and its parameter asks
-module _ (nums : List ℕ) (parameter at count : ℕ) (h : AsksLiterals nums parameter at count) (more : count ≡ 0 → ⊥) where
+module _ (nums : List ℕ) (parameter at count : ℕ) (h : AsksLiterals nums parameter at count)
+    (more : count ≡ 0 → ⊥) where
   wanted : FirstParameter nums parameter count (h .parameters)
   wanted = first-parameter nums parameter count (h .parameters) (h .parametersStand) more
 
@@ -135,7 +136,8 @@ module _ (nums : List ℕ) (parameter at count : ℕ) where
         judged = λ ps ns h k.
             let p : FirstParameter nums parameter count ps = first-parameter nums parameter count ps h more in
             let n : FirstNumeral nums at count ns = first-numeral nums at count ns k more in
-            rw (p .same, n .same, fit-is ps ns p n true e) (rw q at (j .judged (p .others) (n .others) (p .rest) (n .rest)));
+            rw (p .same, n .same, fit-is ps ns p n true e)
+            (rw q at (j .judged (p .others) (n .others) (p .rest) (n .rest)));
       }
 
 pub ruleset literals = (

@@ -1,8 +1,7 @@
 -- Tables: the names of each, its keys with their widths, and what stands behind; then one table after the other.
-use mathlib.Core.Bool.{Bool, true, false}
 use mathlib.Core.Option.{Option, none, some}
 use mathlib.Core.Path.{_≡_, refl, sym, ap, _∙_}
-use mathlib.Core.List.{List, [], _∷_}
+use mathlib.Core.List.{List, _∷_}
 use Prim.Native.Nat.{ℕ, suc, _+_, _-_, _*_, _^_, _≤_, _<_}
 use native.Mathlib.Omega.{arith}
 use native.Mathlib.Numerals.{add-one}
@@ -19,7 +18,7 @@ use Rattle.form.specs.declared.Formal.the-variants.{Well, Ill}
 use Rattle.form.specs.declared.keys.Keyed.{Keyed}
 use Rattle.form.specs.declared.keys.Keyed.the-variants.{AllBits, Boolean, Unkeyed}
 use Rattle.form.specs.Claims.{toldForm, keyWidths, layTables}
-use Rattle.form.specs.Parts.{JudgesPart, JudgesParts, toldKeys, AsksKeys, JudgesKeys, NamesAll, TableAt, namesOf, AsksNames, JudgesNames, NamedTable, AsksNamed, JudgesNamed, defaultIs, kindsAre, behindKeys, behindNames, AsksLays, LaysNamed, tableIs, tablesAre, LaysTable, LaysTables}
+use Rattle.form.specs.Parts.{toldKeys, AsksKeys, JudgesKeys, TableAt, namesOf, AsksNames, JudgesNames, NamedTable, AsksNamed, JudgesNamed, defaultIs, kindsAre, behindKeys, behindNames, AsksLays, LaysNamed, tableIs, tablesAre, LaysTable, LaysTables}
 use Rattle.form.proofs.OfNames.{TableParts, table-parts, all-named}
 use Rattle.form.proofs.Steps.{well-is, ill-is}
 use Rattle.form.proofs.Walking.{Walk, drop-member, walk-asks, walk-done, here, walk-next, walk-stop}
@@ -122,7 +121,8 @@ names-fine P T e = go (judgeActions P (T .actions)) refl e
     then cs f (some c) g q = record { callables = cs; callable = c; judged = f; is = g }
 
     go : (x : Res (List Callable)) → judgeActions P (T .actions) ≡ x
-        → (x >>= λ cs. named (T .default .at) (getElem? cs (T .default .number)) >>= λ c. ok (tt {0})) ≡ ok tt → Names P T
+        → (x >>= λ cs. named (T .default .at) (getElem? cs (T .default .number)) >>= λ c. ok (tt {0})) ≡ ok tt
+        → Names P T
     go (ok cs) f q = then cs f (getElem? cs (T .default .number)) refl q
     go (fault number index) f q = let z : _≡_ {A = ℕ} 0 1 = cc in absurd (omega arith)
 
@@ -138,7 +138,8 @@ names-fault P T number index e = go (judgeActions P (T .actions)) _ e
     then (some c) y q = let z : _≡_ {A = ℕ} 0 1 = cc in absurd (omega arith)
 
     go : (x : Res (List Callable)) (y : List Callable → Callable → Res (Unit {0}))
-        → (x >>= λ cs. named (T .default .at) (getElem? cs (T .default .number)) >>= λ c. ok (tt {0})) ≡ fault number index
+        → (x >>= λ cs. named (T .default .at) (getElem? cs (T .default .number)) >>= λ c. ok (tt {0}))
+        ≡ fault number index
         → (x >>= λ cs. named (T .default .at) (getElem? cs (T .default .number)) >>= λ c. y cs c) ≡ fault number index
     go (ok cs) y q = then (getElem? cs (T .default .number)) (y cs) q
     go (fault m i) y q = q

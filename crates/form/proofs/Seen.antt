@@ -2,11 +2,11 @@
 use mathlib.Core.Option.{Option, none, some}
 use mathlib.Core.Path.{_≡_, refl}
 use mathlib.Core.List.{List, [], _∷_}
-use Prim.Native.Nat.{ℕ, _≤_}
+use Prim.Native.Nat.{ℕ}
 use native.Mathlib.Omega.{arith}
 use lib.ListN.{getD, getElem?}
 use Rattle.rules.specs.Syntax.{Ty, Callable, Program}
-use Rattle.rules.specs.Form.{Body, bodyOf, scopeOf, applyScope}
+use Rattle.rules.specs.Form.{bodyOf, scopeOf, applyScope}
 use Rattle.program.specs.Codes.{tyOf, callableKindNumber}
 use Rattle.program.specs.Stands.{StandsParameters, StandsTypes, StandsProgram}
 use Rattle.program.specs.Looks.{returnsOf, FoundHead, FoundFrame}
@@ -28,8 +28,9 @@ callableScope n parameters count locals localCount kind returns =
     n ∷ parameters ∷ count ∷ locals ∷ localCount ∷ kind ∷ returns ∷ []
 
 pub callable-scope : (nums directory ends : List ℕ) (n kind returns parameters count locals localCount body : ℕ)
-    (P : Program) (end : ℕ) (c : Callable) → StandsProgram nums directory ends P end → getElem? (P .callables) n ≡ some c
-    → FoundHead nums kind returns parameters count c → FoundFrame nums ends locals localCount body c
+    (P : Program) (end : ℕ) (c : Callable) → StandsProgram nums directory ends P end
+    → getElem? (P .callables) n ≡ some c → FoundHead nums kind returns parameters count c
+    → FoundFrame nums ends locals localCount body c
     → StandsScope nums directory ends (callableScope n parameters count locals localCount kind returns) (scopeOf P n c)
 unfolding scopeOf
 callable-scope nums directory ends n kind returns parameters count locals localCount body P end c s e h f = record {

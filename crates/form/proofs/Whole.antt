@@ -1,11 +1,11 @@
 -- The whole program, in file order: its globals, its callables, its tables, its apply body.
 use mathlib.Core.Bool.{Bool}
-use mathlib.Core.Path.{_≡_, refl, sym, _∙_}
+use mathlib.Core.Path.{_≡_, sym, _∙_}
 use mathlib.Core.List.{List}
 use Prim.Native.Nat.{ℕ}
 use lib.ListN.{getD}
 use Rattle.rules.specs.Syntax.{Program}
-use Rattle.rules.specs.Form.{Res, ok, fault, _>>=_, judgeStmt, returnsOn, judgeGlobals, judgeCallable, judgeCallables, applyScope, judgeTables, judgeProgram}
+use Rattle.rules.specs.Form.{ok, _>>=_, judgeStmt, returnsOn, judgeGlobals, judgeCallables, applyScope, judgeTables, judgeProgram}
 use Rattle.program.specs.Stands.{StandsProgram, SomeProgram}
 use Rattle.program.specs.Looks.{globalsOf, callablesOf, tablesOf}
 use Rattle.bodies.specs.declared.Formed.{Formed}
@@ -13,7 +13,7 @@ use Rattle.bodies.specs.declared.Formed.the-variants.{Fine, Faulty}
 use Rattle.bodies.specs.Claims.{toldStmt, AsksStmt, JudgesStmt}
 use Rattle.form.specs.declared.Formal.{Formal}
 use Rattle.form.specs.declared.Formal.the-variants.{Well, Ill}
-use Rattle.form.specs.Claims.{toldForm, layTables, widthsLeft, JudgesForm}
+use Rattle.form.specs.Claims.{toldForm, widthsLeft, JudgesForm}
 use Rattle.form.specs.Parts.{JudgesParts, globalsAre, JudgesApply, tablesAre, LaysTables, restIs, LaysRest}
 use Rattle.form.proofs.Seen.{applySlots, apply-scope}
 use Rattle.form.proofs.Steps.{well-is, ill-is, fine-of, fault-of}
@@ -49,11 +49,16 @@ module _ (nums directory ends : List ℕ) where
 pub ruleset applying = (apply-asks, apply-fine, apply-fault)
 
 -- the tables, then the apply body
-module _ (nums directory ends widths laid : List ℕ) (a : Formal) (j : LaysTables nums directory ends 0 widths laid a) where
+module _ (nums directory ends widths laid : List ℕ) (a : Formal)
+    (j : LaysTables nums directory ends 0 widths laid a) where
   tables-told : (P : Program) (end : ℕ) → StandsProgram nums directory ends P end
       → toldForm a ≡ judgeTables P (P .tables)
   unfolding tablesOf tablesAre
   tables-told P end s = j .judges .judged P end s
+
+  tables-fine : (P : Program) (end : ℕ) → StandsProgram nums directory ends P end → a ≡ Well
+      → judgeTables P (P .tables) ≡ ok tt
+  tables-fine P end s k = well-is a (judgeTables P (P .tables)) (tables-told P end s) k
 
   pub rest-tables : (number index : ℕ) → a ≡ Ill number index
       → LaysRest nums directory ends widths widths (Ill number index)
@@ -69,19 +74,18 @@ module _ (nums directory ends widths laid : List ℕ) (a : Formal) (j : LaysTabl
     unfolding restIs toldForm widthsLeft _>>=_
     rest-apply number index e = record {
       judged = λ P end s.
-          rw (well-is a (judgeTables P (P .tables)) (tables-told P end s) k, ill-is b _ number index (l .judged P end s) e);
+          rw (tables-fine P end s k, ill-is b _ number index (l .judged P end s) e);
       laid = λ P end s.
-          rw (well-is a (judgeTables P (P .tables)) (tables-told P end s) k, ill-is b _ number index (l .judged P end s) e);
+          rw (tables-fine P end s k, ill-is b _ number index (l .judged P end s) e);
     }
 
     pub rest-fine : b ≡ Well → LaysRest nums directory ends widths laid Well
     unfolding restIs toldForm widthsLeft _>>=_
     rest-fine e = record {
       judged = λ P end s.
-          rw (well-is a (judgeTables P (P .tables)) (tables-told P end s) k, well-is b _ (l .judged P end s) e);
+          rw (tables-fine P end s k, well-is b _ (l .judged P end s) e);
       laid = λ P end s.
-          rw (well-is a (judgeTables P (P .tables)) (tables-told P end s) k, well-is b _ (l .judged P end s) e)
-          (j .laid k P end s);
+          rw (tables-fine P end s k, well-is b _ (l .judged P end s) e) (j .laid k P end s);
     }
 
 pub ruleset resting = (rest-tables, rest-apply, rest-fine)

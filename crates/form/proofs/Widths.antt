@@ -1,6 +1,6 @@
 -- Every type that is judged in a program that stands is one of a value: its width is at most the widest.
 use mathlib.Core.Option.{Option, none, some}
-use mathlib.Core.Path.{_≡_, refl}
+use mathlib.Core.Path.{_≡_}
 use mathlib.Core.List.{List}
 use Prim.Native.Nat.{ℕ, zero, suc, _+_, _≤_}
 use native.Mathlib.Omega.{arith}
@@ -8,9 +8,9 @@ use lib.ListN.{getD, getElem?}
 use lib.Dec.{ltb}
 use borrow.Author.Tests.{leb-true}
 use Rattle.rules.specs.Words.{widest, sliceFits, sliceWidth, joinFits}
-use Rattle.rules.specs.Syntax.{Ty, bool, bits, GlobalTy, variable, header, Operator, arithmetic, order, shift, equality, logic, Place, local, parameter, global, field, Expr, Global, HeaderTy, Key, Program}
-use Rattle.rules.specs.Form.{Res, ok, fault, _>>=_, named, need, fits, Shape, aVariable, aHeader, shapeIn, globalAt, callableBelow, Scope, judgeVariable, judgeField, judgeGlobal, judgePlace, judgeHeaderAt, widthAt, needTy, judgeOperator, judgeGiven, functionTy, judgeExpr, judgeArgs, applyScope}
-use Rattle.rules.specs.Lists.{widthOf, keyWidth}
+use Rattle.rules.specs.Syntax.{Ty, bool, bits, GlobalTy, variable, header, Operator, arithmetic, order, shift, equality, logic, Place, local, parameter, global, field, Expr, Program}
+use Rattle.rules.specs.Form.{Res, ok, fault, named, need, Shape, aVariable, aHeader, shapeIn, globalAt, callableBelow, Scope, judgeVariable, judgeField, judgeGlobal, judgePlace, judgeHeaderAt, widthAt, needTy, judgeOperator, judgeGiven, functionTy, judgeExpr, judgeArgs}
+use Rattle.rules.specs.Lists.{widthOf}
 use Rattle.rules.proofs.Predicates.{IfOk, isOk, isFault, IfSome, ifNone, ifSome, ok-then, ok-self, ok-found, ok-need, from-ok, if-then, if-only, if-map, if-self}
 use Rattle.program.specs.Codes.{tyOf}
 use Rattle.program.specs.Stands.{HoldsTy, StandsExpr, on-bool, on-bits, on-place, on-valid, on-not, on-complement, on-binary, on-cast, on-slice, on-concatenation, on-call, HoldsGlobalTy, HoldsReturns, StandsProgram}
@@ -72,7 +72,8 @@ variable-most at (aHeader widths) m = isFault
 field-most : (at f : ℕ) (x : Shape) → ShapeMost x → IfOk WidthMost (judgeField at f x)
 unfolding ShapeMost judgeField
 field-most at f (aVariable t) m = isFault
-field-most at f (aHeader widths) m = ok-then (ok-found (suc (suc at)) (getElem? widths f)) λ width e. is-bits width (m f width e)
+field-most at f (aHeader widths) m =
+    ok-then (ok-found (suc (suc at)) (getElem? widths f)) λ width e. is-bits width (m f width e)
 
 -- operators
 width-most : (at : ℕ) (t : Ty) → WidthMost t → IfOk (λ width. width ≤ widest) (widthAt at t)

@@ -43,6 +43,6 @@ pub record JudgesForm (nums directory ends widths widths′ : List ℕ) (r : For
 -- the widths of a program's keys, in four slots a table
 pub record KeysLaid (P : Program) (widths : List ℕ) : Type 0 where
   pub is : (t j : ℕ) (T : Table) (k : Key) → getElem? (P .tables) t ≡ some T → getElem? (T .keys) j ≡ some k
-      → getD widths (4 * t + j) 0 ≡ keyWidth P k
+      → getD widths (mostKeys * t + j) 0 ≡ keyWidth P k
   pub most : (t j : ℕ) (T : Table) (k : Key) → getElem? (P .tables) t ≡ some T → getElem? (T .keys) j ≡ some k
-      → getD widths (4 * t + j) 0 ≤ widest
+      → getD widths (mostKeys * t + j) 0 ≤ widest

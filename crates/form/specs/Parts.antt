@@ -16,7 +16,7 @@ use Rattle.program.specs.Codes.{tyOf}
 use Rattle.program.specs.Stands.{StandsExpr, StandsParameters, StandsNumerals, StandsKeys, StandsProgram}
 use Rattle.program.specs.Looks.{tablesOf, FoundTable}
 use Rattle.bodies.specs.declared.Typed.{Typed}
-use Rattle.bodies.specs.Claims.{toldTy, TyMost}
+use Rattle.bodies.specs.Claims.{toldTy}
 use Rattle.form.specs.declared.Formal.{Formal}
 use Rattle.form.specs.declared.Formal.the-variants.{Well}
 use Rattle.form.specs.declared.keys.Keyed.{Keyed}
@@ -35,7 +35,8 @@ pub record JudgesPart {A : Type 0} (list : Program → List A) (one : Program �
 
 pub record JudgesParts {A : Type 0} (list : Program → List A) (all : Program → ℕ → List A → Res (Unit {0}))
     (nums directory ends : List ℕ) (i : ℕ) (r : Formal) : Type 0 where
-  pub judged : (P : Program) (end : ℕ) → StandsProgram nums directory ends P end → toldForm r ≡ all P i (drop i (list P))
+  pub judged : (P : Program) (end : ℕ) → StandsProgram nums directory ends P end
+      → toldForm r ≡ all P i (drop i (list P))
 
 -- globals
 unfoldable pub globalIs : Program → ℕ → Global → Res (Unit {0})
@@ -44,7 +45,7 @@ globalIs P g x = named (x .at) (shapeIn P (x .ty)) >>= λ _. ok tt
 unfoldable pub globalsAre : Program → ℕ → List Global → Res (Unit {0})
 globalsAre P g xs = judgeGlobals P xs
 
--- the expression of a key, and the apply body, which see the same
+-- the apply body, and the expression of a key, which see the same
 pub record JudgesApply (nums directory ends : List ℕ) (r : Formal) : Type 0 where
   pub judged : (P : Program) (end : ℕ) → StandsProgram nums directory ends P end
       → toldForm r ≡ judgeStmt (applyScope P) (P .body)
@@ -59,7 +60,6 @@ pub record AsksKey (nums directory ends : List ℕ) (at : ℕ) : Type 0 where
 pub record JudgesKey (nums directory ends : List ℕ) (at : ℕ) (r : Typed) : Type 0 where
   pub judged : (P : Program) (end : ℕ) (e : Expr) → StandsProgram nums directory ends P end
       → StandsExpr nums ends deepest at e → toldTy r ≡ judgeExpr (applyScope P) e
-  pub most : TyMost r
 
 -- keys: first that each is judged, then that each is bits
 unfoldable pub toldKeys : Keyed → Res (Res (Unit {0}))
@@ -144,8 +144,9 @@ pub record AsksListed (nums directory ends : List ℕ) (at count : ℕ) : Type 0
   pub names : NamesAll program numerals callables
 
 pub record JudgesListed (nums directory ends : List ℕ) (at count : ℕ) (r : Formal) : Type 0 where
-  pub judged : (P : Program) (end : ℕ) (ns : List Numeral) (cs : List Callable) → StandsProgram nums directory ends P end
-      → NumeralsAt nums at count ns → NamesAll P ns cs → toldForm r ≡ judgeListed ns cs
+  pub judged : (P : Program) (end : ℕ) (ns : List Numeral) (cs : List Callable)
+      → StandsProgram nums directory ends P end → NumeralsAt nums at count ns → NamesAll P ns cs
+      → toldForm r ≡ judgeListed ns cs
 
 -- literals for parameters
 pub record AsksLiterals (nums : List ℕ) (parameter at count : ℕ) : Type 0 where
@@ -254,4 +255,5 @@ restIs P = judgeTables P (P .tables) >>= λ tables. judgeStmt (applyScope P) (P 
 
 pub record LaysRest (nums directory ends widths widths′ : List ℕ) (r : Formal) : Type 0 where
   pub judged : (P : Program) (end : ℕ) → StandsProgram nums directory ends P end → toldForm r ≡ restIs P
-  pub laid : (P : Program) (end : ℕ) → StandsProgram nums directory ends P end → widths′ ≡ widthsLeft (restIs P) P widths
+  pub laid : (P : Program) (end : ℕ) → StandsProgram nums directory ends P end
+      → widths′ ≡ widthsLeft (restIs P) P widths
