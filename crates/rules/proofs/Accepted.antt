@@ -17,7 +17,7 @@ use Rattle.rules.specs.Reading.{Got, within}
 use Rattle.rules.specs.Form.{Res, ok, need, onlyIf, fits, Shape, aVariable, aHeader, shapeIn, inApply, applyScope, judgeTable, judgeTables, judgeGlobals, judgeStmt, judgeProgram}
 use Rattle.rules.specs.Ceiling.{mostSteps, calleeIn, ceilingsBelow, ceilingTable, ceilingWith, ceilingOf}
 use Rattle.rules.specs.Lists.{Entry, mostEntries, nothingLeft, Cell, variableCell, headerCell, passing, keyWidth, actionAt, numbered, asked, readPattern, readPatterns, readArguments, readEntry, readEntries, readFields, readShape, readCell, readCells, readStore, slotsOf}
-use Rattle.rules.specs.Running.{State, Ending, Out, done, full, callsBelow, argumentsFit, argumentsGiven, patternFits, patternsFit, runTable, finish, started, runProgram}
+use Rattle.rules.specs.Running.{State, Ending, Seen, Out, done, full, callsBelow, argumentsFit, argumentsGiven, patternFits, patternsFit, runTable, finish, started, runProgram}
 use Rattle.rules.specs.Answers.{Bench, checked, judging, Judged, accepted, refused, placed, judgedStream, judged, outcomeOf, runBench, fileOutcome, toldWith, numbersOf, ofSignal, workingSlots, marked}
 use Rattle.rules.proofs.Refusals.{program-reads, Judging-ok, fine, faulty, program-judged, place-within, Stream-ok, whole, breaks, stream-ok}
 use Rattle.rules.proofs.Predicates.{JudgeGives, gives, if-any, and-both, both-true, All2, nil, cons, All, IfOk, isOk, IfSome, ifNone, ifSome, IfGot, isGot, isBad, SomeOf, isSome, ok-then, ok-map, ok-self, from-ok, if-then, if-map, if-self, Reads, reads-then, reads-pure, reads-looked-up, reads-repeat, Good, good, isFull, Runs}
@@ -207,14 +207,14 @@ tables-judged P (T ∷ Ts) = ok-then (ok-self (judgeTable P T)) λ _ h. ok-map (
 
 -- how a run of an accepted file ends: within the ceiling, with a store that fits; or full
 pub data Ends (P : Program) : Out (List Cell) Signal → Type 0 where
-  ends : (signal : Signal) (store : List Cell) (steps : ℕ) → steps ≤ ceilingOf P → StoreFits P store
-      → Ends P (done signal store steps)
+  ends : (signal : Signal) (store : List Cell) (seen : Seen) → length seen ≤ ceilingOf P → StoreFits P store
+      → Ends P (done signal store seen)
   fills : Ends P full
 
 finish-ends : (P : Program) {b : Bool} {o : Out State Ending}
     → Good _≤_ (StateFits (applyScope P)) (EndOk inApply b) (ceilingOf P) o → Ends P (finish o)
 unfolding finish applyScope
-finish-ends P (good n r f q) = ends _ _ n q (f .store-fits)
+finish-ends P (good seen r f q) = ends _ _ seen q (f .store-fits)
 finish-ends P isFull = fills
 
 module _ (capacity : ℕ) (P : Program) (entries : List Entry) (fit : All (EntryOk P) entries) where
@@ -257,8 +257,8 @@ accepted-ends capacity bytes bench e = let known = judged-ok bytes bench e in
 ends-told : (P : Program) (ceiling : ℕ) {o : Out (List Cell) Signal} → Ends P o
     → numbersOf (outcomeOf ceiling o) ≡ 3 ∷ [] → ⊥
 unfolding numbersOf toldWith outcomeOf ofSignal
-ends-told P ceiling (ends Done store steps q h) e = let z : _≡_ {A = ℕ} 1 3 = cc in omega arith
-ends-told P ceiling (ends Exit store steps q h) e = let z : _≡_ {A = ℕ} 2 3 = cc in omega arith
+ends-told P ceiling (ends Done store seen q h) e = let z : _≡_ {A = ℕ} 1 3 = cc in omega arith
+ends-told P ceiling (ends Exit store seen q h) e = let z : _≡_ {A = ℕ} 2 3 = cc in omega arith
 ends-told P ceiling fills e = let z : _≡_ {A = ℕ} 0 3 = cc in omega arith
 
 file-told : (capacity : ℕ) (j : Judged) → ((bench : Bench) → j ≡ accepted bench
