@@ -120,7 +120,12 @@ if-self (some a) = ifSome refl
 pub from-some : {A : Type 0} {P : A → Type 0} {a : A} → IfSome P (some a) → P a
 from-some (ifSome p) = p
 
--- looking into a list that fits another, and changing one member of it
+-- looking into a list, into one that fits another, and changing one member of it
+pub look-all : {A : Type 0} {P : A → Type 0} {xs : List A} → All P xs → (i : ℕ) → IfSome P (getElem? xs i)
+look-all none-left i = ifNone
+look-all (also p ps) zero = ifSome p
+look-all (also p ps) (suc i) = look-all ps i
+
 pub look-fits : {A B : Type 0} {R : A → B → Type 0} {xs : List A} {ys : List B} → All2 R xs ys → (i : ℕ) → IfSome (λ a.
     SomeOf (R a) (getElem? ys i)) (getElem? xs i)
 look-fits nil i = ifNone
