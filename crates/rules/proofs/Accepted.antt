@@ -2,7 +2,7 @@
 use mathlib.Core.Path.{_≡_, refl, sym}
 use mathlib.Core.Bool.{Bool, true, false, _&&_, _||_, false≢true}
 use mathlib.Core.Option.{Option, none, some}
-use Prim.Native.Nat.{ℕ, zero, suc, _≤_}
+use Prim.Native.Nat.{ℕ, _≤_}
 use native.Mathlib.Omega.{arith}
 use mathlib.Core.List.{List, [], _∷_, map}
 use lib.Dec.{leb, eqb}
@@ -13,14 +13,16 @@ use Rattle.rules.specs.declared.Signal.the-variants.{Done, Exit}
 use Rattle.rules.specs.Numbers.{Stream, numbers, broken, streamOf}
 use Rattle.rules.specs.Words.{fitsWidth, prefixFits, maskFits}
 use Rattle.rules.specs.Syntax.{bool, KeyKind, exact, lpm, ternary, Global, Parameter, Key, Table, Program}
-use Rattle.rules.specs.Reading.{Got, within}
+use Rattle.rules.specs.Reading.{Got, within, readProgram}
 use Rattle.rules.specs.Form.{Res, ok, need, onlyIf, fits, Shape, aVariable, aHeader, shapeIn, inApply, applyScope, judgeTable, judgeTables, judgeGlobals, judgeStmt, judgeProgram}
 use Rattle.rules.specs.Ceiling.{mostSteps, calleeIn, ceilingsBelow, ceilingTable, ceilingWith, ceilingOf}
 use Rattle.rules.specs.Lists.{Entry, mostEntries, nothingLeft, Cell, variableCell, headerCell, passing, keyWidth, actionAt, numbered, asked, readPattern, readPatterns, readArguments, readEntry, readEntries, readFields, readShape, readCell, readCells, readStore, slotsOf}
-use Rattle.rules.specs.Running.{State, Ending, Out, done, full, callsBelow, argumentsFit, argumentsGiven, patternFits, patternsFit, runTable, finish, started, runProgram}
+use Rattle.rules.specs.Running.{State, Ending, Seen, Out, done, full, callsBelow, argumentsFit, argumentsGiven, patternFits, patternsFit, runTable, finish, started, runProgram}
 use Rattle.rules.specs.Answers.{Bench, checked, judging, Judged, accepted, refused, placed, judgedStream, judged, outcomeOf, runBench, fileOutcome, toldWith, numbersOf, ofSignal, workingSlots, marked}
 use Rattle.rules.proofs.Refusals.{program-reads, Judging-ok, fine, faulty, program-judged, place-within, Stream-ok, whole, breaks, stream-ok}
-use Rattle.rules.proofs.Predicates.{JudgeGives, gives, if-any, and-both, both-true, All2, nil, cons, All, IfOk, isOk, IfSome, ifNone, ifSome, IfGot, isGot, isBad, SomeOf, isSome, ok-then, ok-map, ok-self, from-ok, if-then, if-map, if-self, Reads, reads-then, reads-pure, reads-looked-up, reads-repeat, Good, good, isFull, Runs}
+use Rattle.rules.proofs.Predicates.{JudgeGives, gives, if-any, and-both, both-true, All2, nil, cons, All, none-left, also, look-all, IfOk, isOk, IfSome, ifNone, ifSome, IfGot, isGot, isBad, SomeOf, isSome, ok-then, ok-map, ok-self, from-ok, if-then, if-map, if-self, Reads, reads-then, reads-pure, reads-looked-up, reads-repeat, Good, good, isFull, Runs}
+use Rattle.rules.proofs.Readers.{Given}
+use Rattle.rules.proofs.Limits.{Limited, gives-limited}
 use Rattle.rules.proofs.Fits.{FitWidth, CellFits, variableFits, validFits, invalidFits, GlobalFits, globalFits, StoreFits, StateFits}
 use Rattle.rules.proofs.Sound.{EndOk, CallsOk, AppliesOk, sound-stmt}
 use Rattle.rules.proofs.Callables.{judged-all, calls-below}
@@ -137,6 +139,7 @@ store-reads P = cells-read P (P .globals)
 
 -- what is known of a bench file that the judge accepts
 pub record BenchOk (bench : Bench) : Type 0 where
+  pub limited : Limited (bench .program)
   pub formed : judgeProgram (bench .program) ≡ ok tt
   pub bounded : ceilingOf (bench .program) ≤ mostSteps
   pub entries-fit : All (EntryOk (bench .program)) (bench .entries)
@@ -162,12 +165,21 @@ unfolding need
 needed number at true e = refl
 needed number at false e = let z : _≡_ {A = ℕ} 0 1 = cc in absurd (omega arith)
 
+got-limited : {g : Got Program} → IfGot (λ _. Unit {0}) g → Given Limited g → IfGot Limited g
+unfolding Given
+got-limited (isGot p) h = isGot h
+got-limited (isBad q) h = isBad q
+
+program-limited : Reads Limited readProgram
+program-limited = record { reads = λ left at. got-limited (program-reads .reads left at) (gives-limited .given left at) }
+
 judging-reads : Reads BenchOk judging
 unfolding judging
-judging-reads = reads-then program-reads λ P _. reads-then (reads-checked (program-judged P)) λ _ formed.
+judging-reads = reads-then program-limited λ P limited. reads-then (reads-checked (program-judged P)) λ _ formed.
     reads-then (reads-checked (bounded-ok (leb (ceilingOf P) mostSteps))) λ _ bounded.
     reads-then (entries-read P) λ es fit.
     reads-then (store-reads P) λ cells fits. reads-then (record { reads = left-at }) λ _ _. reads-pure _ (record {
+      limited = limited;
       formed = formed;
       bounded = leb-true (ceilingOf P) mostSteps (needed 9 0 (leb (ceilingOf P) mostSteps) bounded);
       entries-fit = fit;
@@ -193,28 +205,21 @@ unfolding judged
 judged-ok bytes bench e = stream-accepted bytes (streamOf bytes) bench e
 
 -- tables, then the whole program
-tables-judged : (P : Program) (Ts : List Table) → IfOk (λ _. (t : ℕ) → IfSome (λ T.
-    judgeTable P T ≡ ok tt) (getElem? Ts t)) (judgeTables P Ts)
+tables-judged : (P : Program) (Ts : List Table) → IfOk (λ _. All (λ T. judgeTable P T ≡ ok tt) Ts) (judgeTables P Ts)
 unfolding judgeTables
-tables-judged P [] = isOk λ t. ifNone
-tables-judged P (T ∷ Ts) = ok-then (ok-self (judgeTable P T)) λ _ h. ok-map (tables-judged P Ts) λ _ hs. λ t.
-    look t h hs
-  where
-    look : (t : ℕ) → judgeTable P T ≡ ok tt → ((t : ℕ) → IfSome (λ T. judgeTable P T ≡ ok tt) (getElem? Ts t))
-        → IfSome (λ T. judgeTable P T ≡ ok tt) (getElem? (T ∷ Ts) t)
-    look zero h hs = ifSome h
-    look (suc t) h hs = hs t
+tables-judged P [] = isOk none-left
+tables-judged P (T ∷ Ts) = ok-then (ok-self (judgeTable P T)) λ _ h. ok-map (tables-judged P Ts) λ _ hs. also h hs
 
 -- how a run of an accepted file ends: within the ceiling, with a store that fits; or full
 pub data Ends (P : Program) : Out (List Cell) Signal → Type 0 where
-  ends : (signal : Signal) (store : List Cell) (steps : ℕ) → steps ≤ ceilingOf P → StoreFits P store
-      → Ends P (done signal store steps)
+  ends : (signal : Signal) (store : List Cell) (seen : Seen) → length seen ≤ ceilingOf P → StoreFits P store
+      → Ends P (done signal store seen)
   fills : Ends P full
 
 finish-ends : (P : Program) {b : Bool} {o : Out State Ending}
     → Good _≤_ (StateFits (applyScope P)) (EndOk inApply b) (ceilingOf P) o → Ends P (finish o)
 unfolding finish applyScope
-finish-ends P (good n r f q) = ends _ _ n q (f .store-fits)
+finish-ends P (good seen r f q) = ends _ _ seen q (f .store-fits)
 finish-ends P isFull = fills
 
 module _ (capacity : ℕ) (P : Program) (entries : List Entry) (fit : All (EntryOk P) entries) where
@@ -243,7 +248,7 @@ module _ (capacity : ℕ) (P : Program) (entries : List Entry) (fit : All (Entry
       finish-ends P ((from-ok (rw j at (sound-stmt (applyScope P) (length (slotsOf store)) (callsBelow capacity P
       (length (P .callables))) (calleeIn (ceilingsBelow P (length (P .callables))))
       (calls-below capacity P callables (length (P .callables))) _ _ (applies (length (slotsOf store))
-      (calls-below capacity P callables (length (P .callables))) tables) (P .body)))) .run _
+      (calls-below capacity P callables (length (P .callables))) (look-all tables)) (P .body)))) .run _
       (record { store-fits = h; parameters-fit = nil; locals-fit = nil }))
 
 -- THE THEOREM: for all bytes that are accepted, and every capacity
@@ -257,8 +262,8 @@ accepted-ends capacity bytes bench e = let known = judged-ok bytes bench e in
 ends-told : (P : Program) (ceiling : ℕ) {o : Out (List Cell) Signal} → Ends P o
     → numbersOf (outcomeOf ceiling o) ≡ 3 ∷ [] → ⊥
 unfolding numbersOf toldWith outcomeOf ofSignal
-ends-told P ceiling (ends Done store steps q h) e = let z : _≡_ {A = ℕ} 1 3 = cc in omega arith
-ends-told P ceiling (ends Exit store steps q h) e = let z : _≡_ {A = ℕ} 2 3 = cc in omega arith
+ends-told P ceiling (ends Done store seen q h) e = let z : _≡_ {A = ℕ} 1 3 = cc in omega arith
+ends-told P ceiling (ends Exit store seen q h) e = let z : _≡_ {A = ℕ} 2 3 = cc in omega arith
 ends-told P ceiling fills e = let z : _≡_ {A = ℕ} 0 3 = cc in omega arith
 
 file-told : (capacity : ℕ) (j : Judged) → ((bench : Bench) → j ≡ accepted bench

@@ -349,11 +349,11 @@ all2-length nil = refl
 all2-length (cons r rs) = ap suc (all2-length rs)
 
 -- how many numbers a global of a shape has in the store
-numbersIn : Shape → ℕ
+unfoldable pub numbersIn : Shape → ℕ
 numbersIn (aVariable t) = 1
 numbersIn (aHeader widths) = suc (length widths)
 
-cell-length : {shape : Shape} {c : Cell} → CellFits shape c → length (slotsOfCell c) ≡ numbersIn shape
+pub cell-length : {shape : Shape} {c : Cell} → CellFits shape c → length (slotsOfCell c) ≡ numbersIn shape
 unfolding slotsOfCell numbersIn
 cell-length (variableFits h) = refl
 cell-length (validFits h) = ap suc (all2-length h)

@@ -5,9 +5,12 @@ pub mod Sound
 pub mod Callables
 pub mod Tables
 pub mod Refusals
+pub mod Readers
+pub mod Limits
 pub mod Accepted
+pub mod Alike
+pub mod Room
 pub mod Saturating
 pub mod Codec
 pub mod Same
 pub mod Promises
-pub mod Readers

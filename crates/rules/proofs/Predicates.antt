@@ -5,14 +5,14 @@ use mathlib.Core.Bool.{Bool, true, false, _&&_, false≢true}
 use mathlib.Core.Option.{Option, none, some}
 use Prim.Native.Nat.{ℕ, zero, suc, _+_, _≤_}
 use native.Mathlib.Omega.{arith}
-use mathlib.Core.List.{List, [], _∷_}
+use mathlib.Core.List.{List, [], _∷_, _++_}
 use lib.Dec.{leb}
-use lib.ListN.{getElem?}
+use lib.ListN.{getElem?, length, length-append}
 use borrow.Author.Tests.{leb-true}
 use Rattle.rules.specs.Reading.{Got, got, bad, Reader}
 use Rattle.rules.specs.Reading as Reading
 use Rattle.rules.specs.Form.{Res, ok, fault, _>>=_, named, need, andLook, onlyIf}
-use Rattle.rules.specs.Running.{Out, done, full, M, more, next, pure, tick, orStuck, must, gets, setTo, puts, change}
+use Rattle.rules.specs.Running.{State, Seen, Out, done, full, M, more, next, pure, tick, orStuck, must, gets, setTo, puts, change}
 use Rattle.rules.specs.Running as Running
 
 -- two tests that hold together
@@ -120,7 +120,12 @@ if-self (some a) = ifSome refl
 pub from-some : {A : Type 0} {P : A → Type 0} {a : A} → IfSome P (some a) → P a
 from-some (ifSome p) = p
 
--- looking into a list that fits another, and changing one member of it
+-- looking into a list, into one that fits another, and changing one member of it
+pub look-all : {A : Type 0} {P : A → Type 0} {xs : List A} → All P xs → (i : ℕ) → IfSome P (getElem? xs i)
+look-all none-left i = ifNone
+look-all (also p ps) zero = ifSome p
+look-all (also p ps) (suc i) = look-all ps i
+
 pub look-fits : {A B : Type 0} {R : A → B → Type 0} {xs : List A} {ys : List B} → All2 R xs ys → (i : ℕ) → IfSome (λ a.
     SomeOf (R a) (getElem? ys i)) (getElem? xs i)
 look-fits nil i = ifNone
@@ -190,24 +195,24 @@ equal = record { nought = refl; one = refl; sum = λ h k. omega arith }
 
 -- a run that is not stuck: its answer is as R says, the state still fits, and its steps stand to c as W says; or it is full
 pub data Good (W : ℕ → ℕ → Type 0) {S B : Type 0} (F : S → Type 0) (R : B → Type 0) (c : ℕ) : Out S B → Type 0 where
-  good : {b : B} {s : S} (n : ℕ) → R b → F s → W n c → Good W F R c (done b s n)
+  good : {b : B} {s : S} (seen : Seen) → R b → F s → W (length seen) c → Good W F R c (done b s seen)
   isFull : Good W F R c full
 
 pub record Runs (W : ℕ → ℕ → Type 0) {S B : Type 0} (F : S → Type 0) (R : B → Type 0) (c : ℕ) (m : M S B) : Type 0 where
   pub run : (s : S) → F s → Good W F R c (m s)
 
 module _ {W : ℕ → ℕ → Type 0} (counts : Counts W) where
-  good-more : {S B : Type 0} {F : S → Type 0} {R : B → Type 0} {c d k : ℕ} {o : Out S B} → W k d → Good W F R c o
-      → Good W F R (d + c) (more k o)
+  good-more : {S B : Type 0} {F : S → Type 0} {R : B → Type 0} {c d : ℕ} {o : Out S B} (seen : Seen)
+      → W (length seen) d → Good W F R c o → Good W F R (d + c) (more seen o)
   unfolding more
-  good-more {k} h (good n r f q) = good (k + n) r f (counts .sum h q)
-  good-more h isFull = isFull
+  good-more seen h (good later r f q) = good (seen ++ later) r f (rw (length-append seen later) (counts .sum h q))
+  good-more seen h isFull = isFull
 
   good-next : {S A B : Type 0} {F : S → Type 0} {R : A → Type 0} {Q : B → Type 0} {c d : ℕ} {o : Out S A} {k : A
       → M S B}
       → Good W F R c o → ((a : A) → R a → Runs W F Q d (k a)) → Good W F Q (c + d) (next o k)
   unfolding next
-  good-next (good n r f q) h = good-more q ((h _ r) .run _ f)
+  good-next (good seen r f q) h = good-more seen q ((h _ r) .run _ f)
   good-next isFull h = isFull
 
   pub runs-then : {S A B : Type 0} {F : S → Type 0} {R : A → Type 0} {Q : B → Type 0} {c d : ℕ} {m : M S A} {k : A
@@ -216,19 +221,19 @@ module _ {W : ℕ → ℕ → Type 0} (counts : Counts W) where
   unfolding Running._>>=_
   runs-then h g = record { run = λ s f. good-next (h .run s f) g }
 
-  pub runs-tick : {S A : Type 0} {F : S → Type 0} {R : A → Type 0} {c : ℕ} {m : M S A} → Runs W F R c m
+  pub runs-tick : {A : Type 0} {F : State → Type 0} {R : A → Type 0} {c : ℕ} {m : M State A} → Runs W F R c m
       → Runs W F R (1 + c) (tick m)
   unfolding tick
-  runs-tick h = record { run = λ s f. good-more {d = 1} (counts .one) (h .run s f) }
+  runs-tick h = record { run = λ s f. good-more {d = 1} (s .store ∷ []) (counts .one) (h .run s f) }
 
   pub runs-pure : {S A : Type 0} {F : S → Type 0} {R : A → Type 0} (a : A) → R a → Runs W F R 0 (pure a)
   unfolding pure
-  runs-pure a r = record { run = λ s f. good 0 r f (counts .nought) }
+  runs-pure a r = record { run = λ s f. good [] r f (counts .nought) }
 
   good-some : {S A : Type 0} {F : S → Type 0} {R : A → Type 0} {o : Option A} (s : S) → SomeOf R o → F s
       → Good W F R 0 (orStuck o s)
   unfolding orStuck
-  good-some s (isSome r) f = good 0 r f (counts .nought)
+  good-some s (isSome r) f = good [] r f (counts .nought)
 
   pub runs-some : {S A : Type 0} {F : S → Type 0} {R : A → Type 0} {o : Option A} → SomeOf R o
       → Runs W F R 0 (orStuck o)
@@ -236,7 +241,7 @@ module _ {W : ℕ → ℕ → Type 0} (counts : Counts W) where
 
   pub runs-must : {S : Type 0} {F : S → Type 0} (b : Bool) → b ≡ true → Runs W F (λ _. Unit {0}) 0 (must b)
   unfolding must
-  runs-must true e = record { run = λ s f. good 0 tt f (counts .nought) }
+  runs-must true e = record { run = λ s f. good [] tt f (counts .nought) }
   runs-must false e = absurd (false≢true e)
 
   pub runs-gets : {S A : Type 0} {F : S → Type 0} {R : A → Type 0} {g : S → Option A} → ((s : S) → F s
@@ -246,7 +251,7 @@ module _ {W : ℕ → ℕ → Type 0} (counts : Counts W) where
 
   good-set : {S : Type 0} {F : S → Type 0} {o : Option S} → SomeOf F o → Good W F (λ _. Unit {0}) 0 (setTo o)
   unfolding setTo
-  good-set (isSome f) = good 0 tt f (counts .nought)
+  good-set (isSome f) = good [] tt f (counts .nought)
 
   pub runs-puts : {S : Type 0} {F : S → Type 0} {g : S → Option S} → ((s : S) → F s → SomeOf F (g s)) → Runs W F (λ _.
       Unit {0}) 0 (puts g)
@@ -255,7 +260,7 @@ module _ {W : ℕ → ℕ → Type 0} (counts : Counts W) where
 
 good-map : {W : ℕ → ℕ → Type 0} {S A : Type 0} {F : S → Type 0} {R Q : A → Type 0} {c : ℕ} {o : Out S A} → ((a : A)
     → R a → Q a) → Good W F R c o → Good W F Q c o
-good-map g (good n r f q) = good n (g _ r) f q
+good-map g (good seen r f q) = good seen (g _ r) f q
 good-map g isFull = isFull
 
 pub runs-map : {W : ℕ → ℕ → Type 0} {S A : Type 0} {F : S → Type 0} {R Q : A → Type 0} {c : ℕ} {m : M S A}
@@ -265,7 +270,7 @@ runs-map h g = record { run = λ s f. good-map g (h .run s f) }
 -- at most a smaller ceiling is at most a larger one
 good-le : {S B : Type 0} {F : S → Type 0} {R : B → Type 0} {c d : ℕ} {o : Out S B} → c ≤ d → Good _≤_ F R c o
     → Good _≤_ F R d o
-good-le h (good n r f q) = good n r f (omega arith)
+good-le h (good seen r f q) = good seen r f (omega arith)
 good-le h isFull = isFull
 
 pub runs-le : {S A : Type 0} {F : S → Type 0} {R : A → Type 0} {c d : ℕ} {m : M S A} → c ≤ d → Runs _≤_ F R c m

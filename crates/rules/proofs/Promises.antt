@@ -12,12 +12,14 @@ use Rattle.rules.specs.Numbers.{mostBytes, numbers, streamOf, bytesOf}
 use Rattle.rules.specs.Syntax.{Program}
 use Rattle.rules.specs.Ceiling.{mostSteps, calleeIn, ceilingsBelow, ceilingOf}
 use Rattle.rules.specs.Lists.{Cell, slotsOf}
-use Rattle.rules.specs.Running.{callsBelow, runProgram}
-use Rattle.rules.specs.Answers.{ofRead, ofWrite, ofJudge, ofRun, readSays, writeSays, judgeSays, runSays, Bench, judged, accepted, marked}
+use Rattle.rules.specs.Running.{full, callsBelow, runProgram}
+use Rattle.rules.specs.Answers.{ofRead, ofWrite, ofJudge, ofRun, readSays, writeSays, judgeSays, runSays, Bench, judged, accepted, workingSlots, marked}
 use Rattle.rules.proofs.Fits.{StoreFits, store-length}
 use Rattle.rules.proofs.Sound.{CallsOk}
 use Rattle.rules.proofs.Callables.{AllJudged, calls-below}
 use Rattle.rules.proofs.Accepted.{Ends, accepted-ends, never-stuck, Answered, judge-answers}
+use Rattle.rules.proofs.Limits.{mostSlots}
+use Rattle.rules.proofs.Room.{accepted-same, accepted-not-full}
 use Rattle.rules.proofs.Saturating.{countOf, same-refusal, exact-below}
 use Rattle.rules.proofs.Codec.{Below, read-write, write-one-form, write-below}
 use Rattle.rules.proofs.Same.{read-same, write-same, judge-same, run-same}
@@ -34,6 +36,18 @@ sound = accepted-ends
 
 pub result-not-stuck : (bytes : List ℕ) → marked bytes ≡ 3 ∷ [] → ⊥
 result-not-stuck = never-stuck
+
+-- Nor is it full: a store has at most 544 numbers, at most 16 calls are open at once, and each takes at most 16 slots.
+pub never-full : (bytes : List ℕ) (bench : Bench) → judged bytes ≡ accepted bench
+    → runProgram workingSlots (bench .program) (bench .entries) (bench .store) ≡ full → ⊥
+never-full = accepted-not-full
+
+-- With these 800 slots (`mostSlots` of Limits) or more, how many there are makes no difference.
+pub same-with-room : (capacity another : ℕ) → mostSlots ≤ capacity → mostSlots ≤ another → (bytes : List ℕ)
+    (bench : Bench) → judged bytes ≡ accepted bench
+    → runProgram capacity (bench .program) (bench .entries) (bench .store)
+    ≡ runProgram another (bench .program) (bench .entries) (bench .store)
+same-with-room = accepted-same
 
 -- Stores that fit one program, as the first and the last of a run do, have as many numbers.
 pub as-many-numbers : (P : Program) (cs ds : List Cell) → StoreFits P cs → StoreFits P ds

@@ -16,7 +16,7 @@ use Rattle.rules.specs.Form.{Res, ok, _>>=_, named, need, onlyIf, sameTy
 use Rattle.rules.specs.Form.{judgePlace, judgeHeaderAt, judgeOperator, Given, typesAgree, placesAgree, judgeGiven, functionTy, mayCall, judgeExpr, judgeArgs, judgeReturned, isApply, isFunction, judgeStmt, judgeStmts, returnsOn, someReturns, bodyOf, scopeOf, judgeCallable}
 use Rattle.rules.specs.Ceiling.{ceilingExpr, ceilingArgs, ceilingStmt, ceilingStmts, noTable}
 use Rattle.rules.specs.Lists.{Cell}
-use Rattle.rules.specs.Running.{State, Ending, onward, returned, returnedValue, exited, Out, full, M, tick, orStuck, must, nowhere, declared, readAt, writeAt, changeHeader, validAt, validIn, changeStore, makeValid, makeInvalid}
+use Rattle.rules.specs.Running.{State, Ending, onward, returned, returnedValue, exited, Seen, Out, full, M, tick, orStuck, must, nowhere, declared, readAt, writeAt, changeHeader, validAt, validIn, changeStore, makeValid, makeInvalid}
 use Rattle.rules.specs.Running.{choose, logicWith, binaryWith, andThenRun, valueOf, afterCall, bodyEnded, Calls, enter, onStore, declaredAs, outPlace, takeIn, goIn, writeBack, inTurn, comeBack, afterBody, runCall, runExpr, runArgs, returnedFrom, notInFunction, runStmt, runStmts, left, leave, fresh, runBody}
 use Rattle.rules.specs.Running as Running
 use Rattle.rules.proofs.Predicates.{and-both, All2, nil, cons, IfOk, isOk, isFault, IfSome, ifNone, ifSome, SomeOf, isSome, ok-then, ok-map, ok-self, ok-and, ok-found, ok-need, from-ok, some-then, from-some}
@@ -91,13 +91,6 @@ module _ {S : Type 0} {F : S → Type 0} where
       isOk (runs-le (omega arith) (runs-then at-most h λ v hv. logic-ok o (rw (← e) at hv) (runs-then at-most k λ x hx.
       runs-some at-most (bool-ok (rw (← q) at hx)))))
 
-  literal-ok : (at : ℕ) (t : Ty) (n : ℕ) → IfOk (λ u.
-      Runs _≤_ F (HasTy u) 1 (tick (orStuck (onlyIf (fits t n) (some (value t n)))))) (need 7 at (fits t n) >>= λ _.
-      ok t)
-  unfolding onlyIf
-  literal-ok at t n = ok-then (ok-need 7 at (fits t n)) λ _ e.
-      isOk (rw e (runs-tick at-most (runs-some at-most (isSome (has e)))))
-
   and-then-ok : {b : Body} {m k : Bool} {c : ℕ} {n : M S Ending} {e : Ending} → EndOk b m e
       → Runs _≤_ F (EndOk b k) c n → Runs _≤_ F (EndOk b (m || k)) c (andThenRun e n)
   unfolding andThenRun
@@ -116,6 +109,13 @@ module _ {S : Type 0} {F : S → Type 0} where
       not-true : (t : Bool) → not t ≡ true → t ≡ false
       not-true true p = absurd (false≢true p)
       not-true false p = refl
+
+literal-ok : {F : State → Type 0} (at : ℕ) (t : Ty) (n : ℕ) → IfOk (λ u.
+    Runs _≤_ F (HasTy u) 1 (tick (orStuck (onlyIf (fits t n) (some (value t n)))))) (need 7 at (fits t n) >>= λ _.
+    ok t)
+unfolding onlyIf
+literal-ok at t n = ok-then (ok-need 7 at (fits t n)) λ _ e.
+    isOk (rw e (runs-tick at-most (runs-some at-most (isSome (has e)))))
 
 -- what the meaning of calls below `reach` gives: each callable there runs on numbers that fit its parameters
 abbrev pub CallResult : Callable → Ending × List ℕ → Type 0
@@ -325,7 +325,7 @@ one-step callee (callExpr at f xs) = omega arith
 enter-good : (Γ : Scope) {A : Type 0} {R : A → Type 0} {c : ℕ} {s : State} {o : Out (List Cell) A} → StateFits Γ s
     → Good _≤_ (StoreFits (Γ .program)) R c o → Good _≤_ (StateFits Γ) R c (enter s o)
 unfolding enter
-enter-good Γ f (good n r g q) = good n r (with-store Γ f g) q
+enter-good Γ f (good seen r g q) = good seen r (with-store Γ f g) q
 enter-good Γ f isFull = isFull
 
 pub on-store : (Γ : Scope) {A : Type 0} {R : A → Type 0} {c : ℕ} {m : M (List Cell) A}
@@ -540,18 +540,18 @@ unfolding scopeOf fresh
 fresh-fits P n c cells ns hc hns = record { store-fits = hc; parameters-fit = hns; locals-fit = zeros-fit (c .locals) }
 
 module _ (capacity : ℕ) (P : Program) where
-  left-good : (c : Callable) {k n : ℕ} {o : Option Ending} {ns : List ℕ} {cells : List Cell}
-      → SomeOf (EndOk (bodyOf (c .returns)) true) o → All2 FitParameter (c .parameters) ns → StoreFits P cells → n ≤ k
-      → Good _≤_ (StoreFits P) (CallResult c) k (left ns cells n o)
+  left-good : (c : Callable) {k : ℕ} {o : Option Ending} {ns : List ℕ} {cells : List Cell} (seen : Seen)
+      → SomeOf (EndOk (bodyOf (c .returns)) true) o → All2 FitParameter (c .parameters) ns → StoreFits P cells
+      → length seen ≤ k → Good _≤_ (StoreFits P) (CallResult c) k (left ns cells seen o)
   unfolding left
-  left-good c {n} (isSome h) hns hc q = good n (h, hns) hc q
+  left-good c seen (isSome h) hns hc q = good seen (h, hns) hc q
 
   leave-good : (n : ℕ) (c : Callable) (m : Bool) {k : ℕ} {o : Out State Ending}
       → (not (isFunction (bodyOf (c .returns))) || m) ≡ true
       → Good _≤_ (StateFits (scopeOf P n c)) (EndOk (bodyOf (c .returns)) m) k o
       → Good _≤_ (StoreFits P) (CallResult c) k (leave (c .returns) o)
   unfolding leave scopeOf
-  leave-good n c m w (good j r f q) = left-good c (body-ends (c .returns) (must-end (c .returns) m w r))
+  leave-good n c m w (good seen r f q) = left-good c seen (body-ends (c .returns) (must-end (c .returns) m w r))
       (f .parameters-fit) (f .store-fits) q
   leave-good n c m w isFull = isFull
 

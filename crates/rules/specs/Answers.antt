@@ -134,7 +134,7 @@ pub data Outcome : Type 0 where
   fills sticks : Outcome
 
 unfoldable pub outcomeOf : ℕ → Out (List Cell) Signal → Outcome
-outcomeOf ceiling (done signal store steps) = ended signal steps ceiling (slotsOf store)
+outcomeOf ceiling (done signal store seen) = ended signal (length seen) ceiling (slotsOf store)
 outcomeOf ceiling stuck = sticks
 outcomeOf ceiling full = fills
 

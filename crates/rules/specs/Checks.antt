@@ -6,16 +6,33 @@ use Prim.Native.Nat.{ℕ, zero, suc, _+_}
 use mathlib.Core.List.{List, [], _∷_, _++_}
 use lib.ListN.{length, replicate}
 use Rattle.rules.specs.Numbers.{bytesOf}
-use Rattle.rules.specs.Answers.{judged, Outcome, fileOutcome, runWith, toldByRun, resultsAfter, workingAfter, cleared, filled, numbersOf, marked, unjudged}
+use Rattle.rules.specs.declared.Signal.{Signal}
+use Rattle.rules.specs.Lists.{Cell, slotsOf}
+use Rattle.rules.specs.Running.{Seen, Out, done, stuck, full, runProgram}
+use Rattle.rules.specs.Answers.{Judged, accepted, refused, judged, workingSlots, Outcome, fileOutcome, runWith, toldByRun, resultsAfter, workingAfter, cleared, filled, numbersOf, marked, unjudged}
 use Rattle.rules.specs.Lines.{wordOf, digitsBefore, decimal, behindBlanks, betweenBlanks, refusedLine, linesOf, printed}
+
+-- the stores that the steps of a run saw, one behind the other
+unfoldable pub numbersSeen : Seen → List ℕ
+numbersSeen [] = []
+numbersSeen (store ∷ later) = slotsOf store ++ numbersSeen later
+
+unfoldable pub seenIn : Out (List Cell) Signal → List ℕ
+seenIn (done signal store seen) = numbersSeen seen
+seenIn stuck = []
+seenIn full = []
+
+unfoldable pub seenBy : Judged → List ℕ
+seenBy (accepted bench) = seenIn (runProgram workingSlots (bench .program) (bench .entries) (bench .store))
+seenBy (refused number place) = []
 
 pub data Origin : Type 0 where
   paper ours : Origin
 
--- what is looked at: bytes; numbers, written as bytes; the same unjudged; its lines; with another capacity; with
--- slots lent
+-- what is looked at: bytes; numbers, written as bytes; the same unjudged; its lines; what its steps see; with another
+-- capacity; with slots lent
 pub data Given : Type 0 where
-  bytes bench program lines : List ℕ → Given
+  bytes bench program lines steps : List ℕ → Given
   within : ℕ → List ℕ → Given
   lending : ℕ → List ℕ → List ℕ → List ℕ → Given
 
@@ -29,6 +46,7 @@ gives (bytes s) = marked s
 gives (bench ns) = marked (bytesOf ns)
 gives (program ns) = unjudged (bytesOf ns)
 gives (lines ns) = printed (bytesOf ns)
+gives (steps ns) = seenBy (judged (bytesOf ns))
 gives (within capacity ns) = numbersOf (fileOutcome capacity (judged (bytesOf ns)))
 gives (lending capacity ns results working) =
     answerAndSlots capacity (runWith capacity (length results) (length working) (judged (bytesOf ns))) results working
@@ -76,7 +94,7 @@ abbrev parameterThenGlobal : List ℕ
 parameterThenGlobal = inoutInto (3 ∷ 2 ∷ 1 ∷ 3 ∷ 0 ∷ 1 ∷ 8 ∷ 2 ∷ 1 ∷ 4 ∷ 0 ∷ 1 ∷ 8 ∷ 1 ∷ [])
 
 pub checks : List Row
-unfolding marked unjudged gives answerAndSlots toldByRun resultsAfter workingAfter cleared filled runWith wordOf digitsBefore decimal behindBlanks betweenBlanks refusedLine linesOf printed
+unfolding marked unjudged numbersSeen seenIn seenBy gives answerAndSlots toldByRun resultsAfter workingAfter cleared filled runWith wordOf digitsBefore decimal behindBlanks betweenBlanks refusedLine linesOf printed
 checks =
     -- the example of 41 bytes, with other ends, and with a parameter that is too wide
     row paper (bench (example ++ (1 ∷ 6 ∷ 2 ∷ []))) (1 ∷ 4 ∷ 4 ∷ 1 ∷ 6 ∷ 9 ∷ []) refl
@@ -107,6 +125,8 @@ checks =
     -- leave at 1
     ∷ row paper (bench globalThenParameter) (1 ∷ 7 ∷ 7 ∷ 2 ∷ []) refl
     ∷ row ours (bench parameterThenGlobal) (1 ∷ 7 ∷ 7 ∷ 2 ∷ []) refl
+    -- each step sees the store as its construct begins: call, argument, block, assign, literal, assign, literal
+    ∷ row ours (steps globalThenParameter) (0 ∷ 0 ∷ 0 ∷ 0 ∷ 0 ∷ 1 ∷ 1 ∷ []) refl
     -- out parameters 1 and 2 on one place: the last is written last
     ∷ row ours (bench (1 ∷ 0 ∷ 1 ∷ 8 ∷ 1 ∷ 0 ∷ 2 ∷ 2 ∷ 8 ∷ 2 ∷ 8 ∷ 0 ∷ 3 ∷ 2 ∷ 1 ∷ 3 ∷ 0 ∷ 1 ∷ 8 ∷ 1 ∷ 1 ∷ 3 ∷ 1
     ∷ 1 ∷ 8 ∷ 2 ∷ 0 ∷ 4 ∷ 0 ∷ 2 ∷ 4 ∷ 0 ∷ 4 ∷ 0 ∷ 0 ∷ 0 ∷ []))

@@ -1,12 +1,12 @@
--- How it runs (document 01, the section of that name). A construct runs to an answer, a later state and a number of
--- steps; it is stuck where its values, places, names or argument counts are not as "What is well formed" asks; it
--- is full where a call's slots pass the capacity. Directions, copy-in and copy-out are those of source document
--- 000, section 2.2; an out parameter starts at 0, as that document's prose has it and its call rule has not. Calls
--- and signals are 004's.
+-- How it runs (document 01, the section of that name). A construct runs to an answer, a later state and the stores
+-- that its steps saw; it is stuck where its values, places, names or argument counts are not as "What is well formed"
+-- asks; it is full where a call's slots pass the capacity. Directions, copy-in and copy-out are those of source
+-- document 000, section 2.2; an out parameter starts at 0, as that document's prose has it and its call rule has not.
+-- Calls and signals are 004's.
 use mathlib.Core.Bool.{Bool, true, false, not, _&&_, _||_}
 use mathlib.Core.Option.{Option, none, some}
 use Prim.Native.Nat.{ℕ, zero, suc, _+_, _-_}
-use mathlib.Core.List.{List, [], _∷_, map}
+use mathlib.Core.List.{List, [], _∷_, _++_, map}
 use lib.Dec.{ltb, leb, eqb}
 use lib.Bits.{bitAnd, bitOr, bitXor}
 use lib.ListN.{getElem?, length}
@@ -36,21 +36,25 @@ pub data Ending : Type 0 where
   returnedValue : Value → Ending
   exited : Ending
 
--- an answer with the later state and the steps taken; stuck; full
+-- the store as it stood just before each step: there are as many steps as stores
+abbrev pub Seen : Type 0
+Seen = List (List Cell)
+
+-- an answer with the later state and what was seen; stuck; full
 pub data Out (S A : Type 0) : Type 0 where
-  done : A → S → ℕ → Out S A
+  done : A → S → Seen → Out S A
   stuck full : Out S A
 
 abbrev pub M : Type 0 → Type 0 → Type 0
 M S A = S → Out S A
 
-unfoldable pub more : {S A : Type 0} → ℕ → Out S A → Out S A
-more k (done a s n) = done a s (k + n)
-more k stuck = stuck
-more k full = full
+unfoldable pub more : {S A : Type 0} → Seen → Out S A → Out S A
+more seen (done a s later) = done a s (seen ++ later)
+more seen stuck = stuck
+more seen full = full
 
 unfoldable pub next : {S A B : Type 0} → Out S A → (A → M S B) → Out S B
-next (done a s n) k = more n (k a s)
+next (done a s seen) k = more seen (k a s)
 next stuck k = stuck
 next full k = full
 
@@ -58,21 +62,21 @@ unfoldable pub _>>=_ : {S A B : Type 0} → M S A → (A → M S B) → M S B
 _>>=_ m k s = next (m s) k
 
 unfoldable pub pure : {S A : Type 0} → A → M S A
-pure a s = done a s 0
+pure a s = done a s []
 
 unfoldable pub nowhere : {S A : Type 0} → M S A
 nowhere s = stuck
 
--- a step is counted as its construct begins
-unfoldable pub tick : {S A : Type 0} → M S A → M S A
-tick m s = more 1 (m s)
+-- a step is counted as its construct begins: it sees the store as it stands there
+unfoldable pub tick : {A : Type 0} → M State A → M State A
+tick m s = more (s .store ∷ []) (m s)
 
 unfoldable pub orStuck : {S A : Type 0} → Option A → M S A
 orStuck none s = stuck
-orStuck (some a) s = done a s 0
+orStuck (some a) s = done a s []
 
 unfoldable pub must : {S : Type 0} → Bool → M S (Unit {0})
-must true s = done tt s 0
+must true s = done tt s []
 must false s = stuck
 
 unfoldable pub gets : {S A : Type 0} → (S → Option A) → M S A
@@ -80,7 +84,7 @@ gets f s = orStuck (f s) s
 
 unfoldable pub setTo : {S : Type 0} → Option S → Out S (Unit {0})
 setTo none = stuck
-setTo (some s) = done tt s 0
+setTo (some s) = done tt s []
 
 unfoldable pub puts : {S : Type 0} → (S → Option S) → M S (Unit {0})
 puts f s = setTo (f s)
@@ -310,7 +314,7 @@ abbrev pub Calls : Type 0
 Calls = ℕ → ℕ → List ℕ → M (List Cell) (Ending × List ℕ)
 
 unfoldable pub enter : {A : Type 0} → State → Out (List Cell) A → Out State A
-enter s (done a cells n) = done a (withStore s cells) n
+enter s (done a cells seen) = done a (withStore s cells) seen
 enter s stuck = stuck
 enter s full = full
 
@@ -429,12 +433,12 @@ module _ (Γ : Scope) (used : ℕ) (calls : Calls) (applied : ℕ → M State En
     runStmts (stmt s ss) = runStmt s >>= λ ending. andThenRun ending (runStmts ss)
 
 -- a callable's body: what it leaves is the store and its parameters' numbers
-unfoldable pub left : List ℕ → List Cell → ℕ → Option Ending → Out (List Cell) (Ending × List ℕ)
-left ns cells n none = stuck
-left ns cells n (some ending) = done (ending, ns) cells n
+unfoldable pub left : List ℕ → List Cell → Seen → Option Ending → Out (List Cell) (Ending × List ℕ)
+left ns cells seen none = stuck
+left ns cells seen (some ending) = done (ending, ns) cells seen
 
 unfoldable pub leave : Option Ty → Out State Ending → Out (List Cell) (Ending × List ℕ)
-leave returns (done ending s n) = left (s .parameters) (s .store) n (bodyEnded returns ending)
+leave returns (done ending s seen) = left (s .parameters) (s .store) seen (bodyEnded returns ending)
 leave returns stuck = stuck
 leave returns full = full
 
@@ -595,7 +599,7 @@ signalOf (returnedValue v) = Done
 signalOf exited = Exit
 
 unfoldable pub finish : Out State Ending → Out (List Cell) Signal
-finish (done ending s n) = done (signalOf ending) (s .store) n
+finish (done ending s seen) = done (signalOf ending) (s .store) seen
 finish stuck = stuck
 finish full = full
 
