@@ -8,14 +8,15 @@ use lib.Bits.{bitAnd, bitOr, bitXor}
 use lib.Dec.{ltb, leb, eqb}
 use lib.ListN.{getElem?}
 use Rattle.rules.specs.Words.{sum, difference, product, shiftedLeft, shiftedRight}
-use Rattle.rules.specs.Syntax.{Arithmetic, plus, minus, times, and, or, xor, Order, less, lessOrEqual, Shift, shiftLeft, shiftRight, Equality, equal, unequal, both, either}
-use Rattle.rules.specs.Syntax.{Operator, arithmetic, order, shift, equality, logic}
+use Rattle.rules.specs.Syntax.{Operator, arithmetic, order, shift, equality, logic, both, either}
+use Rattle.rules.specs.Syntax.{Arithmetic, plus, minus, times, and, or, xor, Shift, shiftLeft, shiftRight}
+use Rattle.rules.specs.Syntax.{Equality, equal, unequal, Order, less, lessOrEqual}
 use Rattle.rules.specs.Reading.{operators}
-use Rattle.rules.specs.Lists.{markOf}
-use Rattle.rules.specs.Running.{calculate, compare, shiftBy, agree}
+use Rattle.rules.specs.Running.{calculate, compare, shiftBy, agree, truth}
 use Rattle.program.specs.Codes.{operatorNumber}
 use Rattle.values.specs.Claims.{valueOf, Gives, AsksTwo, binaryOn, AsksBinary, GivesBinary, Made}
-use Rattle.values.proofs.Results.{nothing, made-gives, right-below, arithmetic-is, shift-is, equality-is, order-is}
+use Rattle.values.proofs.Results.{nothing, made-gives, right-below}
+use Rattle.values.proofs.Results.{arithmetic-is, shift-is, equality-is, order-is}
 
 -- the operator of a number
 operator-at : (o : Operator) → getElem? (operators 1) (operatorNumber o) ≡ some o
@@ -52,40 +53,33 @@ module _ (operator t n u m : ℕ) (asks : AsksBinary operator t n u m) where
   minus-below e = right-below minus t n u m (asked (arithmetic minus) e)
 
   module _ (s k : ℕ) where
-    told : (p : Operator) (v w : ℕ) → operator ≡ operatorNumber p → Made v w s k
-        → Gives (binaryOn p (valueOf t n) (valueOf u m)) v w → GivesBinary operator t n u m s k
-    told p v w e made h =
-        let g : Gives (binaryOn p (valueOf t n) (valueOf u m)) s k = made-gives h made in
-        record {
-          given = λ o q. rw (operator-once o p (q ∙ e)) (g .given);
-          isValue = g .isValue;
-        }
+    told : (p : Operator) → operator ≡ operatorNumber p → Gives (binaryOn p (valueOf t n) (valueOf u m)) s k
+        → GivesBinary operator t n u m s k
+    told p e g = record { given = λ o q. rw (operator-once o p (q ∙ e)) (g .given); isValue = g .isValue }
 
     calculated : (x : Arithmetic) (w : ℕ) → operator ≡ operatorNumber (arithmetic x) → w ≡ calculate x t n m
         → Made t w s k → GivesBinary operator t n u m s k
     unfolding binaryOn
     calculated x w e q made =
-        told (arithmetic x) t (calculate x t n m) e (rw q at made)
-        (arithmetic-is x t n u m (asked (arithmetic x) e))
+        told (arithmetic x) e
+        (made-gives (arithmetic-is x t n u m (asked (arithmetic x) e)) (rw q at made))
 
     shifted : (x : Shift) (w : ℕ) → operator ≡ operatorNumber (shift x) → w ≡ shiftBy x t n m → Made t w s k
         → GivesBinary operator t n u m s k
     unfolding binaryOn
     shifted x w e q made =
-        told (shift x) t (shiftBy x t n m) e (rw q at made) (shift-is x t n u m (asked (shift x) e))
+        told (shift x) e (made-gives (shift-is x t n u m (asked (shift x) e)) (rw q at made))
 
     equalled : (x : Equality) (b : Bool) → operator ≡ operatorNumber (equality x) → b ≡ agree x (eqb n m)
-        → Made 0 (markOf b) s k → GivesBinary operator t n u m s k
+        → Gives (some (truth b)) s k → GivesBinary operator t n u m s k
     unfolding binaryOn
-    equalled x b e q made =
-        told (equality x) 0 (markOf (agree x (eqb n m))) e (rw q at made)
-        (equality-is x t n u m (asked (equality x) e))
+    equalled x b e q g =
+        told (equality x) e (rw (equality-is x t n u m (asked (equality x) e)) (rw q at g))
 
     compared : (x : Order) (b : Bool) → operator ≡ operatorNumber (order x) → b ≡ compare x n m
-        → Made 0 (markOf b) s k → GivesBinary operator t n u m s k
+        → Gives (some (truth b)) s k → GivesBinary operator t n u m s k
     unfolding binaryOn
-    compared x b e q made =
-        told (order x) 0 (markOf (compare x n m)) e (rw q at made) (order-is x t n u m (asked (order x) e))
+    compared x b e q g = told (order x) e (rw (order-is x t n u m (asked (order x) e)) (rw q at g))
 
     -- the arms: the operator's number, what words gives, the value made of it
     module _ (w : ℕ) where
@@ -122,15 +116,16 @@ module _ (operator t n u m : ℕ) (asks : AsksBinary operator t n u m) where
       right-told = shifted shiftRight w
 
     module _ (b : Bool) where
-      pub equal-told : operator ≡ 8 → b ≡ eqb n m → Made 0 (markOf b) s k → GivesBinary operator t n u m s k
+      pub equal-told : operator ≡ 8 → b ≡ eqb n m → Gives (some (truth b)) s k → GivesBinary operator t n u m s k
       unfolding operatorNumber agree
       equal-told = equalled equal b
 
-      pub unequal-told : operator ≡ 9 → b ≡ eqb n m → Made 0 (markOf (not b)) s k → GivesBinary operator t n u m s k
+      pub unequal-told : operator ≡ 9 → b ≡ eqb n m → Gives (some (truth (not b))) s k
+          → GivesBinary operator t n u m s k
       unfolding operatorNumber agree
-      unequal-told e q made = equalled unequal (not b) e (rw q) made
+      unequal-told e q g = equalled unequal (not b) e (rw q) g
 
-      pub less-told : operator ≡ 10 → b ≡ ltb n m → Made 0 (markOf b) s k → GivesBinary operator t n u m s k
+      pub less-told : operator ≡ 10 → b ≡ ltb n m → Gives (some (truth b)) s k → GivesBinary operator t n u m s k
       unfolding operatorNumber compare
       less-told = compared less b
 
@@ -155,10 +150,10 @@ module _ (operator t n u m s v : ℕ) (asks : AsksBinary operator t n u m) (a : 
   left-over (order lessOrEqual) q y = sym q
   left-over (logic o) q y = nothing (y .answered)
 
-  pub at-most-told : (y : Bool) → y ≡ leb n m → Made 0 (markOf y) s v → GivesBinary operator t n u m s v
+  pub at-most-told : (y : Bool) → y ≡ leb n m → Gives (some (truth y)) s v → GivesBinary operator t n u m s v
   unfolding operatorNumber compare
-  at-most-told y q made =
-      compared operator t n u m asks s v lessOrEqual y (left-over (asks .of) (asks .numbered) (asks .asks)) q made
+  at-most-told y q g =
+      compared operator t n u m asks s v lessOrEqual y (left-over (asks .of) (asks .numbered) (asks .asks)) q g
 
 pub ruleset arms = (
   left-most,

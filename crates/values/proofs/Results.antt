@@ -2,22 +2,24 @@
 -- fit; where there is an answer, its tests hold.
 use mathlib.Core.Bool.{Bool, true, false}
 use mathlib.Core.Option.{Option, none, some}
-use mathlib.Core.Path.{_≡_, refl, sym, _∙_}
+use mathlib.Core.Path.{_≡_, refl}
 use Prim.Native.Nat.{ℕ, zero, suc, _+_, _-_, _^_, _≤_, _<_}
 use native.Mathlib.Omega.{arith}
 use lib.Dec.{ltb, leb, eqb}
 use borrow.Author.Tests.{eqb-true, ltb-true, leb-true}
 use Rattle.rules.specs.Words.{widest, fitsWidth, complementOf, castTo, sliceFits, sliceWidth, sliceOf, joinFits, joined}
-use Rattle.rules.specs.Syntax.{Ty, bool, bits, Value, value, Arithmetic, Order, Shift, Equality}
+use Rattle.rules.specs.Syntax.{Ty, bits, Value, value, Arithmetic, Order, Shift, Equality}
 use Rattle.rules.specs.Form.{onlyIf, sameTy, fits}
 use Rattle.rules.specs.Lists.{markOf}
-use Rattle.rules.specs.Running.{calculate, compare, shiftBy, agree, truth, arithmeticOn, orderOn, shiftOn, equalityOn, notOn, complementOn, castOn, sliceOn, concatenationOn}
+use Rattle.rules.specs.Running.{calculate, compare, shiftBy, agree, truth, arithmeticOn, orderOn, shiftOn, equalityOn}
+use Rattle.rules.specs.Running.{notOn, complementOn, castOn, sliceOn, concatenationOn}
 use Rattle.rules.proofs.Predicates.{SomeOf, isSome, and-both}
 use Rattle.rules.proofs.Fitting.{joined-in-word}
-use Rattle.rules.proofs.Fits.{HasTy, has, sameTy-true, arithmetic-ok, order-ok, shift-ok, equality-ok, not-ok, complement-ok, cast-ok, slice-ok, concatenation-ok}
+use Rattle.rules.proofs.Fits.{HasTy, has, sameTy-true, truth-has, arithmetic-ok, shift-ok}
+use Rattle.rules.proofs.Fits.{not-ok, complement-ok, cast-ok, slice-ok, concatenation-ok}
 use Rattle.program.specs.Codes.{tyOf}
 use Rattle.program.proofs.Members.{bits-of}
-use Rattle.values.specs.Claims.{valueOf, IsValue, Gives, AsksOne, AsksCast, AsksTwo, Made}
+use Rattle.values.specs.Claims.{valueOf, Gives, AsksOne, AsksCast, AsksTwo, Made}
 
 pub nothing : {A B : Type 0} {a : A} → _≡_ {A = Option A} none (some a) → B
 nothing e = let z : _≡_ {A = ℕ} 0 1 = cc in absurd (omega arith)
@@ -31,7 +33,8 @@ tested o false e = nothing e
 fitting : {t : Ty} {o : Option Value} {n : ℕ} → SomeOf (HasTy t) o → o ≡ some (value t n) → fits t n ≡ true
 fitting {n} (isSome (has {n = m} h)) e = let same : m ≡ n = cc in rw (← same) h
 
-gives : {o : Option Value} (t n : ℕ) → t ≤ widest → o ≡ some (value (tyOf t) n) → SomeOf (HasTy (tyOf t)) o → Gives o t n
+gives : {o : Option Value} (t n : ℕ) → t ≤ widest → o ≡ some (value (tyOf t) n) → SomeOf (HasTy (tyOf t)) o
+    → Gives o t n
 unfolding valueOf
 gives t n most e h = record { given = e; isValue = record { most = most; fit = fitting h e } }
 
@@ -41,6 +44,22 @@ fits-below w n h = ltb-true n (2 ^ w) h
 
 pub made-gives : {o : Option Value} {t n s k : ℕ} → Gives o t n → Made t n s k → Gives o s k
 made-gives h m = rw (m .tyIs, m .numberIs) h
+
+-- truths
+truth-gives : (b : Bool) → Gives (some (truth b)) 0 (markOf b)
+unfolding truth tyOf
+truth-gives b = gives 0 (markOf b) (omega arith) refl (isSome (truth-has b))
+
+module _ (b : Bool) (s k : ℕ) where
+  pub true-told : b ≡ true → Made 0 1 s k → Gives (some (truth b)) s k
+  unfolding markOf
+  true-told e made = made-gives (rw e (truth-gives true)) made
+
+  pub false-told : b ≡ false → Made 0 0 s k → Gives (some (truth b)) s k
+  unfolding markOf
+  false-told e made = made-gives (rw e (truth-gives false)) made
+
+pub ruleset truths = (true-told, false-told)
 
 -- one value
 not-is : (t n : ℕ) → AsksOne notOn t n → Gives (notOn (valueOf t n)) 0 (1 - n)
@@ -122,22 +141,16 @@ shift-is x (suc t) n (suc u) m h =
     (shift-ok x (has (h .first .fit)) (has (h .second .fit)))
 
 pub equality-is : (x : Equality) (t n u m : ℕ) → AsksTwo (equalityOn x) t n u m
-    → Gives (equalityOn x (valueOf t n) (valueOf u m)) 0 (markOf (agree x (eqb n m)))
-unfolding equalityOn valueOf truth tyOf onlyIf
-equality-is x t n u m h =
-    let e : sameTy (tyOf t) (tyOf u) ≡ true = tested _ (sameTy (tyOf t) (tyOf u)) (h .answered) in
-    gives 0 (markOf (agree x (eqb n m))) (omega arith) (rw e)
-    (equality-ok x (has (h .first .fit)) (same-has e (h .second .fit)))
+    → equalityOn x (valueOf t n) (valueOf u m) ≡ some (truth (agree x (eqb n m)))
+unfolding equalityOn valueOf onlyIf
+equality-is x t n u m h = rw (tested _ (sameTy (tyOf t) (tyOf u)) (h .answered))
 
 pub order-is : (x : Order) (t n u m : ℕ) → AsksTwo (orderOn x) t n u m
-    → Gives (orderOn x (valueOf t n) (valueOf u m)) 0 (markOf (compare x n m))
-unfolding orderOn valueOf truth tyOf onlyIf sameTy
+    → orderOn x (valueOf t n) (valueOf u m) ≡ some (truth (compare x n m))
+unfolding orderOn valueOf tyOf onlyIf
 order-is x zero n u m h = nothing (h .answered)
 order-is x (suc t) n zero m h = nothing (h .answered)
-order-is x (suc t) n (suc u) m h =
-    let e : eqb (suc t) (suc u) ≡ true = tested _ (eqb (suc t) (suc u)) (h .answered) in
-    gives 0 (markOf (compare x n m)) (omega arith) (rw e)
-    (order-ok x (has (h .first .fit)) (same-has e (h .second .fit)))
+order-is x (suc t) n (suc u) m h = rw (tested _ (eqb (suc t) (suc u)) (h .answered))
 
 join-tested : (t n u m : ℕ) → AsksTwo concatenationOn t n u m → (1 ≤ t) × (1 ≤ u) × (joinFits t u ≡ true)
 unfolding concatenationOn valueOf tyOf

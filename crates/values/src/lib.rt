@@ -1,7 +1,7 @@
 // What the runner does with values once operands are worked out: operators, casts, slices, concatenations. Each answer
 // is the rules' own, and fits its type.
-ghost use Rattle.rules.specs.Lists.{markOf};
-ghost use Rattle.rules.specs.Running.{notOn, complementOn, castOn, sliceOn, concatenationOn};
+ghost use mathlib.Core.Option.{some};
+ghost use Rattle.rules.specs.Running.{truth, notOn, complementOn, castOn, sliceOn, concatenationOn};
 ghost use Rattle.values.specs.Claims.{valueOf, Gives, AsksOne, AsksCast, AsksTwo, AsksBinary, GivesBinary, Made};
 use words::arithmetic::difference;
 use words::arithmetic::product;
@@ -63,7 +63,7 @@ fn typed(ty: u64, number: u64) -> Value
 
 // A truth as a value.
 fn truth(holds: bool) -> Value
-    ensures { λ r. ⌜ Made 0 (markOf holds) (r .ty) (r .number) ⌝ }
+    ensures { λ r. ⌜ Gives (some (truth holds)) (r .ty) (r .number) ⌝ }
 {
     if holds {
         typed(BOOL, 1)
