@@ -3,7 +3,7 @@
 use mathlib.Core.Bool.{Bool, not}
 use mathlib.Core.Option.{some}
 use mathlib.Core.Path.{_≡_, refl, sym, _∙_}
-use Prim.Native.Nat.{ℕ, _^_, _≤_, _<_}
+use Prim.Native.Nat.{ℕ, _^_, _<_}
 use lib.Bits.{bitAnd, bitOr, bitXor}
 use lib.Dec.{ltb, leb, eqb}
 use lib.ListN.{getElem?}
@@ -44,9 +44,6 @@ operator-once o p e =
 module _ (operator t n u m : ℕ) (asks : AsksBinary operator t n u m) where
   asked : (p : Operator) → operator ≡ operatorNumber p → AsksTwo (binaryOn p) t n u m
   asked p e = rw (operator-once (asks .of) p (asks .numbered ∙ e)) at (asks .asks)
-
-  pub left-most : t ≤ 64
-  left-most = asks .asks .first .most
 
   pub minus-below : operator ≡ 1 → m < 2 ^ t
   unfolding operatorNumber binaryOn
@@ -156,7 +153,6 @@ module _ (operator t n u m s v : ℕ) (asks : AsksBinary operator t n u m) (a : 
       compared operator t n u m asks s v lessOrEqual y (left-over (asks .of) (asks .numbered) (asks .asks)) q g
 
 pub ruleset arms = (
-  left-most,
   minus-below,
   plus-told,
   minus-told,

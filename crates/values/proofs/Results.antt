@@ -169,7 +169,7 @@ join-is (suc t) n (suc u) m h =
     gives (suc t + suc u) (joined (suc u) n m) (leb-true (suc t + suc u) widest e) (rw (e, ty))
     (rw ty (concatenation-ok e (has (h .first .fit)) (has (h .second .fit))))
 
--- the same of the value that is made; what a function of words asks
+-- what a function of words asks; what the value that is made of its result is
 pub not-below : (t n : ℕ) → AsksOne notOn t n → n ≤ 1
 unfolding notOn valueOf tyOf fits
 not-below zero n h = omega (arith, ltb-true n 2 (h .operand .fit))
@@ -179,9 +179,6 @@ pub complement-asks : (t n : ℕ) → AsksOne complementOn t n → (t ≤ 64) ×
 unfolding complementOn valueOf tyOf
 complement-asks zero n h = nothing (h .answered)
 complement-asks (suc t) n h = (h .operand .most, fits-below (suc t) n (h .operand .fit))
-
-pub cast-asks : (width t n : ℕ) → AsksCast width t n → width ≤ 64
-cast-asks width t n h = h .most
 
 module _ (high low t n : ℕ) (h : AsksOne (sliceOn high low) t n) where
   pub slice-low : low ≤ high
@@ -204,26 +201,26 @@ module _ (t n u m : ℕ) (h : AsksTwo concatenationOn t n u m) where
             (fits-below u m (rw (bits-of u (parts .1)) at (h .second .fit))),
       )
 
-module _ (t n v s k : ℕ) where
+module _ (t n s k : ℕ) where
   pub not-told : AsksOne notOn t n → Made 0 (1 - n) s k → Gives (notOn (valueOf t n)) s k
   not-told h made = made-gives (not-is t n h) made
 
-  pub complement-told : AsksOne complementOn t n → v ≡ complementOf t n → Made t v s k
+  pub complement-told : (v : ℕ) → AsksOne complementOn t n → v ≡ complementOf t n → Made t v s k
       → Gives (complementOn (valueOf t n)) s k
-  complement-told h e made = made-gives (complement-is t n h) (rw e at made)
+  complement-told v h e made = made-gives (complement-is t n h) (rw e at made)
 
-  pub cast-told : (width : ℕ) → AsksCast width t n → v ≡ castTo width n → Made width v s k
+  pub cast-told : (width v : ℕ) → AsksCast width t n → v ≡ castTo width n → Made width v s k
       → Gives (castOn width (valueOf t n)) s k
-  cast-told width h e made = made-gives (cast-is width t n h) (rw e at made)
+  cast-told width v h e made = made-gives (cast-is width t n h) (rw e at made)
 
-  pub slice-told : (high low : ℕ) → AsksOne (sliceOn high low) t n → v ≡ sliceOf high low n
+  pub slice-told : (high low v : ℕ) → AsksOne (sliceOn high low) t n → v ≡ sliceOf high low n
       → Made (high - low + 1) v s k → Gives (sliceOn high low (valueOf t n)) s k
-  slice-told high low h e made = made-gives (slice-is high low t n h) (rw e at made)
+  slice-told high low v h e made = made-gives (slice-is high low t n h) (rw e at made)
 
-  pub join-told : (u m : ℕ) → AsksTwo concatenationOn t n u m → v ≡ joined u n m → Made (t + u) v s k
+  pub join-told : (u m v : ℕ) → AsksTwo concatenationOn t n u m → v ≡ joined u n m → Made (t + u) v s k
       → Gives (concatenationOn (valueOf t n) (valueOf u m)) s k
-  join-told u m h e made = made-gives (join-is t n u m h) (rw e at made)
+  join-told u m v h e made = made-gives (join-is t n u m h) (rw e at made)
 
-pub ruleset singles = (not-below, not-told, complement-asks, complement-told, cast-asks, cast-told)
+pub ruleset singles = (not-below, not-told, complement-asks, complement-told, cast-told)
 
 pub ruleset parts = (slice-low, slice-asks, slice-told, join-asks, join-told)
