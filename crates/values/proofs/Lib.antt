@@ -1,0 +1,3 @@
+mod Results
+mod Operators
+pub mod Same
