@@ -1,0 +1,51 @@
+-- A place by its tag: it stands in the frame or in the store.
+use mathlib.Core.Path.{_≡_, refl, _∙_}
+use mathlib.Core.List.{List}
+use Prim.Native.Nat.{ℕ, _+_, _<_}
+use native.Mathlib.Omega.{arith}
+use lib.ListN.{length, getD}
+use Rattle.rules.specs.Syntax.{Place, local, parameter, global, field}
+use Rattle.program.specs.Codes.{placeTag}
+use Rattle.store.specs.declared.Held.{Held}
+use Rattle.store.specs.Places.{AsksPlace, ReadsPlace, AsksFramed, ReadsFramed, AsksStored, ReadsStored}
+
+last-tag : (p : Place) → (placeTag p ≡ 2 → ⊥) → (placeTag p ≡ 3 → ⊥) → (placeTag p ≡ 4 → ⊥) → placeTag p ≡ 5
+unfolding placeTag
+last-tag (local i) x y z = absurd (x refl)
+last-tag (parameter i) x y z = absurd (y refl)
+last-tag (global g) x y z = absurd (z refl)
+last-tag (field g f) x y z = refl
+
+module _ (nums directory ends scope offsets slots frame : List ℕ) (at : ℕ)
+    (asks : AsksPlace nums directory ends scope offsets slots frame at) where
+  pub tag-inside : at < length nums
+  tag-inside = asks .names .tag .inside
+
+  pub asks-framed : (tag : ℕ) → getD nums at 0 ≡ tag → AsksFramed tag nums scope frame at
+  asks-framed tag e = record {
+    directory = directory;
+    ends = ends;
+    offsets = offsets;
+    slots = slots;
+    asks = asks;
+    is = e;
+  }
+
+  pub asks-stored : (tag : ℕ) → getD nums at 0 ≡ tag → AsksStored tag nums directory ends offsets slots at
+  asks-stored tag e = record { scope = scope; frame = frame; asks = asks; is = e }
+
+  pub asks-field : (getD nums at 0 ≡ 2 → ⊥) → (getD nums at 0 ≡ 3 → ⊥) → (getD nums at 0 ≡ 4 → ⊥)
+      → AsksStored 5 nums directory ends offsets slots at
+  asks-field x y z =
+      let e : getD nums at 0 ≡ placeTag (asks .place) = asks .names .tag .is in
+      asks-stored 5 (e ∙ last-tag (asks .place) (λ q. x (e ∙ q)) (λ q. y (e ∙ q)) (λ q. z (e ∙ q)))
+
+module _ (nums directory ends scope offsets slots frame : List ℕ) (at : ℕ) (r : Held) where
+  pub reads-framed : ReadsFramed nums scope frame at r → ReadsPlace nums directory ends scope offsets slots frame at r
+  reads-framed h = h .framed directory ends offsets slots
+
+  pub reads-stored : ReadsStored nums directory ends offsets slots at r
+      → ReadsPlace nums directory ends scope offsets slots frame at r
+  reads-stored h = h .stored scope frame
+
+pub ruleset places = (tag-inside, asks-framed, asks-stored, asks-field, reads-framed, reads-stored)

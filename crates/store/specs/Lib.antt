@@ -1,0 +1,2 @@
+pub mod Mirrors
+pub mod Places

@@ -1,0 +1,56 @@
+// The places of the store: globals that are variables, and fields of globals that are headers.
+ghost use Rattle.store.specs.Places.{AsksStored, ReadsStored, AsksHeaderTy, FindsHeaderTy};
+use super::Held;
+use super::STORE;
+
+// The first header type among the types of globals.
+const FIRST_HEADER_TYPE: usize = 128;
+
+// The variable whose number stands behind the tag.
+pub fn held_variable(
+    nums: &[u64],
+    ends: &[u64],
+    directory: &[u64; shape::SLOTS],
+    offsets: &[u64; lists::OFFSETS],
+    slots: &[u64; STORE],
+    at: usize,
+) -> Held
+    requires { ⌜ AsksStored 4 (now nums) (now directory) (now ends) (now offsets) (now slots) at ⌝ }
+    ensures { λ r. ⌜ ReadsStored (now (nums .entry)) (now (directory .entry)) (now (ends .entry)) (now (offsets .entry)) (now (slots .entry)) at r ⌝ }
+{
+    let g = nums[at + 1] as usize;
+    Held {
+        ty: program::global_of(nums, ends, directory, g),
+        number: slots[offsets[g] as usize],
+    }
+}
+
+// Where the type of a header stands.
+fn header_type(nums: &[u64], ends: &[u64], directory: &[u64; shape::SLOTS], g: usize) -> usize
+    requires { ⌜ AsksHeaderTy (now nums) (now directory) (now ends) g ⌝ }
+    ensures { λ r. ⌜ FindsHeaderTy (now (nums .entry)) (now (directory .entry)) (now (ends .entry)) g r ⌝ }
+{
+    let ty = program::global_of(nums, ends, directory, g) as usize;
+    program::header_of(nums, ends, directory, ty - FIRST_HEADER_TYPE)
+}
+
+// The field whose global and number stand behind the tag.
+pub fn held_field(
+    nums: &[u64],
+    ends: &[u64],
+    directory: &[u64; shape::SLOTS],
+    offsets: &[u64; lists::OFFSETS],
+    slots: &[u64; STORE],
+    at: usize,
+) -> Held
+    requires { ⌜ AsksStored 5 (now nums) (now directory) (now ends) (now offsets) (now slots) at ⌝ }
+    ensures { λ r. ⌜ ReadsStored (now (nums .entry)) (now (directory .entry)) (now (ends .entry)) (now (offsets .entry)) (now (slots .entry)) at r ⌝ }
+{
+    let g = nums[at + 1] as usize;
+    let f = nums[at + 2] as usize;
+    let header = header_type(nums, ends, directory, g);
+    Held {
+        ty: nums[header + 1 + f],
+        number: slots[offsets[g] as usize + 1 + f],
+    }
+}
