@@ -5,3 +5,6 @@ pub mod Framing
 pub mod Shapes
 pub mod Stored
 pub mod Naming
+pub mod Changing
+pub mod Marking
+pub mod Clearing

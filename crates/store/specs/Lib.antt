@@ -1,2 +1,3 @@
 pub mod Mirrors
 pub mod Places
+pub mod Changes

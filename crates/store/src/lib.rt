@@ -4,6 +4,7 @@ ghost use Rattle.store.specs.Places.{AsksPlace, ReadsPlace};
 
 mod frames;
 mod globals;
+pub mod headers;
 
 use frames::held_local;
 use frames::held_parameter;

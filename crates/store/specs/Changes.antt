@@ -1,0 +1,68 @@
+-- What is asked and promised where a state changes: a place is written, a header is set valid or invalid. The step
+-- counter and the free slots of the frame stay.
+use mathlib.Core.Bool.{Bool}
+use mathlib.Core.Option.{Option, some}
+use mathlib.Core.Path.{_≡_}
+use mathlib.Core.List.{List}
+use Prim.Native.Nat.{ℕ, _+_, _≤_, _<_}
+use lib.ListN.{length, getD, getElem?}
+use Rattle.rules.specs.Form.{andLook, Scope}
+use Rattle.rules.specs.Lists.{Cell, markOf}
+use Rattle.rules.specs.Running.{State, headerOnly, shapeFor, validIn, changeStore}
+use Rattle.store.specs.Mirrors.{counterSlot, storeSlots, Scene}
+
+-- a frame of which only the first slots, a body's own, may have changed
+pub record KeepsFree (frame frame′ : List ℕ) (own : ℕ) : Type 0 where
+  pub same : length frame′ ≡ length frame
+  pub free : (i : ℕ) → own ≤ i → getD frame′ i 0 ≡ getD frame i 0
+
+-- what the rules make of a state stands in the slots afterwards
+pub record Becomes (nums directory ends scope offsets slots slots′ frame frame′ : List ℕ) (Γ : Scope) (s : State)
+    (made : Option State) : Type 0 where
+  pub state : State
+  pub is : made ≡ some state
+  pub scene : Scene nums directory ends scope offsets slots′ frame′ Γ state
+  pub counter : getD slots′ counterSlot 0 ≡ getD slots counterSlot 0
+  pub keeps : KeepsFree frame frame′ (length (s .parameters) + length (s .locals))
+
+-- a global that is a header and is seen
+pub record AsksHeader (offsets slots : List ℕ) (g : ℕ) : Type 0 where
+  pub nums : List ℕ
+  pub directory : List ℕ
+  pub ends : List ℕ
+  pub scope : List ℕ
+  pub frame : List ℕ
+  pub scopeOf : Scope
+  pub state : State
+  pub widths : List ℕ
+  pub scene : Scene nums directory ends scope offsets slots frame scopeOf state
+  pub is : andLook (shapeFor scopeOf g) headerOnly ≡ some widths
+
+-- its valid mark
+pub record Marked (s : State) (g mark : ℕ) : Type 0 where
+  pub valid : Bool
+  pub is : andLook (getElem? (s .store) g) validIn ≡ some valid
+  pub told : mark ≡ markOf valid
+
+pub record ReadsMark (offsets slots : List ℕ) (g r : ℕ) : Type 0 where
+  pub reads : (nums directory ends scope frame : List ℕ) (Γ : Scope) (s : State) (widths : List ℕ)
+      → Scene nums directory ends scope offsets slots frame Γ s → andLook (shapeFor Γ g) headerOnly ≡ some widths
+      → Marked s g r
+
+-- its change
+pub record ChangesHeader (change : Cell → Option Cell) (offsets slots slots′ : List ℕ) (g : ℕ) : Type 0 where
+  pub changes : (nums directory ends scope frame : List ℕ) (Γ : Scope) (s : State) (widths : List ℕ)
+      → Scene nums directory ends scope offsets slots frame Γ s → andLook (shapeFor Γ g) headerOnly ≡ some widths
+      → Becomes nums directory ends scope offsets slots slots′ frame frame Γ s (changeStore change g s)
+
+-- zeros from a slot on, up to another
+pub record AsksClear (slots : List ℕ) (from to : ℕ) : Type 0 where
+  pub count : length slots ≡ storeSlots
+  pub up : from ≤ to
+  pub most : to ≤ storeSlots
+
+pub record Clears (slots slots′ : List ℕ) (from to : ℕ) : Type 0 where
+  pub same : length slots′ ≡ length slots
+  pub inside : (k : ℕ) → from ≤ k → k < to → getD slots′ k 0 ≡ 0
+  pub before : (k : ℕ) → k < from → getD slots′ k 0 ≡ getD slots k 0
+  pub behind : (k : ℕ) → to ≤ k → getD slots′ k 0 ≡ getD slots k 0
