@@ -6,16 +6,18 @@ use Prim.Native.Nat.{ℕ, _+_, _≤_, _<_}
 use native.Mathlib.Omega.{arith}
 use lib.ListN.{length, getD, set, length-set}
 use lib.Seq.{getD-set-same, getD-set-other}
-use Rattle.rules.specs.Form.{andLook, Shape, globalAt, Scope}
+use Rattle.rules.specs.Syntax.{Ty, Place}
+use Rattle.rules.specs.Form.{andLook, Shape, Scope}
 use Rattle.rules.specs.Lists.{Cell, slotsOfCell}
-use Rattle.rules.specs.Running.{State, change, withStore, changeStore}
-use Rattle.rules.proofs.Predicates.{SomeOf, isSome}
-use Rattle.rules.proofs.Fits.{StateFits}
+use Rattle.rules.specs.Running.{State, change, declared, withStore, changeStore, put}
+use Rattle.rules.proofs.Predicates.{SomeOf, isSome, from-some}
+use Rattle.rules.proofs.Fits.{Fit, StateFits, put-at}
 use Rattle.store.specs.Mirrors.{Scene}
-use Rattle.store.specs.Changes.{KeepsFree, Becomes}
+use Rattle.store.specs.Changes.{KeepsFree, Becomes, WritesPlace}
 use Rattle.store.proofs.Flat.{change-is, Order, under, beyond, order}
+use Rattle.store.proofs.Spots.{Names, Named}
 use Rattle.store.proofs.Cells.{startOf, cell-inside, Replaced, cell-changed}
-use Rattle.store.proofs.Stored.{CellOf, cell-of}
+use Rattle.store.proofs.Stored.{CellOf}
 
 -- one of some numbers is set
 module _ (slots ns : List ℕ) (start j v : ℕ) (room : start + length ns ≤ length slots) (inside : j < length ns)
@@ -80,3 +82,19 @@ module _ (nums directory ends scope offsets slots frame : List ℕ) (Γ : Scope)
         counter = m .replaced .behind _ (omega (arith, m .size, cell-inside slots (s .store) g (c .cell) (c .found) (h .store)));
         keeps = same-frame frame (length (s .parameters) + length (s .locals));
       }
+
+pub put-fits : (Γ : Scope) (p : Place) (s : State) (t : Ty) (n : ℕ) → StateFits Γ s → declared Γ p ≡ some t → Fit t n
+    → SomeOf (StateFits Γ) (put p n s)
+put-fits Γ p s t n f d h = from-some (rw d at (put-at Γ p s f)) n h
+
+-- a place of a tag is written
+pub spot-writes : (nums directory ends scope offsets slots slots′ frame frame′ : List ℕ) (at number tag last : ℕ) (q : Place)
+    → Names nums at tag last q → getD nums at 0 ≡ tag
+    → ((Γ : Scope) (s : State) (t : Ty) → Scene nums directory ends scope offsets slots frame Γ s → declared Γ q ≡ some t
+    → Fit t number → Becomes nums directory ends scope offsets slots slots′ frame frame′ Γ s (put q number s))
+    → WritesPlace nums directory ends scope offsets slots slots′ frame frame′ at number
+spot-writes nums directory ends scope offsets slots slots′ frame frame′ at number tag last q names is becomes = record {
+  writes = λ Γ s p t h k d fit.
+      let n : Named nums last p q = names p k is in
+      rw (n .is) (becomes Γ s t h (rw (n .is) at d) fit);
+}

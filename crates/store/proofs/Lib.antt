@@ -8,3 +8,4 @@ pub mod Naming
 pub mod Changing
 pub mod Marking
 pub mod Clearing
+pub mod Writing

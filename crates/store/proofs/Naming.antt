@@ -8,6 +8,7 @@ use Rattle.rules.specs.Syntax.{Place, local, parameter, global, field}
 use Rattle.program.specs.Codes.{placeTag}
 use Rattle.store.specs.declared.Held.{Held}
 use Rattle.store.specs.Places.{AsksPlace, ReadsPlace, AsksFramed, ReadsFramed, AsksStored, ReadsStored}
+use Rattle.store.specs.Changes.{WritesFramed, AsksCell, WritesCell, AsksWrite, Writes}
 
 last-tag : (p : Place) → (placeTag p ≡ 2 → ⊥) → (placeTag p ≡ 3 → ⊥) → (placeTag p ≡ 4 → ⊥) → placeTag p ≡ 5
 unfolding placeTag
@@ -48,4 +49,39 @@ module _ (nums directory ends scope offsets slots frame : List ℕ) (at : ℕ) (
       → ReadsPlace nums directory ends scope offsets slots frame at r
   reads-stored h = h .stored scope frame
 
-pub ruleset places = (tag-inside, asks-framed, asks-stored, asks-field, reads-framed, reads-stored)
+pub ruleset readings = (tag-inside, asks-framed, asks-stored, asks-field, reads-framed, reads-stored)
+
+-- the same where it is written
+module _ (nums scope offsets slots frame : List ℕ) (at : ℕ) (asks : AsksWrite nums scope offsets slots frame at) where
+  pub target-inside : at < length nums
+  target-inside = asks .asks .names .tag .inside
+
+  pub target-framed : (tag : ℕ) → getD nums at 0 ≡ tag → AsksFramed tag nums scope frame at
+  target-framed tag e =
+      asks-framed nums (asks .directory) (asks .ends) scope offsets slots frame at (asks .asks) tag e
+
+  pub target-stored : (tag : ℕ) → getD nums at 0 ≡ tag → AsksCell tag nums offsets slots at
+  target-stored tag e = record {
+    directory = asks .directory;
+    ends = asks .ends;
+    asks = asks-stored nums (asks .directory) (asks .ends) scope offsets slots frame at (asks .asks) tag e;
+  }
+
+  pub target-field : (getD nums at 0 ≡ 2 → ⊥) → (getD nums at 0 ≡ 3 → ⊥) → (getD nums at 0 ≡ 4 → ⊥)
+      → AsksCell 5 nums offsets slots at
+  target-field x y z = record {
+    directory = asks .directory;
+    ends = asks .ends;
+    asks = asks-field nums (asks .directory) (asks .ends) scope offsets slots frame at (asks .asks) x y z;
+  }
+
+module _ (nums scope offsets slots frame : List ℕ) (at number : ℕ) where
+  pub writes-framed : (frame′ : List ℕ) → WritesFramed nums scope frame frame′ at number
+      → Writes nums scope offsets slots slots frame frame′ at number
+  writes-framed frame′ h = record { written = λ directory ends. h .framed directory ends offsets slots }
+
+  pub writes-cell : (slots′ : List ℕ) → WritesCell nums offsets slots slots′ at number
+      → Writes nums scope offsets slots slots′ frame frame at number
+  writes-cell slots′ h = record { written = λ directory ends. h .stored directory ends scope frame }
+
+pub ruleset targets = (target-inside, target-framed, target-stored, target-field, writes-framed, writes-cell)

@@ -63,20 +63,20 @@ field-shape (aHeader ws) f t e =
     record { widths = ws; width = b .found; is = refl; found = b .is; typed = cc (b .leads) }
 
 -- what is declared of a global and of a field, by the global's shape
-declared-variable : (Γ : Scope) (g : ℕ) (t : Ty) → declared Γ (global g) ≡ some t → globalAt (Γ .program) g ≡ some (aVariable t)
+pub declared-variable : (Γ : Scope) (g : ℕ) (t : Ty) → declared Γ (global g) ≡ some t → globalAt (Γ .program) g ≡ some (aVariable t)
 unfolding declared
 declared-variable Γ g t d =
     let b = seen-shape Γ g variableTy t d in
     b .is ∙ ap some (variable-shape (b .found) t (b .leads))
 
-record DeclaredField (P : Program) (g f : ℕ) (t : Ty) : Type 0 where
-  widths : List ℕ
-  width : ℕ
-  is : globalAt P g ≡ some (aHeader widths)
-  found : getElem? widths f ≡ some width
-  typed : t ≡ bits width
+pub record DeclaredField (P : Program) (g f : ℕ) (t : Ty) : Type 0 where
+  pub widths : List ℕ
+  pub width : ℕ
+  pub is : globalAt P g ≡ some (aHeader widths)
+  pub found : getElem? widths f ≡ some width
+  pub typed : t ≡ bits width
 
-declared-field : (Γ : Scope) (g f : ℕ) (t : Ty) → declared Γ (field g f) ≡ some t → DeclaredField (Γ .program) g f t
+pub declared-field : (Γ : Scope) (g f : ℕ) (t : Ty) → declared Γ (field g f) ≡ some t → DeclaredField (Γ .program) g f t
 unfolding declared
 declared-field Γ g f t d =
     let b = seen-shape Γ g (fieldTy f) t d in
@@ -134,7 +134,7 @@ cell-of nums directory ends scope offsets slots frame Γ s h g shape e =
     }
 
 -- what a cell holds is among its numbers, and there are some
-cell-some : (c : Cell) → 0 < length (slotsOfCell c)
+pub cell-some : (c : Cell) → 0 < length (slotsOfCell c)
 unfolding slotsOfCell
 cell-some (variableCell n) = omega arith
 cell-some (headerCell valid ns) = omega arith

@@ -6,10 +6,13 @@ use mathlib.Core.Path.{_≡_}
 use mathlib.Core.List.{List}
 use Prim.Native.Nat.{ℕ, _+_, _≤_, _<_}
 use lib.ListN.{length, getD, getElem?}
+use Rattle.rules.specs.Syntax.{Ty, Place}
 use Rattle.rules.specs.Form.{andLook, Scope}
 use Rattle.rules.specs.Lists.{Cell, markOf}
-use Rattle.rules.specs.Running.{State, headerOnly, shapeFor, validIn, changeStore}
+use Rattle.rules.specs.Running.{State, headerOnly, shapeFor, declared, validIn, changeStore, put}
+use Rattle.rules.proofs.Fits.{Fit}
 use Rattle.store.specs.Mirrors.{counterSlot, storeSlots, Scene}
+use Rattle.store.specs.Places.{NamesPlace, AsksPlace, AsksStored}
 
 -- a frame of which only the first slots, a body's own, may have changed
 pub record KeepsFree (frame frame′ : List ℕ) (own : ℕ) : Type 0 where
@@ -66,3 +69,33 @@ pub record Clears (slots slots′ : List ℕ) (from to : ℕ) : Type 0 where
   pub inside : (k : ℕ) → from ≤ k → k < to → getD slots′ k 0 ≡ 0
   pub before : (k : ℕ) → k < from → getD slots′ k 0 ≡ getD slots k 0
   pub behind : (k : ℕ) → to ≤ k → getD slots′ k 0 ≡ getD slots k 0
+
+-- a place is written
+pub record WritesPlace (nums directory ends scope offsets slots slots′ frame frame′ : List ℕ) (at number : ℕ) : Type 0 where
+  pub writes : (Γ : Scope) (s : State) (p : Place) (t : Ty) → Scene nums directory ends scope offsets slots frame Γ s
+      → NamesPlace nums at p → declared Γ p ≡ some t → Fit t number
+      → Becomes nums directory ends scope offsets slots slots′ frame frame′ Γ s (put p number s)
+
+-- one of a tag that stands in the frame; and one that stands in the store
+pub record WritesFramed (nums scope frame frame′ : List ℕ) (at number : ℕ) : Type 0 where
+  pub framed : (directory ends offsets slots : List ℕ)
+      → WritesPlace nums directory ends scope offsets slots slots frame frame′ at number
+
+pub record AsksCell (tag : ℕ) (nums offsets slots : List ℕ) (at : ℕ) : Type 0 where
+  pub directory : List ℕ
+  pub ends : List ℕ
+  pub asks : AsksStored tag nums directory ends offsets slots at
+
+pub record WritesCell (nums offsets slots slots′ : List ℕ) (at number : ℕ) : Type 0 where
+  pub stored : (directory ends scope frame : List ℕ)
+      → WritesPlace nums directory ends scope offsets slots slots′ frame frame at number
+
+-- one of any tag
+pub record AsksWrite (nums scope offsets slots frame : List ℕ) (at : ℕ) : Type 0 where
+  pub directory : List ℕ
+  pub ends : List ℕ
+  pub asks : AsksPlace nums directory ends scope offsets slots frame at
+
+pub record Writes (nums scope offsets slots slots′ frame frame′ : List ℕ) (at number : ℕ) : Type 0 where
+  pub written : (directory ends : List ℕ)
+      → WritesPlace nums directory ends scope offsets slots slots′ frame frame′ at number

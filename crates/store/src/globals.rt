@@ -1,7 +1,9 @@
 // The places of the store: globals that are variables, and fields of globals that are headers.
 ghost use Rattle.store.specs.Places.{AsksStored, ReadsStored, AsksHeaderTy, FindsHeaderTy};
+ghost use Rattle.store.specs.Changes.{AsksCell, WritesCell};
 use super::Held;
 use super::STORE;
+use super::headers::VALID;
 
 // The first header type among the types of globals.
 const FIRST_HEADER_TYPE: usize = 128;
@@ -52,5 +54,40 @@ pub fn held_field(
     Held {
         ty: nums[header + 1 + f],
         number: slots[offsets[g] as usize + 1 + f],
+    }
+}
+
+// A number is put into the variable whose number stands behind the tag.
+pub fn put_variable(
+    nums: &[u64],
+    offsets: &[u64; lists::OFFSETS],
+    at: usize,
+    number: u64,
+    slots: &mut [u64; STORE],
+)
+    requires { ⌜ AsksCell 4 (now nums) (now offsets) (now slots) at ⌝ }
+    ensures { λ r. ⌜ WritesCell (now (nums .entry)) (now (offsets .entry)) (now (slots .entry)) (now (slots .exit)) at number ⌝ }
+{
+    let g = nums[at + 1] as usize;
+    let slot = offsets[g] as usize;
+    slots[slot] = number;
+}
+
+// A number is put into the field whose global and number stand behind the tag, if the header is valid.
+pub fn put_field(
+    nums: &[u64],
+    offsets: &[u64; lists::OFFSETS],
+    at: usize,
+    number: u64,
+    slots: &mut [u64; STORE],
+)
+    requires { ⌜ AsksCell 5 (now nums) (now offsets) (now slots) at ⌝ }
+    ensures { λ r. ⌜ WritesCell (now (nums .entry)) (now (offsets .entry)) (now (slots .entry)) (now (slots .exit)) at number ⌝ }
+{
+    let g = nums[at + 1] as usize;
+    let f = nums[at + 2] as usize;
+    let mark = offsets[g] as usize;
+    if slots[mark] == VALID {
+        slots[mark + 1 + f] = number;
     }
 }
