@@ -1,5 +1,5 @@
 -- Where the cells of a store stand among its numbers, and what changing one of them changes.
-use mathlib.Core.Option.{Option, some}
+use mathlib.Core.Option.{some}
 use mathlib.Core.Path.{_≡_, refl, sym, ap, _∙_}
 use mathlib.Core.List.{List, [], _∷_, _++_, append-assoc}
 use Prim.Native.Nat.{ℕ, zero, suc, _+_, _-_, _≤_, _<_}
@@ -13,7 +13,7 @@ use Rattle.rules.specs.Lists.{Cell, slotsOfCell, slotsOf}
 use Rattle.rules.proofs.Predicates.{All2, nil, cons}
 use Rattle.rules.proofs.Fits.{CellFits, variableFits, validFits, invalidFits, GlobalFits, globalFits}
 use Rattle.lists.specs.Listing.{shapeSize, offsetsFrom}
-use Rattle.store.specs.Mirrors.{mostStored, storeSlots, MirrorsStore}
+use Rattle.store.specs.Mirrors.{mostStored, MirrorsStore}
 use Rattle.store.proofs.Flat.{same-length, Order, under, beyond, order}
 
 -- how many numbers stand before a cell
@@ -28,7 +28,7 @@ cell-size (variableFits h) = refl
 cell-size (validFits h) = ap suc (same-length h)
 cell-size (invalidFits h) = ap suc (same-length h)
 
-global-size : {P : Program} {g : Global} {c : Cell} → GlobalFits P g c → length (slotsOfCell c) ≡ shapeSize (shapeIn P (g .ty))
+pub global-size : {P : Program} {g : Global} {c : Cell} → GlobalFits P g c → length (slotsOfCell c) ≡ shapeSize (shapeIn P (g .ty))
 global-size (globalFits e h) = rw e (cell-size h)
 
 -- the offsets are those of a store that fits

@@ -5,20 +5,17 @@ use Prim.Native.Nat.{ℕ, _+_, _≤_, _<_}
 use native.Mathlib.Omega.{arith}
 use lib.ListN.{length, getD, set, length-set}
 use lib.Seq.{getD-set-same, getD-set-other}
-use Rattle.store.specs.Mirrors.{storeSlots}
-use Rattle.store.specs.Changes.{AsksClear, Clears}
+use Rattle.store.specs.Fills.{AsksClear, Clears}
 use Rattle.store.proofs.Flat.{Order, under, beyond, order}
 
 pub record Clearing (slots₀ slots : List ℕ) (from to at : ℕ) : Type 0 where
-  pub count : length slots ≡ storeSlots
-  pub most : to ≤ storeSlots
+  pub most : to ≤ length slots
   pub after : from ≤ at
   pub up : at ≤ to
   pub clears : Clears slots₀ slots from at
 
 pub clear-start : (slots : List ℕ) (from to : ℕ) → AsksClear slots from to → Clearing slots slots from to from
 clear-start slots from to a = record {
-  count = a .count;
   most = a .most;
   after = omega arith;
   up = a .up;
@@ -37,12 +34,11 @@ module _ (slots₀ slots : List ℕ) (from to at : ℕ) (c : Clearing slots₀ s
         ∙ c .clears .inside k l o
     cleared-at k l m (beyond o) =
         let e : k ≡ at = omega arith in
-        rw e (getD-set-same slots at 0 0 (omega (arith, c .count, c .most)))
+        rw e (getD-set-same slots at 0 0 (omega (arith, c .most)))
 
     pub clear-more : Clearing slots₀ (set slots at 0) from to (at + 1)
     clear-more = record {
-      count = length-set slots at 0 ∙ c .count;
-      most = c .most;
+      most = omega (arith, c .most, length-set slots at 0);
       after = omega (arith, c .after);
       up = omega arith;
       clears = record {

@@ -6,7 +6,7 @@ use Prim.Native.Nat.{ℕ, _+_, _*_, _≤_, _<_}
 use native.Mathlib.Omega.{arith}
 use lib.ListN.{length, getD, getElem?}
 use Rattle.rules.specs.Numbers.{mostBytes}
-use Rattle.rules.specs.Syntax.{Ty, Parameter, local, parameter}
+use Rattle.rules.specs.Syntax.{Ty, local, parameter}
 use Rattle.rules.specs.Form.{Scope}
 use Rattle.rules.specs.Running.{State, declared, held}
 use Rattle.program.specs.Stands.{HoldsTy}
@@ -15,7 +15,7 @@ use Rattle.program.proofs.Members.{parameter-at, type-at}
 use Rattle.store.specs.Mirrors.{Scene}
 use Rattle.store.specs.Places.{AsksFramed, ReadsFramed}
 use Rattle.store.proofs.Flat.{look-at, same-length, Behind, behind}
-use Rattle.store.proofs.Spots.{firstNumber, named-local, named-parameter, Spot, Asked, asked, spot-reads}
+use Rattle.store.proofs.Spots.{firstNumber, named-local, named-parameter, Spot, asked, spot-reads}
 
 -- what a place's indices ask: where its number stands, its type, and what it holds
 pub record FrameRoom (nums frame : List ℕ) (at tyAt slot : ℕ) : Type 0 where

@@ -9,3 +9,6 @@ pub mod Changing
 pub mod Marking
 pub mod Clearing
 pub mod Writing
+pub mod Filling
+pub mod Sizes
+pub mod Scenes

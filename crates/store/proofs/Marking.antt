@@ -3,10 +3,9 @@ use mathlib.Core.Bool.{Bool, true, false}
 use mathlib.Core.Option.{Option, some}
 use mathlib.Core.Path.{_≡_, refl, sym, ap, _∙_}
 use mathlib.Core.List.{List, [], _∷_}
-use Prim.Native.Nat.{ℕ, zero, suc, _+_, _-_, _≤_, _<_}
+use Prim.Native.Nat.{ℕ, zero, suc, _+_, _≤_, _<_}
 use native.Mathlib.Omega.{arith}
-use lib.ListN.{length, getD, getElem?, set, length-set, length-map}
-use lib.Seq.{getD-set-same, getD-set-other}
+use lib.ListN.{length, getD, set, length-set, length-map}
 use Rattle.rules.specs.Reading.{mostGlobals}
 use Rattle.rules.specs.Form.{andLook, aHeader, Scope}
 use Rattle.rules.specs.Lists.{Cell, headerCell, markOf, slotsOfCell}
@@ -14,8 +13,9 @@ use Rattle.rules.specs.Running.{State, headerOnly, shapeFor, validIn, zeroed, m
 use Rattle.rules.proofs.Predicates.{All2, nil, cons, SomeOf, isSome, some-then, from-some}
 use Rattle.rules.proofs.Fits.{CellFits, validFits, invalidFits, StateFits, make-valid, make-invalid, store-change, with-store}
 use Rattle.store.specs.Mirrors.{storeSlots, Scene}
-use Rattle.store.specs.Changes.{AsksHeader, Marked, ReadsMark, ChangesHeader, AsksClear, Clears}
-use Rattle.store.proofs.Cells.{startOf, cell-inside, cell-reads, Replaced}
+use Rattle.store.specs.Changes.{AsksHeader, Marked, ReadsMark, ChangesHeader}
+use Rattle.store.specs.Fills.{AsksClear, Clears}
+use Rattle.store.proofs.Cells.{startOf, cell-inside, cell-reads}
 use Rattle.store.proofs.Stored.{CellOf, cell-of, shaped-header, fields-in}
 use Rattle.store.proofs.Changing.{set-replaced, Made, store-becomes}
 
@@ -167,9 +167,8 @@ module _ (offsets slots : List ℕ) (g : ℕ) where
       let c = headerAt (a .nums) (a .directory) (a .ends) (a .scope) offsets slots (a .frame) g (a .scopeOf) (a .state)
       (a .widths) (a .scene) (a .is) in
       record {
-        count = a .scene .store .count;
         up = omega (arith, c .start, c .next);
-        most = header-room a .next;
+        most = omega (arith, header-room a .next, a .scene .store .count);
       }
 
   pub mark-read : ReadsMark offsets slots g (getD slots (getD offsets g 0) 0)

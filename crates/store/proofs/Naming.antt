@@ -1,8 +1,7 @@
 -- A place by its tag: it stands in the frame or in the store.
 use mathlib.Core.Path.{_≡_, refl, _∙_}
 use mathlib.Core.List.{List}
-use Prim.Native.Nat.{ℕ, _+_, _<_}
-use native.Mathlib.Omega.{arith}
+use Prim.Native.Nat.{ℕ, _<_}
 use lib.ListN.{length, getD}
 use Rattle.rules.specs.Syntax.{Place, local, parameter, global, field}
 use Rattle.program.specs.Codes.{placeTag}

@@ -2,18 +2,18 @@
 use mathlib.Core.Option.{some}
 use mathlib.Core.Path.{_≡_}
 use mathlib.Core.List.{List}
-use Prim.Native.Nat.{ℕ, _+_, _-_, _≤_, _<_}
+use Prim.Native.Nat.{ℕ, _-_, _≤_}
 use native.Mathlib.Omega.{arith}
-use lib.ListN.{length, getD, getElem?}
+use lib.ListN.{getElem?}
 use Rattle.rules.specs.Words.{widest}
 use Rattle.rules.specs.Syntax.{Ty, GlobalTy, variable, header, HeaderTy, Program}
-use Rattle.rules.specs.Form.{andLook, aVariable, aHeader, shapeIn, globalAt}
+use Rattle.rules.specs.Form.{aVariable, aHeader, shapeIn, globalAt}
 use Rattle.program.specs.Codes.{tyOf, headerNumber}
-use Rattle.program.specs.Stands.{StandsWidths, StandsProgram}
+use Rattle.program.specs.Stands.{StandsProgram}
 use Rattle.program.specs.Looks.{Has, Finds, headersOf, globalsOf, GlobalNumber, FoundGlobal, FoundHeader}
 use Rattle.program.proofs.Found.{member-in}
 use Rattle.store.specs.Places.{AsksHeaderTy, FindsHeaderTy}
-use Rattle.store.proofs.Flat.{Behind, behind}
+use Rattle.store.proofs.Flat.{behind}
 
 pub record VariableNumber (t : Ty) (n : ℕ) : Type 0 where
   pub most : n ≤ widest

@@ -1,8 +1,8 @@
 -- The places of the store: a global's cell, and the slots of its numbers.
 use mathlib.Core.Option.{Option, some}
 use mathlib.Core.Path.{_≡_, refl, sym, ap, _∙_}
-use mathlib.Core.List.{List, [], _∷_}
-use Prim.Native.Nat.{ℕ, zero, suc, _+_, _≤_, _<_}
+use mathlib.Core.List.{List}
+use Prim.Native.Nat.{ℕ, suc, _+_, _≤_, _<_}
 use native.Mathlib.Omega.{arith}
 use lib.ListN.{length, getD, getElem?}
 use Rattle.rules.specs.Numbers.{mostBytes}
@@ -15,7 +15,7 @@ use Rattle.rules.specs.Running.{State, variableTy, fieldTy, headerOnly, shapeFo
 use Rattle.rules.proofs.Predicates.{SomeOf, isSome, from-some}
 use Rattle.rules.proofs.Fits.{CellFits, variableFits, validFits, invalidFits, store-look}
 use Rattle.program.specs.Codes.{tyOf}
-use Rattle.program.specs.Stands.{HoldsWithin, StandsWidths}
+use Rattle.program.specs.Stands.{HoldsWithin}
 use Rattle.program.specs.Looks.{Has, Finds, globalsOf, FoundGlobal}
 use Rattle.program.proofs.Found.{member-in}
 use Rattle.program.proofs.Members.{width-at, bits-of}
@@ -24,7 +24,7 @@ use Rattle.store.specs.Places.{AsksStored, ReadsStored, AsksHeaderTy, Fi
 use Rattle.store.proofs.Flat.{look-at, same-length, Behind, behind, only}
 use Rattle.store.proofs.Spots.{firstNumber, secondNumber, named-global, named-field, Spot, Asked, asked, spot-reads}
 use Rattle.store.proofs.Cells.{startOf, start-next, offset-is, cell-inside, cell-reads}
-use Rattle.store.proofs.Shapes.{VariableNumber, global-variable}
+use Rattle.store.proofs.Shapes.{global-variable}
 
 -- a global that is seen has its shape, of whatever kind is asked for
 pub seen-shape : {B : Type 0} (Γ : Scope) (g : ℕ) (k : Shape → Option B) (b : B) → andLook (shapeFor Γ g) k ≡ some b

@@ -2,8 +2,8 @@
 use mathlib.Core.Bool.{true}
 use mathlib.Core.Option.{Option, some}
 use mathlib.Core.Path.{_≡_, refl, sym, ap, _∙_}
-use mathlib.Core.List.{List, [], _∷_}
-use Prim.Native.Nat.{ℕ, zero, suc, _+_, _*_, _≤_, _<_}
+use mathlib.Core.List.{List}
+use Prim.Native.Nat.{ℕ, suc, _+_, _<_}
 use native.Mathlib.Omega.{arith}
 use lib.ListN.{length, getD, getElem?, set, length-set}
 use Rattle.rules.specs.Syntax.{Ty, local, parameter, global, field}
@@ -15,11 +15,11 @@ use Rattle.program.proofs.Found.{member-in}
 use Rattle.store.specs.Mirrors.{Scene}
 use Rattle.store.specs.Places.{AsksFramed}
 use Rattle.store.specs.Changes.{Becomes, WritesFramed, AsksCell, WritesCell}
-use Rattle.store.proofs.Flat.{look-at, change-is, same-length, Behind, behind}
+use Rattle.store.proofs.Flat.{look-at, change-is, same-length, behind}
 use Rattle.store.proofs.Spots.{firstNumber, secondNumber, named-local, named-parameter, named-global, named-field}
 use Rattle.store.proofs.Cells.{startOf, cell-inside, cell-reads, Replaced}
 use Rattle.store.proofs.Stored.{CellOf, cell-of, declared-variable, declared-field, cell-some, fields-in}
-use Rattle.store.proofs.Changing.{set-replaced, the-some, same-frame, Made, store-becomes, put-fits, spot-writes}
+use Rattle.store.proofs.Changing.{set-replaced, the-some, Made, store-becomes, put-fits, spot-writes}
 
 -- a number put into a list
 put-in : (n : ℕ) (ns : List ℕ) (i : ℕ) → i < length ns → change (λ _. some n) ns i ≡ some (set ns i n)

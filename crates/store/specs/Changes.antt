@@ -4,14 +4,14 @@ use mathlib.Core.Bool.{Bool}
 use mathlib.Core.Option.{Option, some}
 use mathlib.Core.Path.{_≡_}
 use mathlib.Core.List.{List}
-use Prim.Native.Nat.{ℕ, _+_, _≤_, _<_}
+use Prim.Native.Nat.{ℕ, _+_, _≤_}
 use lib.ListN.{length, getD, getElem?}
 use Rattle.rules.specs.Syntax.{Ty, Place}
 use Rattle.rules.specs.Form.{andLook, Scope}
 use Rattle.rules.specs.Lists.{Cell, markOf}
 use Rattle.rules.specs.Running.{State, headerOnly, shapeFor, declared, validIn, changeStore, put}
 use Rattle.rules.proofs.Fits.{Fit}
-use Rattle.store.specs.Mirrors.{counterSlot, storeSlots, Scene}
+use Rattle.store.specs.Mirrors.{counterSlot, Scene}
 use Rattle.store.specs.Places.{NamesPlace, AsksPlace, AsksStored}
 
 -- a frame of which only the first slots, a body's own, may have changed
@@ -57,18 +57,6 @@ pub record ChangesHeader (change : Cell → Option Cell) (offsets slots slots′
   pub changes : (nums directory ends scope frame : List ℕ) (Γ : Scope) (s : State) (widths : List ℕ)
       → Scene nums directory ends scope offsets slots frame Γ s → andLook (shapeFor Γ g) headerOnly ≡ some widths
       → Becomes nums directory ends scope offsets slots slots′ frame frame Γ s (changeStore change g s)
-
--- zeros from a slot on, up to another
-pub record AsksClear (slots : List ℕ) (from to : ℕ) : Type 0 where
-  pub count : length slots ≡ storeSlots
-  pub up : from ≤ to
-  pub most : to ≤ storeSlots
-
-pub record Clears (slots slots′ : List ℕ) (from to : ℕ) : Type 0 where
-  pub same : length slots′ ≡ length slots
-  pub inside : (k : ℕ) → from ≤ k → k < to → getD slots′ k 0 ≡ 0
-  pub before : (k : ℕ) → k < from → getD slots′ k 0 ≡ getD slots k 0
-  pub behind : (k : ℕ) → to ≤ k → getD slots′ k 0 ≡ getD slots k 0
 
 -- a place is written
 pub record WritesPlace (nums directory ends scope offsets slots slots′ frame frame′ : List ℕ) (at number : ℕ) : Type 0 where

@@ -1,21 +1,19 @@
 -- What is asked and promised where places are read and written and where headers change. What is asked is that some
 -- state stands in the slots; what is promised holds of whatever state stands there.
-use mathlib.Core.Bool.{Bool}
-use mathlib.Core.Option.{Option, some}
+use mathlib.Core.Option.{some}
 use mathlib.Core.Path.{_≡_}
 use mathlib.Core.List.{List}
-use Prim.Native.Nat.{ℕ, _+_, _≤_, _<_}
-use lib.ListN.{length, getD, getElem?}
+use Prim.Native.Nat.{ℕ, _+_, _≤_}
+use lib.ListN.{getD}
 use Rattle.rules.specs.Words.{widest}
 use Rattle.rules.specs.Syntax.{Ty, Place, Program}
-use Rattle.rules.specs.Form.{andLook, aHeader, globalAt, Scope}
-use Rattle.rules.specs.Lists.{Cell, markOf}
-use Rattle.rules.specs.Running.{State, headerOnly, shapeFor, declared, held, validIn, changeStore, put}
+use Rattle.rules.specs.Form.{aHeader, globalAt, Scope}
+use Rattle.rules.specs.Running.{State, declared, held}
 use Rattle.rules.proofs.Fits.{Fit}
 use Rattle.program.specs.Codes.{tyOf, placeTag}
 use Rattle.program.specs.Stands.{Holds, StandsPlace, StandsWidths, StandsProgram}
 use Rattle.store.specs.declared.Held.{Held}
-use Rattle.store.specs.Mirrors.{counterSlot, storeSlots, Scene}
+use Rattle.store.specs.Mirrors.{Scene}
 
 -- a place is named at an index: its tag, and the numbers behind it
 pub record NamesPlace (nums : List ℕ) (at : ℕ) (p : Place) : Type 0 where

@@ -1,7 +1,8 @@
 // A header in the store: its valid mark, and behind it its fields, which are 0 where the header is invalid.
 ghost use Rattle.rules.specs.Running.{makeValid, makeInvalid};
-ghost use Rattle.store.specs.Changes.{AsksHeader, ReadsMark, ChangesHeader, AsksClear, Clears};
+ghost use Rattle.store.specs.Changes.{AsksHeader, ReadsMark, ChangesHeader};
 use super::STORE;
+use super::fill::clear;
 
 // The mark of a valid header.
 pub const VALID: u64 = 1;
@@ -21,18 +22,6 @@ pub fn set_valid(offsets: &[u64; lists::OFFSETS], g: usize, slots: &mut [u64; ST
 {
     let mark = offsets[g] as usize;
     slots[mark] = VALID;
-}
-
-// The slots from one up to another are set to 0.
-fn clear(from: usize, to: usize, slots: &mut [u64; STORE])
-    requires { ⌜ AsksClear (now slots) from to ⌝ }
-    ensures { λ r. ⌜ Clears (now (slots .entry)) (now (slots .exit)) from to ⌝ }
-{
-    let mut at = from;
-    while at < to {
-        slots[at] = 0;
-        at += 1;
-    }
 }
 
 // A header is made invalid: its mark and its fields up to the next global's.

@@ -3,6 +3,7 @@
 ghost use Rattle.store.specs.Places.{AsksPlace, ReadsPlace};
 ghost use Rattle.store.specs.Changes.{AsksWrite, Writes};
 
+pub mod fill;
 mod frames;
 mod globals;
 pub mod headers;

@@ -2,8 +2,8 @@
 use Prim.Native.Nat.{_-_}
 use Rattle.store.proofs.Clearing.{Clearing, clearings}
 use borrow.Author.Needs.{needs}
-use Rattle.store.proofs.headers.clear.Statement.{statement}
-use Rattle.store.proofs.headers.clear.Tie as tie
+use Rattle.store.proofs.fill.clear.Statement.{statement}
+use Rattle.store.proofs.fill.clear.Tie as tie
 
 abbrev Inv-loop : tie.InvT-loop
 Inv-loop from to slots₀ at₀ slots at = Clearing slots₀ slots from to at
@@ -17,8 +17,8 @@ loop-holds c = search (clearings, needs)
 mul-slots : tie.Need-mul-slots Inv-loop μ-loop
 mul-slots c = search (clearings, needs)
 
-element-write-slots : tie.Need-element-write-slots Inv-loop μ-loop
-element-write-slots c = search (clearings, needs)
+slice-write-slots : tie.Need-slice-write-slots Inv-loop μ-loop
+slice-write-slots c = search (clearings, needs)
 
 add-at : tie.Need-add-at Inv-loop μ-loop
 add-at c = search (clearings, needs)
@@ -28,6 +28,9 @@ loop-less c = search (clearings, needs)
 
 loop-again : tie.Need-loop-again Inv-loop μ-loop
 loop-again c = search (clearings, needs)
+
+same-length : tie.Need-same-length Inv-loop μ-loop
+same-length c = search (clearings, needs)
 
 returns : tie.Need-returns Inv-loop μ-loop
 returns c = search (clearings, needs)
@@ -40,8 +43,9 @@ clear-spec =
     μ-loop
     loop-holds
     mul-slots
-    element-write-slots
+    slice-write-slots
     add-at
     loop-less
     loop-again
+    same-length
     returns)
