@@ -22,13 +22,14 @@ startOf [] g = 0
 startOf (c ∷ cs) zero = 0
 startOf (c ∷ cs) (suc g) = length (slotsOfCell c) + startOf cs g
 
-cell-size : {shape : Shape} {c : Cell} → CellFits shape c → length (slotsOfCell c) ≡ shapeSize (some shape)
+pub cell-size : {shape : Shape} {c : Cell} → CellFits shape c → length (slotsOfCell c) ≡ shapeSize (some shape)
 unfolding slotsOfCell shapeSize
 cell-size (variableFits h) = refl
 cell-size (validFits h) = ap suc (same-length h)
 cell-size (invalidFits h) = ap suc (same-length h)
 
-pub global-size : {P : Program} {g : Global} {c : Cell} → GlobalFits P g c → length (slotsOfCell c) ≡ shapeSize (shapeIn P (g .ty))
+pub global-size : {P : Program} {g : Global} {c : Cell} → GlobalFits P g c
+    → length (slotsOfCell c) ≡ shapeSize (shapeIn P (g .ty))
 global-size (globalFits e h) = rw e (cell-size h)
 
 -- the offsets are those of a store that fits
@@ -106,7 +107,8 @@ pub record Replaced (slots slots′ : List ℕ) (start : ℕ) (ns : List ℕ) : 
 module _ (slots slots′ front old new back : List ℕ) (size : length new ≡ length old)
     (is : (k : ℕ) → k < length (whole front old back) → getD slots k 0 ≡ getD (whole front old back) k 0)
     (r : Replaced slots slots′ (length front) new) where
-  part-changed : (k : ℕ) → k < length (whole front new back) → Order k (length front) → Order k (length front + length new)
+  part-changed : (k : ℕ) → k < length (whole front new back) → Order k (length front)
+      → Order k (length front + length new)
       → getD slots′ k 0 ≡ getD (whole front new back) k 0
   part-changed k h (under i) o =
       let l : k < length (whole front old back) = omega (arith, whole-length front old back) in
@@ -123,7 +125,8 @@ module _ (slots slots′ front old new back : List ℕ) (size : length new ≡ l
       ∙ (is k l ∙ (in-back front old back k j (omega arith) ∙ sym (in-back front new back k j (omega arith))))
 
 -- a cell in slots that mirror the store
-module _ (slots : List ℕ) (cells : List Cell) (g : ℕ) (c : Cell) (e : getElem? cells g ≡ some c) (m : MirrorsStore slots cells) where
+module _ (slots : List ℕ) (cells : List Cell) (g : ℕ) (c : Cell) (e : getElem? cells g ≡ some c)
+    (m : MirrorsStore slots cells) where
   abbrev a : Around cells g c
   a = around cells g c e
 
@@ -150,7 +153,8 @@ module _ (slots : List ℕ) (cells : List Cell) (g : ℕ) (c : Cell) (e : getEle
       record {
         count = r .same ∙ m .count;
         most = omega (arith, m .most);
-        is = λ k h. rw (a .changed d) (part-changed slots slots′ (a .front) (slotsOfCell c) (slotsOfCell d) (a .back) size
+        is = λ k h. rw (a .changed d)
+            (part-changed slots slots′ (a .front) (slotsOfCell c) (slotsOfCell d) (a .back) size
             (rw (a .is) at (m .is)) (rw (← a .start) at r) k (rw (a .changed d) at h) (order k (length (a .front)))
             (order k (length (a .front) + length (slotsOfCell d))));
       }

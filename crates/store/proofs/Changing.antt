@@ -61,13 +61,15 @@ pub record Made (f : Cell → Option Cell) (slots slots′ : List ℕ) (start : 
   pub replaced : Replaced slots slots′ start (slotsOfCell cell)
 
 module _ (nums directory ends scope offsets slots frame : List ℕ) (Γ : Scope) (s : State)
-    (h : Scene nums directory ends scope offsets slots frame Γ s) (g : ℕ) (shape : Shape) (c : CellOf offsets (s .store) g shape) where
+    (h : Scene nums directory ends scope offsets slots frame Γ s) (g : ℕ) (shape : Shape)
+    (c : CellOf offsets (s .store) g shape) where
   pub store-becomes : (f : Cell → Option Cell) (slots′ : List ℕ) → Made f slots slots′ (startOf (s .store) g) (c .cell)
       → SomeOf (StateFits Γ) (changeStore f g s)
       → Becomes nums directory ends scope offsets slots slots′ frame frame Γ s (changeStore f g s)
   unfolding changeStore andLook withStore
   store-becomes f slots′ m k =
-      let e : change f (s .store) g ≡ some (set (s .store) g (m .cell)) = change-is f (s .store) g (c .cell) (m .cell) (c .found) (m .is) in
+      let e : change f (s .store) g ≡ some (set (s .store) g (m .cell))
+      = change-is f (s .store) g (c .cell) (m .cell) (c .found) (m .is) in
       let made : changeStore f g s ≡ some (withStore s (set (s .store) g (m .cell))) = rw e in
       record {
         state = withStore s (set (s .store) g (m .cell));
@@ -76,10 +78,12 @@ module _ (nums directory ends scope offsets slots frame : List ℕ) (Γ : Scope)
           scopes = h .scopes;
           offset = h .offset;
           fits = the-some made k;
-          store = cell-changed slots (s .store) g (c .cell) (c .found) (h .store) slots′ (m .cell) (m .size) (m .replaced);
+          store = cell-changed slots (s .store) g (c .cell) (c .found) (h .store) slots′ (m .cell) (m .size)
+              (m .replaced);
           frames = h .frames;
         };
-        counter = m .replaced .behind _ (omega (arith, m .size, cell-inside slots (s .store) g (c .cell) (c .found) (h .store)));
+        counter = m .replaced .behind _
+            (omega (arith, m .size, cell-inside slots (s .store) g (c .cell) (c .found) (h .store)));
         keeps = same-frame frame (length (s .parameters) + length (s .locals));
       }
 
@@ -88,9 +92,11 @@ pub put-fits : (Γ : Scope) (p : Place) (s : State) (t : Ty) (n : ℕ) → State
 put-fits Γ p s t n f d h = from-some (rw d at (put-at Γ p s f)) n h
 
 -- a place of a tag is written
-pub spot-writes : (nums directory ends scope offsets slots slots′ frame frame′ : List ℕ) (at number tag last : ℕ) (q : Place)
+pub spot-writes : (nums directory ends scope offsets slots slots′ frame frame′ : List ℕ) (at number tag last : ℕ)
+    (q : Place)
     → Names nums at tag last q → getD nums at 0 ≡ tag
-    → ((Γ : Scope) (s : State) (t : Ty) → Scene nums directory ends scope offsets slots frame Γ s → declared Γ q ≡ some t
+    → ((Γ : Scope) (s : State) (t : Ty) → Scene nums directory ends scope offsets slots frame Γ s
+    → declared Γ q ≡ some t
     → Fit t number → Becomes nums directory ends scope offsets slots slots′ frame frame′ Γ s (put q number s))
     → WritesPlace nums directory ends scope offsets slots slots′ frame frame′ at number
 spot-writes nums directory ends scope offsets slots slots′ frame frame′ at number tag last q names is becomes = record {

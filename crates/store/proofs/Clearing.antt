@@ -44,7 +44,8 @@ module _ (slots₀ slots : List ℕ) (from to at : ℕ) (c : Clearing slots₀ s
       clears = record {
         same = length-set slots at 0 ∙ c .clears .same;
         inside = λ k l m. cleared-at k l m (order k at);
-        before = λ k l. getD-set-other slots at k 0 0 (λ e. absurd (omega (arith, e, c .after))) ∙ c .clears .before k l;
+        before = λ k l. getD-set-other slots at k 0 0 (λ e. absurd (omega (arith, e, c .after)))
+            ∙ c .clears .before k l;
         behind = λ k l. getD-set-other slots at k 0 0 (λ e. absurd (omega (arith, e)))
             ∙ c .clears .behind k (omega arith);
       };

@@ -52,7 +52,8 @@ module _ (nums slots₀ slots : List ℕ) (store size at : ℕ) (f : Filling num
     pub fill-room : FillRoom nums store at
     fill-room = record {
       few = f .asks .numbers;
-      inside = holds-at nums store (slotsOf (f .asks .cells)) (f .asks .stand) at (omega (arith, f .asks .sized)) .inside;
+      inside = holds-at nums store (slotsOf (f .asks .cells)) (f .asks .stand) at (omega (arith, f .asks .sized))
+          .inside;
       slot = omega (arith, f .asks .most);
     }
 

@@ -62,14 +62,16 @@ module _ (nums scope frame : List ℕ) (at : ℕ) where
     parameter-typed : declared Γ (parameter i) ≡ some t → HoldsTy nums parameterTyAt t
     unfolding declared
     parameter-typed d =
-        let m : Behind (getElem? (Γ .parameters) i) (λ p. some (p .ty)) t = behind (getElem? (Γ .parameters) i) (λ p. some (p .ty)) t d in
+        let m : Behind (getElem? (Γ .parameters) i) (λ p. some (p .ty)) t
+        = behind (getElem? (Γ .parameters) i) (λ p. some (p .ty)) t d in
         let e : m .found .ty ≡ t = cc in
         rw (← e) (parameter-at nums (getD scope 1 0) (Γ .parameters) (h .scopes .parameters) i (m .found) (m .is) .ty)
 
     parameter-spot : declared Γ (parameter i) ≡ some t → Spot frame (parameter i) s t (getD nums parameterTyAt 0) i
     unfolding declared held
     parameter-spot d =
-        let m : Behind (getElem? (Γ .parameters) i) (λ p. some (p .ty)) t = behind (getElem? (Γ .parameters) i) (λ p. some (p .ty)) t d in
+        let m : Behind (getElem? (Γ .parameters) i) (λ p. some (p .ty)) t
+        = behind (getElem? (Γ .parameters) i) (λ p. some (p .ty)) t d in
         let ps : length (s .parameters) ≡ length (Γ .parameters) = same-length (h .fits .parameters-fit) in
         let k : i < length (s .parameters) = omega (arith, member-in (Γ .parameters) i (m .found) (m .is)) in
         let ty : HoldsTy nums parameterTyAt t = parameter-typed d in
@@ -83,22 +85,27 @@ module _ (nums scope frame : List ℕ) (at : ℕ) where
   module _ (asks : AsksFramed 2 nums scope frame at) where
     pub local-room : FrameRoom nums frame at localTyAt localSlot
     local-room =
-        let a = asked nums (asks .directory) (asks .ends) scope (asks .offsets) (asks .slots) frame at 2 (at + 1) (local i)
+        let a = asked nums (asks .directory) (asks .ends) scope (asks .offsets) (asks .slots) frame at 2 (at + 1)
+        (local i)
         (named-local nums at) (asks .is) (asks .asks) in
         record {
           few = a .few;
           behind = a .behind;
-          typed = local-typed (asks .directory) (asks .ends) (asks .offsets) (asks .slots) (a .scopeOf) (a .state) (a .ty)
+          typed = local-typed (asks .directory) (asks .ends) (asks .offsets) (asks .slots) (a .scopeOf) (a .state)
+              (a .ty)
               (a .scene) (a .declares) .inside;
-          inside = local-spot (asks .directory) (asks .ends) (asks .offsets) (asks .slots) (a .scopeOf) (a .state) (a .ty)
+          inside = local-spot (asks .directory) (asks .ends) (asks .offsets) (asks .slots) (a .scopeOf) (a .state)
+              (a .ty)
               (a .scene) (a .declares) .inside;
         }
 
     pub local-reads : ReadsFramed nums scope frame at
         (record { ty = getD nums localTyAt 0; number = getD frame localSlot 0 })
     local-reads = record {
-      framed = λ directory ends offsets slots. spot-reads nums directory ends scope offsets slots frame at 2 (at + 1) (local i)
-          (named-local nums at) (asks .is) frame (getD nums localTyAt 0) localSlot (local-spot directory ends offsets slots);
+      framed = λ directory ends offsets slots. spot-reads nums directory ends scope offsets slots frame at 2 (at + 1)
+          (local i)
+          (named-local nums at) (asks .is) frame (getD nums localTyAt 0) localSlot
+          (local-spot directory ends offsets slots);
     }
 
   module _ (asks : AsksFramed 3 nums scope frame at) where

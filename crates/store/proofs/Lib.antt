@@ -3,6 +3,7 @@ pub mod Spots
 pub mod Cells
 pub mod Framing
 pub mod Shapes
+pub mod Declaring
 pub mod Stored
 pub mod Naming
 pub mod Changing

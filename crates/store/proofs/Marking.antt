@@ -16,7 +16,8 @@ use Rattle.store.specs.Mirrors.{storeSlots, Scene}
 use Rattle.store.specs.Changes.{AsksHeader, Marked, ReadsMark, ChangesHeader}
 use Rattle.store.specs.Fills.{AsksClear, Clears}
 use Rattle.store.proofs.Cells.{startOf, cell-inside, cell-reads}
-use Rattle.store.proofs.Stored.{CellOf, cell-of, shaped-header, fields-in}
+use Rattle.store.proofs.Declaring.{shaped-header}
+use Rattle.store.proofs.Stored.{CellOf, cell-of, fields-in}
 use Rattle.store.proofs.Changing.{set-replaced, Made, store-becomes}
 
 -- a header's cell
@@ -83,9 +84,11 @@ invalidated (invalidFits {ns = ns} h) = record {
 
 -- in whatever state stands there
 module _ (nums directory ends scope offsets slots frame : List ℕ) (g : ℕ) (Γ : Scope) (s : State) (widths : List ℕ)
-    (h : Scene nums directory ends scope offsets slots frame Γ s) (is : andLook (shapeFor Γ g) headerOnly ≡ some widths) where
+    (h : Scene nums directory ends scope offsets slots frame Γ s)
+    (is : andLook (shapeFor Γ g) headerOnly ≡ some widths) where
   headerAt : CellOf offsets (s .store) g (aHeader widths)
-  headerAt = cell-of nums directory ends scope offsets slots frame Γ s h g (aHeader widths) (shaped-header Γ g widths is)
+  headerAt = cell-of nums directory ends scope offsets slots frame Γ s h g (aHeader widths)
+      (shaped-header Γ g widths is)
 
   header-inside : startOf (s .store) g + length (slotsOfCell (headerAt .cell)) < storeSlots
   header-inside = omega (arith, cell-inside slots (s .store) g (headerAt .cell) (headerAt .found) (h .store))
@@ -154,7 +157,8 @@ module _ (offsets slots : List ℕ) (g : ℕ) where
   header-room a =
       let c = headerAt (a .nums) (a .directory) (a .ends) (a .scope) offsets slots (a .frame) g (a .scopeOf) (a .state)
       (a .widths) (a .scene) (a .is) in
-      let i = header-inside (a .nums) (a .directory) (a .ends) (a .scope) offsets slots (a .frame) g (a .scopeOf) (a .state)
+      let i = header-inside (a .nums) (a .directory) (a .ends) (a .scope) offsets slots (a .frame) g (a .scopeOf)
+      (a .state)
       (a .widths) (a .scene) (a .is) in
       record {
         few = c .few;
@@ -173,13 +177,15 @@ module _ (offsets slots : List ℕ) (g : ℕ) where
 
   pub mark-read : ReadsMark offsets slots g (getD slots (getD offsets g 0) 0)
   mark-read = record {
-    reads = λ nums directory ends scope frame Γ s widths h is. marked nums directory ends scope offsets slots frame g Γ s
+    reads = λ nums directory ends scope frame Γ s widths h is. marked nums directory ends scope offsets slots frame g
+        Γ s
         widths h is;
   }
 
   pub header-validated : ChangesHeader makeValid offsets slots (set slots (getD offsets g 0) 1) g
   header-validated = record {
-    changes = λ nums directory ends scope frame Γ s widths h is. store-becomes nums directory ends scope offsets slots frame Γ
+    changes = λ nums directory ends scope frame Γ s widths h is. store-becomes nums directory ends scope offsets
+        slots frame Γ
         s h g (aHeader widths) (headerAt nums directory ends scope offsets slots frame g Γ s widths h is) makeValid
         (set slots (getD offsets g 0) 1) (made-valid nums directory ends scope offsets slots frame g Γ s widths h is)
         (still-fits nums directory ends scope offsets slots frame g Γ s widths h is makeValid λ c k. make-valid k);
@@ -188,8 +194,10 @@ module _ (offsets slots : List ℕ) (g : ℕ) where
   pub header-invalidated : (slots′ : List ℕ) → Clears slots slots′ (getD offsets g 0) (getD offsets (g + 1) 0)
       → ChangesHeader makeInvalid offsets slots slots′ g
   header-invalidated slots′ k = record {
-    changes = λ nums directory ends scope frame Γ s widths h is. store-becomes nums directory ends scope offsets slots frame Γ
-        s h g (aHeader widths) (headerAt nums directory ends scope offsets slots frame g Γ s widths h is) makeInvalid slots′
+    changes = λ nums directory ends scope frame Γ s widths h is. store-becomes nums directory ends scope offsets
+        slots frame Γ
+        s h g (aHeader widths) (headerAt nums directory ends scope offsets slots frame g Γ s widths h is)
+        makeInvalid slots′
         (made-invalid nums directory ends scope offsets slots frame g Γ s widths h is slots′ k)
         (still-fits nums directory ends scope offsets slots frame g Γ s widths h is makeInvalid λ c q. make-invalid q);
   }

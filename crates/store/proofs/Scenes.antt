@@ -37,7 +37,8 @@ scene-counted nums directory ends scope offsets slots frame Γ s n h = record {
 }
 
 -- a call has ended: the store has changed, and of the frame only what was free
-pub scene-entered : (nums directory ends scope offsets slots slots′ frame frame′ : List ℕ) (Γ : Scope) (s : State) (cells : List Cell)
+pub scene-entered : (nums directory ends scope offsets slots slots′ frame frame′ : List ℕ) (Γ : Scope) (s : State)
+    (cells : List Cell)
     → Scene nums directory ends scope offsets slots frame Γ s → StoreFits (Γ .program) cells → MirrorsStore slots′ cells
     → length frame′ ≡ length frame
     → ((i : ℕ) → i < length (s .parameters) + length (s .locals) → getD frame′ i 0 ≡ getD frame i 0)

@@ -45,20 +45,21 @@ header-numbered P widths n (header h) k e =
     let q : n - 128 ≡ h = omega (arith, k .0) in
     record { high = omega (arith, k .0); member = b .found; found = rw q (b .is); is = cc (b .leads) }
 
-module _ (nums directory ends : List ℕ) (g : ℕ) (P : Program) (end : ℕ) (s : StandsProgram nums directory ends P end) where
-  pub global-variable : (t : Ty) (n : ℕ) → globalAt P g ≡ some (aVariable t)
-      → Finds globalsOf (FoundGlobal n) nums directory ends g → VariableNumber t n
-  unfolding globalAt globalsOf FoundGlobal
-  global-variable t n e f =
-      let b = behind (getElem? (P .globals) g) (λ x. shapeIn P (x .ty)) (aVariable t) e in
-      variable-numbered P t n (b .found .ty) (f .finds P end (b .found) s (b .is)) (b .leads)
+module _ (nums directory ends : List ℕ) (g : ℕ) (P : Program) (end : ℕ) (s : StandsProgram nums directory ends P end)
+  where
+    pub global-variable : (t : Ty) (n : ℕ) → globalAt P g ≡ some (aVariable t)
+        → Finds globalsOf (FoundGlobal n) nums directory ends g → VariableNumber t n
+    unfolding globalAt globalsOf FoundGlobal
+    global-variable t n e f =
+        let b = behind (getElem? (P .globals) g) (λ x. shapeIn P (x .ty)) (aVariable t) e in
+        variable-numbered P t n (b .found .ty) (f .finds P end (b .found) s (b .is)) (b .leads)
 
-  pub global-header : (widths : List ℕ) (n : ℕ) → globalAt P g ≡ some (aHeader widths)
-      → Finds globalsOf (FoundGlobal n) nums directory ends g → HeaderNumbered P widths n
-  unfolding globalAt globalsOf FoundGlobal
-  global-header widths n e f =
-      let b = behind (getElem? (P .globals) g) (λ x. shapeIn P (x .ty)) (aHeader widths) e in
-      header-numbered P widths n (b .found .ty) (f .finds P end (b .found) s (b .is)) (b .leads)
+    pub global-header : (widths : List ℕ) (n : ℕ) → globalAt P g ≡ some (aHeader widths)
+        → Finds globalsOf (FoundGlobal n) nums directory ends g → HeaderNumbered P widths n
+    unfolding globalAt globalsOf FoundGlobal
+    global-header widths n e f =
+        let b = behind (getElem? (P .globals) g) (λ x. shapeIn P (x .ty)) (aHeader widths) e in
+        header-numbered P widths n (b .found .ty) (f .finds P end (b .found) s (b .is)) (b .leads)
 
 -- where a header's type stands
 module _ (nums directory ends : List ℕ) (g : ℕ) where
@@ -66,7 +67,8 @@ module _ (nums directory ends : List ℕ) (g : ℕ) where
     pub type-global : Has globalsOf nums directory ends g
     unfolding globalAt globalsOf
     type-global =
-        let b = behind (getElem? (asks .program .globals) g) (λ x. shapeIn (asks .program) (x .ty)) (aHeader (asks .widths)) (asks .is) in
+        let b = behind (getElem? (asks .program .globals) g) (λ x. shapeIn (asks .program) (x .ty))
+        (aHeader (asks .widths)) (asks .is) in
         record {
           program = asks .program;
           end = asks .end;
@@ -75,12 +77,15 @@ module _ (nums directory ends : List ℕ) (g : ℕ) where
         }
 
     pub type-high : (n : ℕ) → Finds globalsOf (FoundGlobal n) nums directory ends g → 128 ≤ n
-    type-high n f = global-header nums directory ends g (asks .program) (asks .end) (asks .stands) (asks .widths) n (asks .is) f .high
+    type-high n f = global-header nums directory ends g (asks .program) (asks .end) (asks .stands) (asks .widths) n
+        (asks .is) f .high
 
-    pub type-header : (n : ℕ) → Finds globalsOf (FoundGlobal n) nums directory ends g → Has headersOf nums directory ends (n - 128)
+    pub type-header : (n : ℕ) → Finds globalsOf (FoundGlobal n) nums directory ends g
+        → Has headersOf nums directory ends (n - 128)
     unfolding headersOf
     type-header n f =
-        let h = global-header nums directory ends g (asks .program) (asks .end) (asks .stands) (asks .widths) n (asks .is) f in
+        let h = global-header nums directory ends g (asks .program) (asks .end) (asks .stands) (asks .widths) n
+        (asks .is) f in
         record {
           program = asks .program;
           end = asks .end;

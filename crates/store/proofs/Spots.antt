@@ -110,7 +110,8 @@ module _ (nums directory ends scope offsets slots frame : List ℕ) (at tag last
       }
 
   pub spot-reads : (held : List ℕ) (ty slot : ℕ)
-      → ((Γ : Scope) (s : State) (t : Ty) → Scene nums directory ends scope offsets slots frame Γ s → declared Γ q ≡ some t
+      → ((Γ : Scope) (s : State) (t : Ty) → Scene nums directory ends scope offsets slots frame Γ s
+      → declared Γ q ≡ some t
       → Spot held q s t ty slot)
       → ReadsPlace nums directory ends scope offsets slots frame at (record { ty = ty; number = getD held slot 0 })
   spot-reads held ty slot spot = record {

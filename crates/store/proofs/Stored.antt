@@ -7,11 +7,11 @@ use native.Mathlib.Omega.{arith}
 use lib.ListN.{length, getD, getElem?}
 use Rattle.rules.specs.Numbers.{mostBytes}
 use Rattle.rules.specs.Words.{widest}
-use Rattle.rules.specs.Syntax.{Ty, bits, Program, global, field}
+use Rattle.rules.specs.Syntax.{Ty, global, field}
 use Rattle.rules.specs.Reading.{mostGlobals}
-use Rattle.rules.specs.Form.{andLook, onlyIf, Shape, aVariable, aHeader, shapeIn, globalAt, seesGlobals, Scope}
+use Rattle.rules.specs.Form.{andLook, Shape, aVariable, aHeader, shapeIn, globalAt, Scope}
 use Rattle.rules.specs.Lists.{Cell, variableCell, headerCell, slotsOfCell}
-use Rattle.rules.specs.Running.{State, variableTy, fieldTy, headerOnly, shapeFor, declared, variableIn, fieldIn, held}
+use Rattle.rules.specs.Running.{State, declared, variableIn, fieldIn, held}
 use Rattle.rules.proofs.Predicates.{SomeOf, isSome, from-some}
 use Rattle.rules.proofs.Fits.{CellFits, variableFits, validFits, invalidFits, store-look}
 use Rattle.program.specs.Codes.{tyOf}
@@ -19,81 +19,14 @@ use Rattle.program.specs.Stands.{HoldsWithin}
 use Rattle.program.specs.Looks.{Has, Finds, globalsOf, FoundGlobal}
 use Rattle.program.proofs.Found.{member-in}
 use Rattle.program.proofs.Members.{width-at, bits-of}
+use Rattle.lists.specs.Listing.{shapeSize}
 use Rattle.store.specs.Mirrors.{storeSlots, Scene}
 use Rattle.store.specs.Places.{AsksStored, ReadsStored, AsksHeaderTy, FindsHeaderTy}
-use Rattle.store.proofs.Flat.{look-at, same-length, Behind, behind, only}
+use Rattle.store.proofs.Flat.{look-at, same-length, behind}
+use Rattle.store.proofs.Declaring.{declared-variable, declared-field}
 use Rattle.store.proofs.Spots.{firstNumber, secondNumber, named-global, named-field, Spot, Asked, asked, spot-reads}
-use Rattle.store.proofs.Cells.{startOf, start-next, offset-is, cell-inside, cell-reads}
+use Rattle.store.proofs.Cells.{startOf, cell-size, start-next, offset-is, cell-inside, cell-reads}
 use Rattle.store.proofs.Shapes.{global-variable}
-
--- a global that is seen has its shape, of whatever kind is asked for
-pub seen-shape : {B : Type 0} (Γ : Scope) (g : ℕ) (k : Shape → Option B) (b : B) → andLook (shapeFor Γ g) k ≡ some b
-    → Behind (globalAt (Γ .program) g) k b
-unfolding shapeFor
-seen-shape Γ g k b e =
-    let h = behind (onlyIf (seesGlobals (Γ .body)) (globalAt (Γ .program) g)) k b e in
-    record {
-      found = h .found;
-      is = only (seesGlobals (Γ .body)) (globalAt (Γ .program) g) (h .found) (h .is);
-      leads = h .leads;
-    }
-
-variable-shape : (shape : Shape) (t : Ty) → variableTy shape ≡ some t → shape ≡ aVariable t
-unfolding variableTy
-variable-shape (aVariable u) t e = cc
-variable-shape (aHeader widths) t e = let z : _≡_ {A = ℕ} 0 1 = cc in absurd (omega arith)
-
-header-shape : (shape : Shape) (widths : List ℕ) → headerOnly shape ≡ some widths → shape ≡ aHeader widths
-unfolding headerOnly
-header-shape (aVariable t) widths e = let z : _≡_ {A = ℕ} 0 1 = cc in absurd (omega arith)
-header-shape (aHeader ws) widths e = cc
-
-record FieldShape (shape : Shape) (f : ℕ) (t : Ty) : Type 0 where
-  widths : List ℕ
-  width : ℕ
-  is : shape ≡ aHeader widths
-  found : getElem? widths f ≡ some width
-  typed : t ≡ bits width
-
-field-shape : (shape : Shape) (f : ℕ) (t : Ty) → fieldTy f shape ≡ some t → FieldShape shape f t
-unfolding fieldTy
-field-shape (aVariable u) f t e = let z : _≡_ {A = ℕ} 0 1 = cc in absurd (omega arith)
-field-shape (aHeader ws) f t e =
-    let b = behind (getElem? ws f) (λ width. some (bits width)) t e in
-    record { widths = ws; width = b .found; is = refl; found = b .is; typed = cc (b .leads) }
-
--- what is declared of a global and of a field, by the global's shape
-pub declared-variable : (Γ : Scope) (g : ℕ) (t : Ty) → declared Γ (global g) ≡ some t → globalAt (Γ .program) g ≡ some (aVariable t)
-unfolding declared
-declared-variable Γ g t d =
-    let b = seen-shape Γ g variableTy t d in
-    b .is ∙ ap some (variable-shape (b .found) t (b .leads))
-
-pub record DeclaredField (P : Program) (g f : ℕ) (t : Ty) : Type 0 where
-  pub widths : List ℕ
-  pub width : ℕ
-  pub is : globalAt P g ≡ some (aHeader widths)
-  pub found : getElem? widths f ≡ some width
-  pub typed : t ≡ bits width
-
-pub declared-field : (Γ : Scope) (g f : ℕ) (t : Ty) → declared Γ (field g f) ≡ some t → DeclaredField (Γ .program) g f t
-unfolding declared
-declared-field Γ g f t d =
-    let b = seen-shape Γ g (fieldTy f) t d in
-    let k = field-shape (b .found) f t (b .leads) in
-    record {
-      widths = k .widths;
-      width = k .width;
-      is = b .is ∙ ap some (k .is);
-      found = k .found;
-      typed = k .typed;
-    }
-
-pub shaped-header : (Γ : Scope) (g : ℕ) (widths : List ℕ) → andLook (shapeFor Γ g) headerOnly ≡ some widths
-    → globalAt (Γ .program) g ≡ some (aHeader widths)
-shaped-header Γ g widths d =
-    let b = seen-shape Γ g headerOnly widths d in
-    b .is ∙ ap some (header-shape (b .found) widths (b .leads))
 
 -- the cell of a global
 pub record CellOf (offsets : List ℕ) (cells : List Cell) (g : ℕ) (shape : Shape) : Type 0 where
@@ -109,7 +42,8 @@ record Fitting (cells : List Cell) (g : ℕ) (shape : Shape) : Type 0 where
   found : getElem? cells g ≡ some cell
   fits : CellFits shape cell
 
-fitting : {shape : Shape} {o : Option Cell} (cells : List Cell) (g : ℕ) → getElem? cells g ≡ o → SomeOf (CellFits shape) o
+fitting : {shape : Shape} {o : Option Cell} (cells : List Cell) (g : ℕ) → getElem? cells g ≡ o
+    → SomeOf (CellFits shape) o
     → Fitting cells g shape
 fitting cells g e (isSome {a = c} h) = record { cell = c; found = e; fits = h }
 
@@ -143,10 +77,10 @@ variable-in : {t : Ty} {c : Cell} → CellFits (aVariable t) c → variableIn c 
 unfolding variableIn slotsOfCell
 variable-in (variableFits h) = refl
 
-pub fields-in : {widths : List ℕ} {c : Cell} → CellFits (aHeader widths) c → length (slotsOfCell c) ≡ suc (length widths)
-unfolding slotsOfCell
-fields-in (validFits h) = ap suc (same-length h)
-fields-in (invalidFits h) = ap suc (same-length h)
+pub fields-in : {widths : List ℕ} {c : Cell} → CellFits (aHeader widths) c
+    → length (slotsOfCell c) ≡ suc (length widths)
+unfolding shapeSize
+fields-in h = cell-size h
 
 field-in : {widths : List ℕ} {c : Cell} (f : ℕ) → CellFits (aHeader widths) c → f < length widths
     → fieldIn f c ≡ some (getD (slotsOfCell c) (suc f) 0)
@@ -172,7 +106,8 @@ module _ (nums directory ends offsets slots : List ℕ) (at : ℕ) where
   fieldSlot = getD offsets g 0 + 1 + f
 
   -- in whatever state stands there
-  module _ (scope frame : List ℕ) (Γ : Scope) (s : State) (t : Ty) (h : Scene nums directory ends scope offsets slots frame Γ s) where
+  module _ (scope frame : List ℕ) (Γ : Scope) (s : State) (t : Ty)
+      (h : Scene nums directory ends scope offsets slots frame Γ s) where
     abbrev cellOf : (shape : Shape) → globalAt (Γ .program) g ≡ some shape → CellOf offsets (s .store) g shape
     cellOf = cell-of nums directory ends scope offsets slots frame Γ s h g
 
@@ -193,7 +128,12 @@ module _ (nums directory ends offsets slots : List ℕ) (at : ℕ) where
           most = v .most;
           typed = v .is;
           inside = omega (arith, variable-inside d, h .store .count);
-          holds = rw (c .found, first, cell-reads slots (s .store) g (c .cell) (c .found) (h .store) 0 (cell-some (c .cell)))
+          holds = rw (
+            c .found,
+            first,
+            cell-reads slots (s .store) g (c .cell) (c .found) (h .store) 0
+                (cell-some (c .cell)),
+          )
               (variable-in (c .fits));
         }
 
@@ -213,7 +153,8 @@ module _ (nums directory ends offsets slots : List ℕ) (at : ℕ) where
         → HoldsWithin 1 widest nums (r + 1 + f) (declared-field Γ g f t d .width)
     field-width r q d =
         let k = declared-field Γ g f t d in
-        width-at nums (r + 1) (k .widths) (q .finds (Γ .program) (h .scopes .end) (k .widths) (h .scopes .program) (k .is)) f
+        width-at nums (r + 1) (k .widths)
+        (q .finds (Γ .program) (h .scopes .end) (k .widths) (h .scopes .program) (k .is)) f
         (k .width) (k .found)
 
     field-spot : (r : ℕ) → FindsHeaderTy nums directory ends g r → declared Γ (field g f) ≡ some t
@@ -247,7 +188,8 @@ module _ (nums directory ends offsets slots : List ℕ) (at : ℕ) where
         record {
           few = a .few;
           behind = a .behind;
-          global = cellOf (asks .scope) (asks .frame) (a .scopeOf) (a .state) (a .ty) (a .scene) (aVariable (a .ty)) e .few;
+          global = cellOf (asks .scope) (asks .frame) (a .scopeOf) (a .state) (a .ty) (a .scene) (aVariable (a .ty))
+              e .few;
           inside = variable-inside (asks .scope) (asks .frame) (a .scopeOf) (a .state) (a .ty) (a .scene) (a .declares);
         }
 
@@ -269,7 +211,8 @@ module _ (nums directory ends offsets slots : List ℕ) (at : ℕ) where
         → ReadsStored nums directory ends offsets slots at (record { ty = n; number = getD slots (getD offsets g 0) 0 })
     variable-reads n k = record {
       stored = λ scope frame. spot-reads nums directory ends scope offsets slots frame at 4 (at + 1) (global g)
-          (named-global nums at) (asks .is) slots n (getD offsets g 0) (λ Γ s t h d. variable-spot scope frame Γ s t h n k d);
+          (named-global nums at) (asks .is) slots n (getD offsets g 0)
+          (λ Γ s t h d. variable-spot scope frame Γ s t h n k d);
     }
 
   module _ (asks : AsksStored 5 nums directory ends offsets slots at) where
@@ -285,7 +228,8 @@ module _ (nums directory ends offsets slots : List ℕ) (at : ℕ) where
         record {
           few = a .few;
           behind = a .behind;
-          global = cellOf (asks .scope) (asks .frame) (a .scopeOf) (a .state) (a .ty) (a .scene) (aHeader (k .widths)) (k .is) .few;
+          global = cellOf (asks .scope) (asks .frame) (a .scopeOf) (a .state) (a .ty) (a .scene)
+              (aHeader (k .widths)) (k .is) .few;
           inside = field-inside (asks .scope) (asks .frame) (a .scopeOf) (a .state) (a .ty) (a .scene) (a .declares);
         }
 
@@ -304,7 +248,8 @@ module _ (nums directory ends offsets slots : List ℕ) (at : ℕ) where
     pub field-typed : (r : ℕ) → FindsHeaderTy nums directory ends g r → r + 1 + f < length nums
     field-typed r q =
         let a = askedField in
-        field-width (asks .scope) (asks .frame) (a .scopeOf) (a .state) (a .ty) (a .scene) r q (a .declares) .holds .inside
+        field-width (asks .scope) (asks .frame) (a .scopeOf) (a .state) (a .ty) (a .scene) r q (a .declares)
+        .holds .inside
 
     pub field-reads : (r : ℕ) → FindsHeaderTy nums directory ends g r → ReadsStored nums directory ends offsets slots at
         (record { ty = getD nums (r + 1 + f) 0; number = getD slots fieldSlot 0 })

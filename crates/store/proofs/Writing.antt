@@ -18,7 +18,8 @@ use Rattle.store.specs.Changes.{Becomes, WritesFramed, AsksCell, WritesC
 use Rattle.store.proofs.Flat.{look-at, change-is, same-length, behind}
 use Rattle.store.proofs.Spots.{firstNumber, secondNumber, named-local, named-parameter, named-global, named-field}
 use Rattle.store.proofs.Cells.{startOf, cell-inside, cell-reads, Replaced}
-use Rattle.store.proofs.Stored.{CellOf, cell-of, declared-variable, declared-field, cell-some, fields-in}
+use Rattle.store.proofs.Declaring.{declared-variable, declared-field}
+use Rattle.store.proofs.Stored.{CellOf, cell-of, cell-some, fields-in}
 use Rattle.store.proofs.Changing.{set-replaced, the-some, Made, store-becomes, put-fits, spot-writes}
 
 -- a number put into a list
@@ -68,7 +69,8 @@ module _ (nums scope frame : List ℕ) (at number : ℕ) where
         })
 
     parameter-becomes : declared Γ (parameter i) ≡ some t → Fit t number
-        → Becomes nums directory ends scope offsets slots slots frame (set frame i number) Γ s (put (parameter i) number s)
+        → Becomes nums directory ends scope offsets slots slots frame (set frame i number) Γ s
+        (put (parameter i) number s)
     unfolding declared put withParameters andLook
     parameter-becomes d fit =
         let m = behind (getElem? (Γ .parameters) i) (λ p. some (p .ty)) t d in
@@ -77,7 +79,8 @@ module _ (nums scope frame : List ℕ) (at number : ℕ) where
         let made : put (parameter i) number s ≡ some (withParameters s (set ps i number)) = rw (put-in number ps i k) in
         let first : (j : ℕ) → 0 + j ≡ j = λ j. omega arith in
         let r : Replaced frame (set frame (0 + i) number) 0 (set ps i number)
-        = set-replaced frame ps 0 i number (omega (arith, h .frames .room)) k (λ j l. rw (first j) (h .frames .parameter j l)) in
+        = set-replaced frame ps 0 i number (omega (arith, h .frames .room)) k
+        (λ j l. rw (first j) (h .frames .parameter j l)) in
         let q : Replaced frame (set frame i number) 0 (set ps i number) = rw (first i) at r in
         let n : length (set ps i number) ≡ length ps = length-set ps i number in
         record {
@@ -173,7 +176,8 @@ module _ (nums offsets slots : List ℕ) (at number : ℕ) where
         let c = cellOf (aVariable t) (declared-variable Γ g t d) in
         store-becomes nums directory ends scope offsets slots frame Γ s h g (aVariable t) c (setVariable number)
         (set slots (getD offsets g 0) number)
-        (made-set (setVariable number) (aVariable t) c 0 (getD offsets g 0) (omega (arith, c .start)) (cell-some (c .cell))
+        (made-set (setVariable number) (aVariable t) c 0 (getD offsets g 0) (omega (arith, c .start))
+        (cell-some (c .cell))
         (variable-set number (c .fits)))
         (put-fits Γ (global g) s t number (h .fits) d fit)
 
@@ -194,7 +198,8 @@ module _ (nums offsets slots : List ℕ) (at number : ℕ) where
         let i : f < length (k .widths) = member-in (k .widths) f (k .width) (k .found) in
         store-becomes nums directory ends scope offsets slots frame Γ s h g (aHeader (k .widths)) c (setField f number)
         (set slots (getD offsets g 0 + 1 + f) number)
-        (made-set (setField f number) (aHeader (k .widths)) c (suc f) (getD offsets g 0 + 1 + f) (omega (arith, c .start))
+        (made-set (setField f number) (aHeader (k .widths)) c (suc f) (getD offsets g 0 + 1 + f)
+        (omega (arith, c .start))
         (omega (arith, fields-in (c .fits)))
         (field-set f number (c .fits) i (mark-slot (aHeader (k .widths)) c ∙ valid)))
         (put-fits Γ (field g f) s t number (h .fits) d fit)
@@ -205,7 +210,8 @@ module _ (nums offsets slots : List ℕ) (at number : ℕ) where
     field-stays invalid d fit =
         let k = declared-field Γ g f t d in
         let c = cellOf (aHeader (k .widths)) (k .is) in
-        store-becomes nums directory ends scope offsets slots frame Γ s h g (aHeader (k .widths)) c (setField f number) slots
+        store-becomes nums directory ends scope offsets slots frame Γ s h g (aHeader (k .widths)) c
+        (setField f number) slots
         (record {
           cell = c .cell;
           is = field-kept f number (c .fits) (λ e. invalid (sym (mark-slot (aHeader (k .widths)) c) ∙ e));
@@ -232,13 +238,15 @@ module _ (nums offsets slots : List ℕ) (at number : ℕ) where
         → WritesCell nums offsets slots (set slots (getD offsets g 0 + 1 + f) number) at number
     field-writes valid = record {
       stored = λ directory ends scope frame. spot-writes nums directory ends scope offsets slots
-          (set slots (getD offsets g 0 + 1 + f) number) frame frame at number 5 (at + 2) (field g f) (named-field nums at)
+          (set slots (getD offsets g 0 + 1 + f) number) frame frame at number 5 (at + 2) (field g f)
+          (named-field nums at)
           (asks .asks .is) (λ Γ s t h. field-becomes directory ends scope frame Γ s t h valid);
     }
 
     pub field-unwritten : (getD slots (getD offsets g 0) 0 ≡ 1 → ⊥) → WritesCell nums offsets slots slots at number
     field-unwritten invalid = record {
-      stored = λ directory ends scope frame. spot-writes nums directory ends scope offsets slots slots frame frame at number
+      stored = λ directory ends scope frame. spot-writes nums directory ends scope offsets slots slots frame frame at
+          number
           5 (at + 2) (field g f) (named-field nums at) (asks .asks .is)
           (λ Γ s t h. field-stays directory ends scope frame Γ s t h invalid);
     }

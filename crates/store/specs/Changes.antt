@@ -59,7 +59,8 @@ pub record ChangesHeader (change : Cell → Option Cell) (offsets slots slots′
       → Becomes nums directory ends scope offsets slots slots′ frame frame Γ s (changeStore change g s)
 
 -- a place is written
-pub record WritesPlace (nums directory ends scope offsets slots slots′ frame frame′ : List ℕ) (at number : ℕ) : Type 0 where
+pub record WritesPlace (nums directory ends scope offsets slots slots′ frame frame′ : List ℕ) (at number : ℕ)
+    : Type 0 where
   pub writes : (Γ : Scope) (s : State) (p : Place) (t : Ty) → Scene nums directory ends scope offsets slots frame Γ s
       → NamesPlace nums at p → declared Γ p ≡ some t → Fit t number
       → Becomes nums directory ends scope offsets slots slots′ frame frame′ Γ s (put p number s)

@@ -22,16 +22,24 @@ mul-slots : tie.Need-mul-slots Inv-loop μ-loop
 mul-slots c = record { fits = omega (arith, fill-room _ _ _ _ _ _ (c .before .loop .inv) (c .loop-test .taken)) }
 
 shared-slice-read-slots : tie.Need-shared-slice-read-slots Inv-loop μ-loop
-shared-slice-read-slots c = omega (arith, fill-room _ _ _ _ _ _ (c .before .before .loop .inv) (c .before .loop-test .taken))
+shared-slice-read-slots c
+    = omega (arith, fill-room _ _ _ _ _ _ (c .before .before .loop .inv) (c .before .loop-test .taken))
 
 mul-slots-2 : tie.Need-mul-slots-2 Inv-loop μ-loop
-mul-slots-2 c = record { fits = omega (arith, fill-room _ _ _ _ _ _ (c .before .before .loop .inv) (c .before .loop-test .taken)) }
+mul-slots-2 c = record {
+  fits
+      = omega (arith, fill-room _ _ _ _ _ _ (c .before .before .loop .inv) (c .before .loop-test .taken));
+}
 
 element-write-slots : tie.Need-element-write-slots Inv-loop μ-loop
-element-write-slots c = omega (arith, fill-room _ _ _ _ _ _ (c .before .before .loop .inv) (c .before .loop-test .taken))
+element-write-slots c = omega
+    (arith, fill-room _ _ _ _ _ _ (c .before .before .loop .inv) (c .before .loop-test .taken))
 
 add-at : tie.Need-add-at Inv-loop μ-loop
-add-at c = record { fits = omega (arith, fill-room _ _ _ _ _ _ (c .before .before .loop .inv) (c .before .loop-test .taken)) }
+add-at c = record {
+  fits = omega
+      (arith, fill-room _ _ _ _ _ _ (c .before .before .loop .inv) (c .before .loop-test .taken));
+}
 
 loop-less : tie.Need-loop-less Inv-loop μ-loop
 loop-less c = search (fillings, needs)

@@ -27,34 +27,76 @@ header-type-requires : tie.Need-header-type-requires
 header-type-requires c κs = search (stored, needs)
 
 add-t10 : tie.Need-add-t10
-add-t10 c = record { fits = omega (arith, field-room _ _ _ _ _ _ (c .before .before .before .before .before .pre), field-typed _ _ _ _ _ _ (c .before .before .before .before .before .pre) _ (c .header-type .ensures)) }
+add-t10 c = record {
+  fits
+      = omega (
+        arith,
+        field-room _ _ _ _ _ _ (c .before .before .before .before .before .pre),
+        field-typed _ _ _ _ _ _
+            (c .before .before .before .before .before .pre) _ (c .header-type .ensures),
+      );
+}
 
 add-t11 : tie.Need-add-t11
-add-t11 c = record { fits = omega (arith, field-room _ _ _ _ _ _ (c .before .before .before .before .before .pre), field-typed _ _ _ _ _ _ (c .before .before .before .before .before .pre) _ (c .header-type .ensures)) }
+add-t11 c = record {
+  fits
+      = omega (
+        arith,
+        field-room _ _ _ _ _ _ (c .before .before .before .before .before .pre),
+        field-typed _ _ _ _ _ _
+            (c .before .before .before .before .before .pre) _ (c .header-type .ensures),
+      );
+}
 
 mul-t15 : tie.Need-mul-t15
-mul-t15 c = record { fits = omega (arith, field-room _ _ _ _ _ _ (c .before .before .before .before .before .pre), field-typed _ _ _ _ _ _ (c .before .before .before .before .before .pre) _ (c .header-type .ensures)) }
+mul-t15 c = record {
+  fits
+      = omega (
+        arith,
+        field-room _ _ _ _ _ _ (c .before .before .before .before .before .pre),
+        field-typed _ _ _ _ _ _
+            (c .before .before .before .before .before .pre) _ (c .header-type .ensures),
+      );
+}
 
 shared-slice-read-t13 : tie.Need-shared-slice-read-t13
-shared-slice-read-t13 c = omega (arith, field-room _ _ _ _ _ _ (c .before .before .before .before .before .before .pre), field-typed _ _ _ _ _ _ (c .before .before .before .before .before .before .pre) _ (c .before .header-type .ensures))
+shared-slice-read-t13 c = omega (
+  arith,
+  field-room _ _ _ _ _ _ (c .before .before .before .before .before .before .pre),
+  field-typed _ _ _ _ _ _
+      (c .before .before .before .before .before .before .pre) _ (c .before .header-type .ensures),
+)
 
 mul-t17 : tie.Need-mul-t17
-mul-t17 c = record { fits = omega (arith, field-room _ _ _ _ _ _ (c .before .before .before .before .before .before .pre)) }
+mul-t17 c = record {
+  fits
+      = omega (arith, field-room _ _ _ _ _ _ (c .before .before .before .before .before .before .pre));
+}
 
 element-copy-out-t20 : tie.Need-element-copy-out-t20
 element-copy-out-t20 c = omega (arith, field-room _ _ _ _ _ _ (c .before .before .before .before .before .before .pre))
 
 add-t22 : tie.Need-add-t22
-add-t22 c = record { fits = omega (arith, field-room _ _ _ _ _ _ (c .before .before .before .before .before .before .before .pre)) }
+add-t22 c = record {
+  fits
+      = omega (arith, field-room _ _ _ _ _ _ (c .before .before .before .before .before .before .before .pre));
+}
 
 add-t23 : tie.Need-add-t23
-add-t23 c = record { fits = omega (arith, field-room _ _ _ _ _ _ (c .before .before .before .before .before .before .before .pre)) }
+add-t23 c = record {
+  fits
+      = omega (arith, field-room _ _ _ _ _ _ (c .before .before .before .before .before .before .before .pre));
+}
 
 mul-t24 : tie.Need-mul-t24
-mul-t24 c = record { fits = omega (arith, field-room _ _ _ _ _ _ (c .before .before .before .before .before .before .before .pre)) }
+mul-t24 c = record {
+  fits
+      = omega (arith, field-room _ _ _ _ _ _ (c .before .before .before .before .before .before .before .pre));
+}
 
 element-copy-out-t27 : tie.Need-element-copy-out-t27
-element-copy-out-t27 c = omega (arith, field-room _ _ _ _ _ _ (c .before .before .before .before .before .before .before .pre))
+element-copy-out-t27 c = omega
+    (arith, field-room _ _ _ _ _ _ (c .before .before .before .before .before .before .before .pre))
 
 returns : tie.Need-returns
 returns c = search (stored, needs)

@@ -37,13 +37,22 @@ element-copy-out-if1 : tie.Need-element-copy-out-if1
 element-copy-out-if1 c = omega (arith, field-room _ _ _ _ _ _ (c .before .before .before .pre .asks))
 
 add-slots : tie.Need-add-slots
-add-slots c = record { fits = omega (arith, field-room _ _ _ _ _ _ (c .before .before .before .before .before .pre .asks)) }
+add-slots c = record {
+  fits
+      = omega (arith, field-room _ _ _ _ _ _ (c .before .before .before .before .before .pre .asks));
+}
 
 add-slots-2 : tie.Need-add-slots-2
-add-slots-2 c = record { fits = omega (arith, field-room _ _ _ _ _ _ (c .before .before .before .before .before .pre .asks)) }
+add-slots-2 c = record {
+  fits
+      = omega (arith, field-room _ _ _ _ _ _ (c .before .before .before .before .before .pre .asks));
+}
 
 mul-slots : tie.Need-mul-slots
-mul-slots c = record { fits = omega (arith, field-room _ _ _ _ _ _ (c .before .before .before .before .before .pre .asks)) }
+mul-slots c = record {
+  fits
+      = omega (arith, field-room _ _ _ _ _ _ (c .before .before .before .before .before .pre .asks));
+}
 
 element-write-slots : tie.Need-element-write-slots
 element-write-slots c = omega (arith, field-room _ _ _ _ _ _ (c .before .before .before .before .before .pre .asks))
