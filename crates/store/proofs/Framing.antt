@@ -13,7 +13,7 @@ use Rattle.program.specs.Stands.{HoldsTy}
 use Rattle.program.proofs.Found.{member-in}
 use Rattle.program.proofs.Members.{parameter-at, type-at}
 use Rattle.store.specs.Mirrors.{Scene}
-use Rattle.store.specs.Places.{AsksFramed, ReadsFramed}
+use Rattle.store.specs.Places.{localTag, parameterTag, AsksFramed, ReadsFramed}
 use Rattle.store.proofs.Flat.{look-at, same-length, Behind, behind}
 use Rattle.store.proofs.Spots.{firstNumber, named-local, named-parameter, Spot, asked, spot-reads}
 
@@ -82,10 +82,10 @@ module _ (nums scope frame : List ℕ) (at : ℕ) where
           holds = look-at (s .parameters) i k ∙ ap some (sym (h .frames .parameter i k));
         }
 
-  module _ (asks : AsksFramed 2 nums scope frame at) where
+  module _ (asks : AsksFramed localTag nums scope frame at) where
     pub local-room : FrameRoom nums frame at localTyAt localSlot
     local-room =
-        let a = asked nums (asks .directory) (asks .ends) scope (asks .offsets) (asks .slots) frame at 2 (at + 1)
+        let a = asked nums (asks .directory) (asks .ends) scope (asks .offsets) (asks .slots) frame at localTag (at + 1)
         (local i)
         (named-local nums at) (asks .is) (asks .asks) in
         record {
@@ -102,16 +102,18 @@ module _ (nums scope frame : List ℕ) (at : ℕ) where
     pub local-reads : ReadsFramed nums scope frame at
         (record { ty = getD nums localTyAt 0; number = getD frame localSlot 0 })
     local-reads = record {
-      framed = λ directory ends offsets slots. spot-reads nums directory ends scope offsets slots frame at 2 (at + 1)
+      framed = λ directory ends offsets slots. spot-reads nums directory ends scope offsets slots frame at localTag
+          (at + 1)
           (local i)
           (named-local nums at) (asks .is) frame (getD nums localTyAt 0) localSlot
           (local-spot directory ends offsets slots);
     }
 
-  module _ (asks : AsksFramed 3 nums scope frame at) where
+  module _ (asks : AsksFramed parameterTag nums scope frame at) where
     pub parameter-room : FrameRoom nums frame at parameterTyAt i
     parameter-room =
-        let a = asked nums (asks .directory) (asks .ends) scope (asks .offsets) (asks .slots) frame at 3 (at + 1)
+        let a = asked nums (asks .directory) (asks .ends) scope (asks .offsets) (asks .slots) frame at parameterTag
+        (at + 1)
         (parameter i) (named-parameter nums at) (asks .is) (asks .asks) in
         record {
           few = a .few;
@@ -125,7 +127,8 @@ module _ (nums scope frame : List ℕ) (at : ℕ) where
     pub parameter-reads : ReadsFramed nums scope frame at
         (record { ty = getD nums parameterTyAt 0; number = getD frame i 0 })
     parameter-reads = record {
-      framed = λ directory ends offsets slots. spot-reads nums directory ends scope offsets slots frame at 3 (at + 1)
+      framed = λ directory ends offsets slots. spot-reads nums directory ends scope offsets slots frame at
+          parameterTag (at + 1)
           (parameter i) (named-parameter nums at) (asks .is) frame (getD nums parameterTyAt 0) i
           (parameter-spot directory ends offsets slots);
     }

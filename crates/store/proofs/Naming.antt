@@ -6,7 +6,7 @@ use lib.ListN.{length, getD}
 use Rattle.rules.specs.Syntax.{Place, local, parameter, global, field}
 use Rattle.program.specs.Codes.{placeTag}
 use Rattle.store.specs.declared.Held.{Held}
-use Rattle.store.specs.Places.{AsksPlace, ReadsPlace, AsksFramed, ReadsFramed, AsksStored, ReadsStored}
+use Rattle.store.specs.Places.{fieldTag, AsksPlace, ReadsPlace, AsksFramed, ReadsFramed, AsksStored, ReadsStored}
 use Rattle.store.specs.Changes.{WritesFramed, AsksCell, WritesCell, AsksWrite, Writes}
 
 last-tag : (p : Place) → (placeTag p ≡ 2 → ⊥) → (placeTag p ≡ 3 → ⊥) → (placeTag p ≡ 4 → ⊥) → placeTag p ≡ 5
@@ -35,10 +35,10 @@ module _ (nums directory ends scope offsets slots frame : List ℕ) (at : ℕ)
   asks-stored tag e = record { scope = scope; frame = frame; asks = asks; is = e }
 
   pub asks-field : (getD nums at 0 ≡ 2 → ⊥) → (getD nums at 0 ≡ 3 → ⊥) → (getD nums at 0 ≡ 4 → ⊥)
-      → AsksStored 5 nums directory ends offsets slots at
+      → AsksStored fieldTag nums directory ends offsets slots at
   asks-field x y z =
       let e : getD nums at 0 ≡ placeTag (asks .place) = asks .names .tag .is in
-      asks-stored 5 (e ∙ last-tag (asks .place) (λ q. x (e ∙ q)) (λ q. y (e ∙ q)) (λ q. z (e ∙ q)))
+      asks-stored fieldTag (e ∙ last-tag (asks .place) (λ q. x (e ∙ q)) (λ q. y (e ∙ q)) (λ q. z (e ∙ q)))
 
 module _ (nums directory ends scope offsets slots frame : List ℕ) (at : ℕ) (r : Held) where
   pub reads-framed : ReadsFramed nums scope frame at r → ReadsPlace nums directory ends scope offsets slots frame at r
@@ -67,7 +67,7 @@ module _ (nums scope offsets slots frame : List ℕ) (at : ℕ) (asks : AsksWrit
   }
 
   pub target-field : (getD nums at 0 ≡ 2 → ⊥) → (getD nums at 0 ≡ 3 → ⊥) → (getD nums at 0 ≡ 4 → ⊥)
-      → AsksCell 5 nums offsets slots at
+      → AsksCell fieldTag nums offsets slots at
   target-field x y z = record {
     directory = asks .directory;
     ends = asks .ends;

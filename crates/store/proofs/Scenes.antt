@@ -1,4 +1,4 @@
--- How a scene goes on around what the places do: the counter is set, a call begins, and a call has ended.
+-- Scenes around what the places do: a run begins, the counter is set, a call begins, a call has ended.
 use mathlib.Core.Path.{_≡_, _∙_}
 use mathlib.Core.List.{List, [], _∷_}
 use Prim.Native.Nat.{ℕ, _+_, _≤_, _<_}
@@ -6,15 +6,17 @@ use native.Mathlib.Omega.{arith}
 use lib.ListN.{length, getD, set, length-set}
 use lib.Seq.{getD-set-other}
 use Rattle.rules.specs.Syntax.{Ty, Callable, Program}
-use Rattle.rules.specs.Form.{Scope, scopeOf}
+use Rattle.rules.specs.Form.{Scope, scopeOf, applyScope}
 use Rattle.rules.specs.Lists.{Cell}
 use Rattle.rules.specs.Running.{State, withStore, fresh}
 use Rattle.rules.proofs.Predicates.{All2, nil, cons}
 use Rattle.rules.proofs.Fits.{Fit, FitParameter, StoreFits, zero-fits, with-store}
+use Rattle.program.specs.Stands.{StandsProgram}
 use Rattle.program.specs.Scopes.{StandsScope}
-use Rattle.store.specs.Mirrors.{counterSlot, MirrorsStore, OffsetsOf, Scene}
-use Rattle.store.specs.Fills.{Clears}
-use Rattle.store.proofs.Sizes.{noughts, fresh-frame}
+use Rattle.lists.specs.Stands.{ListsStand}
+use Rattle.store.specs.Mirrors.{counterSlot, storeSlots, MirrorsStore, OffsetsOf, Scene}
+use Rattle.store.specs.Fills.{Clears, AsksFill, Fills}
+use Rattle.store.proofs.Sizes.{store-most, noughts, fresh-frame}
 
 pub counter-mirrors : (slots : List ℕ) (cells : List Cell) (n : ℕ) → MirrorsStore slots cells
     → MirrorsStore (set slots counterSlot n) cells
@@ -76,3 +78,37 @@ scene-fresh nums directory ends scope offsets slots frame frame′ P n c ns cell
   store = m;
   frames = fresh-frame frame frame′ c ns cells room args z;
 }
+
+-- a run begins, in the apply body, behind lists that are fine
+module _ (nums directory ends entries offsets : List ℕ) (P : Program) (end store size : ℕ)
+    (s : StandsProgram nums directory ends P end) (l : ListsStand P end nums entries offsets store size)
+    (f : StoreFits P (l .cells)) where
+  pub start-offsets : OffsetsOf P offsets
+  start-offsets = record { is = l .offset }
+
+  pub start-fills : (slots : List ℕ) → length slots ≡ storeSlots → AsksFill nums slots store size
+  start-fills slots e = record {
+    cells = l .cells;
+    stand = l .stands;
+    sized = l .sizeIs;
+    numbers = s .numbers;
+    most = omega (arith, l .sizeIs, store-most nums directory ends P end s (l .cells) f);
+    count = e;
+  }
+
+  pub scene-start : (scope slots slots′ frame : List ℕ) → StandsScope nums directory ends scope (applyScope P)
+      → Fills nums slots slots′ store size
+      → Scene nums directory ends scope offsets slots′ frame (applyScope P)
+      (record { store = l .cells; parameters = []; locals = [] })
+  unfolding applyScope
+  scene-start scope slots slots′ frame k h = record {
+    scopes = k;
+    offset = start-offsets;
+    fits = record { store-fits = f; parameters-fit = nil; locals-fit = nil };
+    store = h .mirrors (l .cells) (l .stands) (l .sizeIs);
+    frames = record {
+      room = omega arith;
+      parameter = λ i q. absurd (omega arith);
+      local = λ i q. absurd (omega arith);
+    };
+  }

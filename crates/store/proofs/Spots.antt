@@ -15,7 +15,7 @@ use Rattle.rules.proofs.Fits.{Fit, StateFits, held-at}
 use Rattle.program.specs.Codes.{tyOf, placeTag}
 use Rattle.program.specs.Stands.{StandsPlace}
 use Rattle.store.specs.Mirrors.{Scene}
-use Rattle.store.specs.Places.{NamesPlace, AsksPlace, HeldAs, ReadsPlace}
+use Rattle.store.specs.Places.{fieldTag, localTag, parameterTag, variableTag, NamesPlace, AsksPlace, HeldAs, ReadsPlace}
 
 -- what a place of a tag is, by the numbers behind the tag, the last of which stands at an index
 pub record Named (nums : List ℕ) (last : ℕ) (p q : Place) : Type 0 where
@@ -32,28 +32,28 @@ module _ (nums : List ℕ) (at : ℕ) where
   abbrev pub Names : ℕ → ℕ → Place → Type 0
   Names tag last q = (p : Place) → NamesPlace nums at p → getD nums at 0 ≡ tag → Named nums last p q
 
-  pub named-local : Names 2 (at + 1) (local firstNumber)
+  pub named-local : Names localTag (at + 1) (local firstNumber)
   unfolding placeTag StandsPlace
   named-local (local i) n e = record { is = ap local (sym (n .stands .is)); inside = n .stands .inside }
   named-local (parameter i) n e = absurd (omega (arith, n .tag .is))
   named-local (global g) n e = absurd (omega (arith, n .tag .is))
   named-local (field g f) n e = absurd (omega (arith, n .tag .is))
 
-  pub named-parameter : Names 3 (at + 1) (parameter firstNumber)
+  pub named-parameter : Names parameterTag (at + 1) (parameter firstNumber)
   unfolding placeTag StandsPlace
   named-parameter (local i) n e = absurd (omega (arith, n .tag .is))
   named-parameter (parameter i) n e = record { is = ap parameter (sym (n .stands .is)); inside = n .stands .inside }
   named-parameter (global g) n e = absurd (omega (arith, n .tag .is))
   named-parameter (field g f) n e = absurd (omega (arith, n .tag .is))
 
-  pub named-global : Names 4 (at + 1) (global firstNumber)
+  pub named-global : Names variableTag (at + 1) (global firstNumber)
   unfolding placeTag StandsPlace
   named-global (local i) n e = absurd (omega (arith, n .tag .is))
   named-global (parameter i) n e = absurd (omega (arith, n .tag .is))
   named-global (global g) n e = record { is = ap global (sym (n .stands .is)); inside = n .stands .inside }
   named-global (field g f) n e = absurd (omega (arith, n .tag .is))
 
-  pub named-field : Names 5 (at + 2) (field firstNumber secondNumber)
+  pub named-field : Names fieldTag (at + 2) (field firstNumber secondNumber)
   unfolding placeTag StandsPlace
   named-field (local i) n e = absurd (omega (arith, n .tag .is))
   named-field (parameter i) n e = absurd (omega (arith, n .tag .is))

@@ -21,7 +21,7 @@ use Rattle.program.proofs.Found.{member-in}
 use Rattle.program.proofs.Members.{width-at, bits-of}
 use Rattle.lists.specs.Listing.{shapeSize}
 use Rattle.store.specs.Mirrors.{storeSlots, Scene}
-use Rattle.store.specs.Places.{AsksStored, ReadsStored, AsksHeaderTy, FindsHeaderTy}
+use Rattle.store.specs.Places.{fieldTag, variableTag, AsksStored, ReadsStored, AsksHeaderTy, FindsHeaderTy}
 use Rattle.store.proofs.Flat.{look-at, same-length, behind}
 use Rattle.store.proofs.Declaring.{declared-variable, declared-field}
 use Rattle.store.proofs.Spots.{firstNumber, secondNumber, named-global, named-field, Spot, Asked, asked, spot-reads}
@@ -175,10 +175,12 @@ module _ (nums directory ends offsets slots : List ℕ) (at : ℕ) where
               (field-in f (c .fits) i);
         }
 
-  module _ (asks : AsksStored 4 nums directory ends offsets slots at) where
-    abbrev askedVariable : Asked nums directory ends (asks .scope) offsets slots (asks .frame) at 4 (at + 1) (global g)
+  module _ (asks : AsksStored variableTag nums directory ends offsets slots at) where
+    abbrev askedVariable : Asked nums directory ends (asks .scope) offsets slots (asks .frame) at variableTag
+        (at + 1) (global g)
         (named-global nums at) (asks .is)
-    askedVariable = asked nums directory ends (asks .scope) offsets slots (asks .frame) at 4 (at + 1) (global g)
+    askedVariable = asked nums directory ends (asks .scope) offsets slots (asks .frame) at variableTag (at + 1)
+        (global g)
         (named-global nums at) (asks .is) (asks .asks)
 
     pub variable-room : StoreRoom nums (at + 1) g (getD offsets g 0)
@@ -210,15 +212,17 @@ module _ (nums directory ends offsets slots : List ℕ) (at : ℕ) where
     pub variable-reads : (n : ℕ) → Finds globalsOf (FoundGlobal n) nums directory ends g
         → ReadsStored nums directory ends offsets slots at (record { ty = n; number = getD slots (getD offsets g 0) 0 })
     variable-reads n k = record {
-      stored = λ scope frame. spot-reads nums directory ends scope offsets slots frame at 4 (at + 1) (global g)
+      stored = λ scope frame. spot-reads nums directory ends scope offsets slots frame at variableTag (at + 1)
+          (global g)
           (named-global nums at) (asks .is) slots n (getD offsets g 0)
           (λ Γ s t h d. variable-spot scope frame Γ s t h n k d);
     }
 
-  module _ (asks : AsksStored 5 nums directory ends offsets slots at) where
-    abbrev askedField : Asked nums directory ends (asks .scope) offsets slots (asks .frame) at 5 (at + 2) (field g f)
+  module _ (asks : AsksStored fieldTag nums directory ends offsets slots at) where
+    abbrev askedField : Asked nums directory ends (asks .scope) offsets slots (asks .frame) at fieldTag (at + 2)
+        (field g f)
         (named-field nums at) (asks .is)
-    askedField = asked nums directory ends (asks .scope) offsets slots (asks .frame) at 5 (at + 2) (field g f)
+    askedField = asked nums directory ends (asks .scope) offsets slots (asks .frame) at fieldTag (at + 2) (field g f)
         (named-field nums at) (asks .is) (asks .asks)
 
     pub field-room : StoreRoom nums (at + 2) g fieldSlot
@@ -254,7 +258,7 @@ module _ (nums directory ends offsets slots : List ℕ) (at : ℕ) where
     pub field-reads : (r : ℕ) → FindsHeaderTy nums directory ends g r → ReadsStored nums directory ends offsets slots at
         (record { ty = getD nums (r + 1 + f) 0; number = getD slots fieldSlot 0 })
     field-reads r q = record {
-      stored = λ scope frame. spot-reads nums directory ends scope offsets slots frame at 5 (at + 2) (field g f)
+      stored = λ scope frame. spot-reads nums directory ends scope offsets slots frame at fieldTag (at + 2) (field g f)
           (named-field nums at) (asks .is) slots (getD nums (r + 1 + f) 0) fieldSlot
           (λ Γ s t h d. field-spot scope frame Γ s t h r q d);
     }

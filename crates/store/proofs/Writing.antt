@@ -13,7 +13,7 @@ use Rattle.rules.specs.Running.{State, change, declared, setVariable, setField,
 use Rattle.rules.proofs.Fits.{Fit, CellFits, variableFits, validFits, invalidFits}
 use Rattle.program.proofs.Found.{member-in}
 use Rattle.store.specs.Mirrors.{Scene}
-use Rattle.store.specs.Places.{AsksFramed}
+use Rattle.store.specs.Places.{fieldTag, localTag, parameterTag, variableTag, AsksFramed}
 use Rattle.store.specs.Changes.{Becomes, WritesFramed, AsksCell, WritesCell}
 use Rattle.store.proofs.Flat.{look-at, change-is, same-length, behind}
 use Rattle.store.proofs.Spots.{firstNumber, secondNumber, named-local, named-parameter, named-global, named-field}
@@ -101,18 +101,19 @@ module _ (nums scope frame : List ℕ) (at number : ℕ) where
           keeps = record { same = q .same; free = λ j l. q .behind j (omega arith) };
         }
 
-  pub local-writes : AsksFramed 2 nums scope frame at
+  pub local-writes : AsksFramed localTag nums scope frame at
       → WritesFramed nums scope frame (set frame (getD scope 2 0 + i) number) at number
   local-writes asks = record {
     framed = λ directory ends offsets slots. spot-writes nums directory ends scope offsets slots slots frame
-        (set frame (getD scope 2 0 + i) number) at number 2 (at + 1) (local i) (named-local nums at) (asks .is)
+        (set frame (getD scope 2 0 + i) number) at number localTag (at + 1) (local i) (named-local nums at) (asks .is)
         (local-becomes directory ends offsets slots);
   }
 
-  pub parameter-writes : AsksFramed 3 nums scope frame at → WritesFramed nums scope frame (set frame i number) at number
+  pub parameter-writes : AsksFramed parameterTag nums scope frame at
+      → WritesFramed nums scope frame (set frame i number) at number
   parameter-writes asks = record {
     framed = λ directory ends offsets slots. spot-writes nums directory ends scope offsets slots slots frame
-        (set frame i number) at number 3 (at + 1) (parameter i) (named-parameter nums at) (asks .is)
+        (set frame i number) at number parameterTag (at + 1) (parameter i) (named-parameter nums at) (asks .is)
         (parameter-becomes directory ends offsets slots);
   }
 
@@ -225,20 +226,21 @@ module _ (nums offsets slots : List ℕ) (at number : ℕ) where
         })
         (put-fits Γ (field g f) s t number (h .fits) d fit)
 
-  pub variable-writes : AsksCell 4 nums offsets slots at
+  pub variable-writes : AsksCell variableTag nums offsets slots at
       → WritesCell nums offsets slots (set slots (getD offsets g 0) number) at number
   variable-writes asks = record {
     stored = λ directory ends scope frame. spot-writes nums directory ends scope offsets slots
-        (set slots (getD offsets g 0) number) frame frame at number 4 (at + 1) (global g) (named-global nums at)
+        (set slots (getD offsets g 0) number) frame frame at number variableTag (at + 1) (global g)
+        (named-global nums at)
         (asks .asks .is) (variable-becomes directory ends scope frame);
   }
 
-  module _ (asks : AsksCell 5 nums offsets slots at) where
+  module _ (asks : AsksCell fieldTag nums offsets slots at) where
     pub field-writes : getD slots (getD offsets g 0) 0 ≡ 1
         → WritesCell nums offsets slots (set slots (getD offsets g 0 + 1 + f) number) at number
     field-writes valid = record {
       stored = λ directory ends scope frame. spot-writes nums directory ends scope offsets slots
-          (set slots (getD offsets g 0 + 1 + f) number) frame frame at number 5 (at + 2) (field g f)
+          (set slots (getD offsets g 0 + 1 + f) number) frame frame at number fieldTag (at + 2) (field g f)
           (named-field nums at)
           (asks .asks .is) (λ Γ s t h. field-becomes directory ends scope frame Γ s t h valid);
     }
@@ -247,7 +249,7 @@ module _ (nums offsets slots : List ℕ) (at number : ℕ) where
     field-unwritten invalid = record {
       stored = λ directory ends scope frame. spot-writes nums directory ends scope offsets slots slots frame frame at
           number
-          5 (at + 2) (field g f) (named-field nums at) (asks .asks .is)
+          fieldTag (at + 2) (field g f) (named-field nums at) (asks .asks .is)
           (λ Γ s t h. field-stays directory ends scope frame Γ s t h invalid);
     }
 

@@ -41,6 +41,19 @@ pub record ReadsPlace (nums directory ends scope offsets slots frame : List ℕ)
   pub reads : (Γ : Scope) (s : State) (p : Place) (t : Ty) → Scene nums directory ends scope offsets slots frame Γ s
       → NamesPlace nums at p → declared Γ p ≡ some t → HeldAs Γ p s (r .ty) (r .number)
 
+-- the tags of places
+abbrev pub localTag : ℕ
+localTag = 2
+
+abbrev pub parameterTag : ℕ
+parameterTag = 3
+
+abbrev pub variableTag : ℕ
+variableTag = 4
+
+abbrev pub fieldTag : ℕ
+fieldTag = 5
+
 -- a place of a tag that stands in the frame; and one that stands in the store
 pub record AsksFramed (tag : ℕ) (nums scope frame : List ℕ) (at : ℕ) : Type 0 where
   pub directory : List ℕ

@@ -1,5 +1,5 @@
 // The places of a frame: parameters, and locals behind them.
-ghost use Rattle.store.specs.Places.{AsksFramed, ReadsFramed};
+ghost use Rattle.store.specs.Places.{localTag, parameterTag, AsksFramed, ReadsFramed};
 ghost use Rattle.store.specs.Changes.{WritesFramed};
 use super::Held;
 use program::LOCALS;
@@ -8,7 +8,7 @@ use program::PARAMETERS;
 
 // The local whose number stands behind the tag.
 pub fn held_local(nums: &[u64], scope: &[u64; program::SCOPE], frame: &[u64], at: usize) -> Held
-    requires { ⌜ AsksFramed 2 (now nums) (now scope) (now frame) at ⌝ }
+    requires { ⌜ AsksFramed localTag (now nums) (now scope) (now frame) at ⌝ }
     ensures { λ r. ⌜ ReadsFramed (now (nums .entry)) (now (scope .entry)) (now (frame .entry)) at r ⌝ }
 {
     let i = nums[at + 1] as usize;
@@ -20,7 +20,7 @@ pub fn held_local(nums: &[u64], scope: &[u64; program::SCOPE], frame: &[u64], at
 
 // The parameter whose number stands behind the tag.
 pub fn held_parameter(nums: &[u64], scope: &[u64; program::SCOPE], frame: &[u64], at: usize) -> Held
-    requires { ⌜ AsksFramed 3 (now nums) (now scope) (now frame) at ⌝ }
+    requires { ⌜ AsksFramed parameterTag (now nums) (now scope) (now frame) at ⌝ }
     ensures { λ r. ⌜ ReadsFramed (now (nums .entry)) (now (scope .entry)) (now (frame .entry)) at r ⌝ }
 {
     let i = nums[at + 1] as usize;
@@ -38,7 +38,7 @@ pub fn put_local(
     number: u64,
     frame: &mut [u64],
 )
-    requires { ⌜ AsksFramed 2 (now nums) (now scope) (now frame) at ⌝ }
+    requires { ⌜ AsksFramed localTag (now nums) (now scope) (now frame) at ⌝ }
     ensures { λ r. ⌜ WritesFramed (now (nums .entry)) (now (scope .entry)) (now (frame .entry)) (now (frame .exit)) at number ⌝ }
 {
     let i = nums[at + 1] as usize;
@@ -54,7 +54,7 @@ pub fn put_parameter(
     number: u64,
     frame: &mut [u64],
 )
-    requires { ⌜ AsksFramed 3 (now nums) (now scope) (now frame) at ⌝ }
+    requires { ⌜ AsksFramed parameterTag (now nums) (now scope) (now frame) at ⌝ }
     ensures { λ r. ⌜ WritesFramed (now (nums .entry)) (now (scope .entry)) (now (frame .entry)) (now (frame .exit)) at number ⌝ }
 {
     let i = nums[at + 1] as usize;

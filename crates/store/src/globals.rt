@@ -1,5 +1,5 @@
 // The places of the store: globals that are variables, and fields of globals that are headers.
-ghost use Rattle.store.specs.Places.{AsksStored, ReadsStored, AsksHeaderTy, FindsHeaderTy};
+ghost use Rattle.store.specs.Places.{variableTag, fieldTag, AsksStored, ReadsStored, AsksHeaderTy, FindsHeaderTy};
 ghost use Rattle.store.specs.Changes.{AsksCell, WritesCell};
 use super::Held;
 use super::STORE;
@@ -17,7 +17,7 @@ pub fn held_variable(
     slots: &[u64; STORE],
     at: usize,
 ) -> Held
-    requires { ⌜ AsksStored 4 (now nums) (now directory) (now ends) (now offsets) (now slots) at ⌝ }
+    requires { ⌜ AsksStored variableTag (now nums) (now directory) (now ends) (now offsets) (now slots) at ⌝ }
     ensures { λ r. ⌜ ReadsStored (now (nums .entry)) (now (directory .entry)) (now (ends .entry)) (now (offsets .entry)) (now (slots .entry)) at r ⌝ }
 {
     let g = nums[at + 1] as usize;
@@ -45,7 +45,7 @@ pub fn held_field(
     slots: &[u64; STORE],
     at: usize,
 ) -> Held
-    requires { ⌜ AsksStored 5 (now nums) (now directory) (now ends) (now offsets) (now slots) at ⌝ }
+    requires { ⌜ AsksStored fieldTag (now nums) (now directory) (now ends) (now offsets) (now slots) at ⌝ }
     ensures { λ r. ⌜ ReadsStored (now (nums .entry)) (now (directory .entry)) (now (ends .entry)) (now (offsets .entry)) (now (slots .entry)) at r ⌝ }
 {
     let g = nums[at + 1] as usize;
@@ -65,7 +65,7 @@ pub fn put_variable(
     number: u64,
     slots: &mut [u64; STORE],
 )
-    requires { ⌜ AsksCell 4 (now nums) (now offsets) (now slots) at ⌝ }
+    requires { ⌜ AsksCell variableTag (now nums) (now offsets) (now slots) at ⌝ }
     ensures { λ r. ⌜ WritesCell (now (nums .entry)) (now (offsets .entry)) (now (slots .entry)) (now (slots .exit)) at number ⌝ }
 {
     let g = nums[at + 1] as usize;
@@ -81,7 +81,7 @@ pub fn put_field(
     number: u64,
     slots: &mut [u64; STORE],
 )
-    requires { ⌜ AsksCell 5 (now nums) (now offsets) (now slots) at ⌝ }
+    requires { ⌜ AsksCell fieldTag (now nums) (now offsets) (now slots) at ⌝ }
     ensures { λ r. ⌜ WritesCell (now (nums .entry)) (now (offsets .entry)) (now (slots .entry)) (now (slots .exit)) at number ⌝ }
 {
     let g = nums[at + 1] as usize;
