@@ -1,5 +1,5 @@
--- What is asked and promised where places are read and written and where headers change. What is asked is that some
--- state stands in the slots; what is promised holds of whatever state stands there.
+-- What is asked and promised where a place is read. What is asked is that some state stands in the slots; what is
+-- promised holds of whatever state stands there.
 use mathlib.Core.Option.{some}
 use mathlib.Core.Path.{_≡_}
 use mathlib.Core.List.{List}
@@ -41,7 +41,7 @@ pub record ReadsPlace (nums directory ends scope offsets slots frame : List ℕ)
   pub reads : (Γ : Scope) (s : State) (p : Place) (t : Ty) → Scene nums directory ends scope offsets slots frame Γ s
       → NamesPlace nums at p → declared Γ p ≡ some t → HeldAs Γ p s (r .ty) (r .number)
 
--- the tags of places
+-- the tags of places, as they are written
 abbrev pub localTag : ℕ
 localTag = 2
 

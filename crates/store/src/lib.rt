@@ -26,7 +26,7 @@ pub struct Held {
     pub number: u64,
 }
 
-// What the place holds whose tag stands at an index.
+// What the place holds whose tag stands at an index: 2 a local, 3 a parameter, 4 a variable, 5 a field.
 pub fn read_place(
     nums: &[u64],
     ends: &[u64],
