@@ -1,0 +1,15 @@
+pub mod Flat
+pub mod Spots
+pub mod Cells
+pub mod Framing
+pub mod Shapes
+pub mod Declaring
+pub mod Stored
+pub mod Naming
+pub mod Changing
+pub mod Marking
+pub mod Clearing
+pub mod Writing
+pub mod Filling
+pub mod Sizes
+pub mod Scenes

@@ -1,0 +1,114 @@
+-- Scenes around what the places do: a run begins, the counter is set, a call begins, a call has ended.
+use mathlib.Core.Path.{_≡_, _∙_}
+use mathlib.Core.List.{List, [], _∷_}
+use Prim.Native.Nat.{ℕ, _+_, _≤_, _<_}
+use native.Mathlib.Omega.{arith}
+use lib.ListN.{length, getD, set, length-set}
+use lib.Seq.{getD-set-other}
+use Rattle.rules.specs.Syntax.{Ty, Callable, Program}
+use Rattle.rules.specs.Form.{Scope, scopeOf, applyScope}
+use Rattle.rules.specs.Lists.{Cell}
+use Rattle.rules.specs.Running.{State, withStore, fresh}
+use Rattle.rules.proofs.Predicates.{All2, nil, cons}
+use Rattle.rules.proofs.Fits.{Fit, FitParameter, StoreFits, zero-fits, with-store}
+use Rattle.program.specs.Stands.{StandsProgram}
+use Rattle.program.specs.Scopes.{StandsScope}
+use Rattle.lists.specs.Stands.{ListsStand}
+use Rattle.store.specs.Mirrors.{counterSlot, storeSlots, MirrorsStore, OffsetsOf, Scene}
+use Rattle.store.specs.Fills.{Clears, AsksFill, Fills}
+use Rattle.store.proofs.Sizes.{store-most, noughts, fresh-frame}
+
+pub counter-mirrors : (slots : List ℕ) (cells : List Cell) (n : ℕ) → MirrorsStore slots cells
+    → MirrorsStore (set slots counterSlot n) cells
+counter-mirrors slots cells n m = record {
+  count = length-set slots counterSlot n ∙ m .count;
+  most = m .most;
+  is = λ i h. getD-set-other slots counterSlot i n 0 (λ e. absurd (omega (arith, e, m .most))) ∙ m .is i h;
+}
+
+-- the counter is no part of a state
+pub scene-counted : (nums directory ends scope offsets slots frame : List ℕ) (Γ : Scope) (s : State) (n : ℕ)
+    → Scene nums directory ends scope offsets slots frame Γ s
+    → Scene nums directory ends scope offsets (set slots counterSlot n) frame Γ s
+scene-counted nums directory ends scope offsets slots frame Γ s n h = record {
+  scopes = h .scopes;
+  offset = h .offset;
+  fits = h .fits;
+  store = counter-mirrors slots (s .store) n (h .store);
+  frames = h .frames;
+}
+
+-- a call has ended: the store has changed, and of the frame only what was free
+pub scene-entered : (nums directory ends scope offsets slots slots′ frame frame′ : List ℕ) (Γ : Scope) (s : State)
+    (cells : List Cell)
+    → Scene nums directory ends scope offsets slots frame Γ s → StoreFits (Γ .program) cells → MirrorsStore slots′ cells
+    → length frame′ ≡ length frame
+    → ((i : ℕ) → i < length (s .parameters) + length (s .locals) → getD frame′ i 0 ≡ getD frame i 0)
+    → Scene nums directory ends scope offsets slots′ frame′ Γ (withStore s cells)
+unfolding withStore
+scene-entered nums directory ends scope offsets slots slots′ frame frame′ Γ s cells h f m same own = record {
+  scopes = h .scopes;
+  offset = h .offset;
+  fits = with-store Γ (h .fits) f;
+  store = m;
+  frames = record {
+    room = omega (arith, h .frames .room);
+    parameter = λ i l. own i (omega arith) ∙ h .frames .parameter i l;
+    local = λ i l. own (length (s .parameters) + i) (omega arith) ∙ h .frames .local i l;
+  };
+}
+
+-- a call begins: its numbers are in the first slots of its frame, and its locals are cleared
+noughts-fit : (ts : List Ty) → All2 Fit ts (noughts ts)
+noughts-fit [] = nil
+noughts-fit (t ∷ ts) = cons {a = t} {b = 0} (zero-fits t) (noughts-fit ts)
+
+pub scene-fresh : (nums directory ends scope offsets slots frame frame′ : List ℕ) (P : Program) (n : ℕ) (c : Callable)
+    (ns : List ℕ) (cells : List Cell)
+    → StandsScope nums directory ends scope (scopeOf P n c) → OffsetsOf P offsets → StoreFits P cells
+    → All2 FitParameter (c .parameters) ns → MirrorsStore slots cells → length ns + length (c .locals) ≤ length frame
+    → ((i : ℕ) → i < length ns → getD frame i 0 ≡ getD ns i 0)
+    → Clears frame frame′ (length ns) (length ns + length (c .locals))
+    → Scene nums directory ends scope offsets slots frame′ (scopeOf P n c) (fresh c ns cells)
+unfolding scopeOf fresh
+scene-fresh nums directory ends scope offsets slots frame frame′ P n c ns cells s o f k m room args z = record {
+  scopes = s;
+  offset = o;
+  fits = record { store-fits = f; parameters-fit = k; locals-fit = noughts-fit (c .locals) };
+  store = m;
+  frames = fresh-frame frame frame′ c ns cells room args z;
+}
+
+-- a run begins, in the apply body, behind lists that are fine
+module _ (nums directory ends entries offsets : List ℕ) (P : Program) (end store size : ℕ)
+    (s : StandsProgram nums directory ends P end) (l : ListsStand P end nums entries offsets store size)
+    (f : StoreFits P (l .cells)) where
+  pub start-offsets : OffsetsOf P offsets
+  start-offsets = record { is = l .offset }
+
+  pub start-fills : (slots : List ℕ) → length slots ≡ storeSlots → AsksFill nums slots store size
+  start-fills slots e = record {
+    cells = l .cells;
+    stand = l .stands;
+    sized = l .sizeIs;
+    numbers = s .numbers;
+    most = omega (arith, l .sizeIs, store-most nums directory ends P end s (l .cells) f);
+    count = e;
+  }
+
+  pub scene-start : (scope slots slots′ frame : List ℕ) → StandsScope nums directory ends scope (applyScope P)
+      → Fills nums slots slots′ store size
+      → Scene nums directory ends scope offsets slots′ frame (applyScope P)
+      (record { store = l .cells; parameters = []; locals = [] })
+  unfolding applyScope
+  scene-start scope slots slots′ frame k h = record {
+    scopes = k;
+    offset = start-offsets;
+    fits = record { store-fits = f; parameters-fit = nil; locals-fit = nil };
+    store = h .mirrors (l .cells) (l .stands) (l .sizeIs);
+    frames = record {
+      room = omega arith;
+      parameter = λ i q. absurd (omega arith);
+      local = λ i q. absurd (omega arith);
+    };
+  }

@@ -1,0 +1,4 @@
+pub mod Mirrors
+pub mod Places
+pub mod Fills
+pub mod Changes

@@ -1,0 +1,93 @@
+// The places of the store: globals that are variables, and fields of globals that are headers.
+ghost use Rattle.store.specs.Places.{variableTag, fieldTag, AsksStored, ReadsStored, AsksHeaderTy, FindsHeaderTy};
+ghost use Rattle.store.specs.Changes.{AsksCell, WritesCell};
+use super::Held;
+use super::STORE;
+use super::headers::VALID;
+
+// The first header type among the types of globals.
+const FIRST_HEADER_TYPE: usize = 128;
+
+// The variable whose number stands behind the tag.
+pub fn held_variable(
+    nums: &[u64],
+    ends: &[u64],
+    directory: &[u64; shape::SLOTS],
+    offsets: &[u64; lists::OFFSETS],
+    slots: &[u64; STORE],
+    at: usize,
+) -> Held
+    requires { ⌜ AsksStored variableTag (now nums) (now directory) (now ends) (now offsets) (now slots) at ⌝ }
+    ensures { λ r. ⌜ ReadsStored (now (nums .entry)) (now (directory .entry)) (now (ends .entry)) (now (offsets .entry)) (now (slots .entry)) at r ⌝ }
+{
+    let g = nums[at + 1] as usize;
+    Held {
+        ty: program::global_of(nums, ends, directory, g),
+        number: slots[offsets[g] as usize],
+    }
+}
+
+// Where the type of a header stands.
+fn header_type(nums: &[u64], ends: &[u64], directory: &[u64; shape::SLOTS], g: usize) -> usize
+    requires { ⌜ AsksHeaderTy (now nums) (now directory) (now ends) g ⌝ }
+    ensures { λ r. ⌜ FindsHeaderTy (now (nums .entry)) (now (directory .entry)) (now (ends .entry)) g r ⌝ }
+{
+    let ty = program::global_of(nums, ends, directory, g) as usize;
+    program::header_of(nums, ends, directory, ty - FIRST_HEADER_TYPE)
+}
+
+// The field whose global and number stand behind the tag.
+pub fn held_field(
+    nums: &[u64],
+    ends: &[u64],
+    directory: &[u64; shape::SLOTS],
+    offsets: &[u64; lists::OFFSETS],
+    slots: &[u64; STORE],
+    at: usize,
+) -> Held
+    requires { ⌜ AsksStored fieldTag (now nums) (now directory) (now ends) (now offsets) (now slots) at ⌝ }
+    ensures { λ r. ⌜ ReadsStored (now (nums .entry)) (now (directory .entry)) (now (ends .entry)) (now (offsets .entry)) (now (slots .entry)) at r ⌝ }
+{
+    let g = nums[at + 1] as usize;
+    let f = nums[at + 2] as usize;
+    let header = header_type(nums, ends, directory, g);
+    Held {
+        ty: nums[header + 1 + f],
+        number: slots[offsets[g] as usize + 1 + f],
+    }
+}
+
+// A number is put into the variable whose number stands behind the tag.
+pub fn put_variable(
+    nums: &[u64],
+    offsets: &[u64; lists::OFFSETS],
+    at: usize,
+    number: u64,
+    slots: &mut [u64; STORE],
+)
+    requires { ⌜ AsksCell variableTag (now nums) (now offsets) (now slots) at ⌝ }
+    ensures { λ r. ⌜ WritesCell (now (nums .entry)) (now (offsets .entry)) (now (slots .entry)) (now (slots .exit)) at number ⌝ }
+{
+    let g = nums[at + 1] as usize;
+    let slot = offsets[g] as usize;
+    slots[slot] = number;
+}
+
+// A number is put into the field whose global and number stand behind the tag, if the header is valid.
+pub fn put_field(
+    nums: &[u64],
+    offsets: &[u64; lists::OFFSETS],
+    at: usize,
+    number: u64,
+    slots: &mut [u64; STORE],
+)
+    requires { ⌜ AsksCell fieldTag (now nums) (now offsets) (now slots) at ⌝ }
+    ensures { λ r. ⌜ WritesCell (now (nums .entry)) (now (offsets .entry)) (now (slots .entry)) (now (slots .exit)) at number ⌝ }
+{
+    let g = nums[at + 1] as usize;
+    let f = nums[at + 2] as usize;
+    let mark = offsets[g] as usize;
+    if slots[mark] == VALID {
+        slots[mark + 1 + f] = number;
+    }
+}
