@@ -14,7 +14,8 @@ use Rattle.rules.specs.Lists.{keyWidth}
 use Rattle.program.specs.Stands.{StandsKeys, StandsProgram}
 use Rattle.program.proofs.Found.{member-in}
 use Rattle.form.specs.declared.Formal.the-variants.{Well}
-use Rattle.form.specs.Claims.{toldForm, keyWidths, layTables, widthsLeft, JudgesForm, KeysLaid}
+use Rattle.program.specs.Keys.{WidthsOf}
+use Rattle.form.specs.Claims.{toldForm, keyWidths, layTables, widthsLeft, JudgesForm}
 use Rattle.form.proofs.Seen.{applySlots, apply-scope}
 use Rattle.form.proofs.Widths.{expr-most, width-of-most}
 
@@ -96,7 +97,7 @@ module _ (nums directory ends : List ℕ) (P : Program) (end : ℕ) (s : StandsP
 
   -- the slots of a program that is fine
   pub keys-laid : (widths : List ℕ) → length widths ≡ mostKeys * mostTables → judgeProgram P ≡ ok tt
-      → KeysLaid P (widthsLeft (judgeProgram P) P widths)
+      → WidthsOf P (widthsLeft (judgeProgram P) P widths)
   unfolding widthsLeft
   keys-laid widths room fine =
       rw fine (record { is = is; most = λ t j T k e q. rw (is t j T k e q) (most t j T k e q) })
@@ -116,7 +117,7 @@ module _ (nums directory ends : List ℕ) (P : Program) (end : ℕ) (s : StandsP
 -- whatever program stands there, the slots tell the widths of its keys
 pub form-laid : (nums directory ends widths widths′ : List ℕ) → JudgesForm nums directory ends widths widths′ Well
     → length widths ≡ mostKeys * mostTables
-    → (P : Program) (end : ℕ) → StandsProgram nums directory ends P end → KeysLaid P widths′
+    → (P : Program) (end : ℕ) → StandsProgram nums directory ends P end → WidthsOf P widths′
 unfolding toldForm
 form-laid nums directory ends widths widths′ j room P end s =
     rw (j .laid P end s) (keys-laid nums directory ends P end s widths room (sym (j .judged P end s)))

@@ -39,10 +39,3 @@ pub record JudgesForm (nums directory ends widths widths′ : List ℕ) (r : For
   pub judged : (P : Program) (end : ℕ) → StandsProgram nums directory ends P end → toldForm r ≡ judgeProgram P
   pub laid : (P : Program) (end : ℕ) → StandsProgram nums directory ends P end
       → widths′ ≡ widthsLeft (judgeProgram P) P widths
-
--- the widths of a program's keys, in four slots a table
-pub record KeysLaid (P : Program) (widths : List ℕ) : Type 0 where
-  pub is : (t j : ℕ) (T : Table) (k : Key) → getElem? (P .tables) t ≡ some T → getElem? (T .keys) j ≡ some k
-      → getD widths (mostKeys * t + j) 0 ≡ keyWidth P k
-  pub most : (t j : ℕ) (T : Table) (k : Key) → getElem? (P .tables) t ≡ some T → getElem? (T .keys) j ≡ some k
-      → getD widths (mostKeys * t + j) 0 ≤ widest

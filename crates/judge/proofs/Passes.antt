@@ -26,13 +26,14 @@ use Rattle.shape.proofs.Lines.{scan-long}
 use Rattle.program.proofs.Standing.{program-stands}
 use Rattle.form.specs.declared.Formal.{Formal}
 use Rattle.form.specs.declared.Formal.the-variants.{Well, Ill}
-use Rattle.form.specs.Claims.{toldForm, JudgesForm, KeysLaid}
+use Rattle.form.specs.Claims.{toldForm, JudgesForm}
 use Rattle.form.proofs.Laid.{form-laid}
 use Rattle.ceiling.specs.Claims.{TellsCeiling}
 use Rattle.ceiling.proofs.Whole.{told-exact, told-over}
 use Rattle.lists.specs.declared.Listed.{Listed}
 use Rattle.lists.specs.declared.Listed.the-variants as listed
-use Rattle.lists.specs.Listing.{listing, listedOf, entriesLeft, offsetsLeft, WidthsOf, AsksLists, ListsJudged, JudgesLists}
+use Rattle.program.specs.Keys.{WidthsOf}
+use Rattle.lists.specs.Listing.{listing, listedOf, entriesLeft, offsetsLeft, AsksLists, ListsJudged, JudgesLists}
 use Rattle.judge.specs.declared.Verdict.{Verdict}
 use Rattle.judge.specs.declared.Verdict.the-variants.{Accepted, Refused}
 use Rattle.judge.specs.Verdicts.{afterLists, afterCeiling, afterForm, afterShape, widthsAfter, listsJudged, entriesAfter, offsetsAfter, Lent, JudgesNumbers}
@@ -105,9 +106,7 @@ module _ (nums directory ends widths widths₁ : List ℕ) (formal : Formal)
 
   widths-known : formal ≡ Well → length widths ≡ mostKeys * mostTables → (P : Program) (end : ℕ)
       → StandsProgram nums directory ends P end → WidthsOf P widths₁
-  widths-known e room P end s =
-      let k : KeysLaid P widths₁ = form-laid nums directory ends widths widths₁ (rw e at j) room P end s in
-      record { is = k .is; most = k .most }
+  widths-known e room P end s = form-laid nums directory ends widths widths₁ (rw e at j) room P end s
 
   pub well-asks : AsksProgram nums directory ends widths → formal ≡ Well → AsksBounded nums directory ends widths₁
   well-asks a e = record {

@@ -11,7 +11,8 @@ use Rattle.rules.specs.Form.{judgeProgram}
 use Rattle.rules.specs.Ceiling.{mostSteps, ceilingOf}
 use Rattle.program.specs.Stands.{StandsProgram}
 use Rattle.form.specs.Claims.{widthsLeft}
-use Rattle.lists.specs.Listing.{listing, entriesLeft, offsetsLeft, WidthsOf}
+use Rattle.program.specs.Keys.{WidthsOf}
+use Rattle.lists.specs.Listing.{listing, entriesLeft, offsetsLeft}
 use Rattle.judge.specs.declared.Verdict.{Verdict}
 use Rattle.judge.specs.Verdicts.{afterCeiling, afterForm, listsJudged}
 

@@ -12,7 +12,8 @@ use Rattle.rules.specs.Lists.{Entry, Cell, mostEntries, slotsOf, readEntries, r
 use Rattle.program.specs.Stands.{StandsProgram}
 use Rattle.program.proofs.Found.{member-in}
 use Rattle.lists.specs.declared.Listed.the-variants.{Fine}
-use Rattle.lists.specs.Listing.{listing, startsFrom, behindEntries, offsetsFrom, listedOf, entriesLeft, offsetsLeft, WidthsOf, ListsJudged, JudgesLists}
+use Rattle.program.specs.Keys.{WidthsOf}
+use Rattle.lists.specs.Listing.{listing, startsFrom, behindEntries, offsetsFrom, listedOf, entriesLeft, offsetsLeft, ListsJudged, JudgesLists}
 use Rattle.lists.specs.Stands.{ListsStand}
 use Rattle.lists.proofs.Places.{PlacedAt, ListsAt, StandCells, no-cell, a-cell, placed-listing, entry-stands, cell-stands, last-offset, store-stands}
 

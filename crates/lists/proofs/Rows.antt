@@ -16,7 +16,8 @@ use Rattle.shape.specs.declared.Scan.the-variants.{Past, Fault}
 use Rattle.shape.specs.Scans.{forget, scanOf}
 use Rattle.shape.specs.Walks.{Laid, Lays}
 use Rattle.program.specs.Stands.{StandsProgram}
-use Rattle.lists.specs.Listing.{startsFrom, WidthsOf}
+use Rattle.program.specs.Keys.{WidthsOf}
+use Rattle.lists.specs.Listing.{startsFrom}
 use Rattle.lists.specs.Parts.{JudgesEntry, layStarts, JudgesEntries, layEntries, JudgesEntryList}
 use Rattle.lists.proofs.Places.{PlacedAt, placed-entry, EntryAt, EntriesAt, placed-repeat}
 use Rattle.lists.proofs.Steps.{Read, past-read, fault-read, alike-made, lays-bad}

@@ -19,7 +19,8 @@ use Rattle.program.specs.Stands.{StandsTable, StandsProgram}
 use Rattle.program.specs.Looks.{Has, Finds, tablesOf, FoundTable}
 use Rattle.program.proofs.Found.{At, member-at}
 use Rattle.program.proofs.Members.{no-member}
-use Rattle.lists.specs.Listing.{WidthsOf, AsksLists}
+use Rattle.program.specs.Keys.{WidthsOf}
+use Rattle.lists.specs.Listing.{AsksLists}
 use Rattle.lists.specs.Parts.{WidthsFrom, Keyed, AsksPatterns, JudgesPatterns}
 use Rattle.lists.specs.Parts.{readAction, ListsActions, AsksAction, JudgesAction, readOfTable, AsksTable, JudgesOfTable, JudgesEntry}
 use Rattle.lists.proofs.Places.{placed-patterns}

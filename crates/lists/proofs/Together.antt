@@ -14,7 +14,8 @@ use Rattle.shape.specs.declared.Scan.the-variants.{Past, Fault}
 use Rattle.shape.specs.Walks.{Laid, Lays}
 use Rattle.program.specs.Stands.{StandsProgram}
 use Rattle.lists.specs.declared.Listed.the-variants as listed
-use Rattle.lists.specs.Listing.{listing, listedOf, entriesLeft, offsetsLeft, WidthsOf, AsksLists, JudgesLists}
+use Rattle.program.specs.Keys.{WidthsOf}
+use Rattle.lists.specs.Listing.{listing, listedOf, entriesLeft, offsetsLeft, AsksLists, JudgesLists}
 use Rattle.lists.specs.Parts.{layEntries, JudgesEntryList, AsksCells, layOffsets, JudgesCells}
 use Rattle.lists.proofs.Places.{EntryListAt, placed-entries, CellsAt, placed-cells}
 use Rattle.lists.proofs.Steps.{Read, past-read, fault-read}

@@ -12,6 +12,7 @@ use Rattle.rules.specs.Syntax.{Global, Key, Table, Program}
 use Rattle.rules.specs.Reading.{Got, got, bad, Reader, _>>=_, pure}
 use Rattle.rules.specs.Form.{Shape, aVariable, aHeader, shapeIn}
 use Rattle.rules.specs.Lists.{Pattern, exactly, prefixed, masked, Entry, Cell, keyWidth, readEntries, readStore, nothingLeft, slotsOf}
+use Rattle.program.specs.Keys.{WidthsOf}
 use Rattle.program.specs.Stands.{StandsProgram}
 use Rattle.lists.specs.declared.Listed.{Listed}
 use Rattle.lists.specs.declared.Listed.the-variants.{Fine, Fault}
@@ -70,13 +71,6 @@ entriesLeft end (bad number index) slots = slots
 unfoldable pub offsetsLeft : Program → Got (List Entry × List Cell) → List ℕ → List ℕ
 offsetsLeft P (got lists left next) slots = sets slots 0 (offsetsFrom P 0 (P .globals))
 offsetsLeft P (bad number index) slots = slots
-
--- the widths of a program's keys, in four slots a table
-pub record WidthsOf (P : Program) (widths : List ℕ) : Type 0 where
-  pub is : (t j : ℕ) (T : Table) (k : Key) → getElem? (P .tables) t ≡ some T → getElem? (T .keys) j ≡ some k
-      → getD widths (4 * t + j) 0 ≡ keyWidth P k
-  pub most : (t j : ℕ) (T : Table) (k : Key) → getElem? (P .tables) t ≡ some T → getElem? (T .keys) j ≡ some k
-      → getD widths (4 * t + j) 0 ≤ widest
 
 -- some program stands there, and its keys' widths are known
 pub record AsksLists (nums directory ends widths : List ℕ) : Type 0 where

@@ -20,7 +20,8 @@ use Rattle.shape.specs.Scans.{scanOf}
 use Rattle.shape.specs.Walks.{Lays}
 use Rattle.program.specs.Codes.{keyKindNumber}
 use Rattle.program.specs.Stands.{HoldsWithin, StandsWidths, StandsParameters, StandsNumerals, StandsKeys, StandsProgram}
-use Rattle.lists.specs.Listing.{startsFrom, offsetsFrom, WidthsOf}
+use Rattle.program.specs.Keys.{WidthsOf}
+use Rattle.lists.specs.Listing.{startsFrom, offsetsFrom}
 
 -- what stands behind a pattern's value: nothing; a prefix length; a mask
 unfoldable pub readLimit : KeyKind → ℕ → ℕ → Reader Pattern
