@@ -3,7 +3,7 @@ use mathlib.Core.Bool.{Bool, not, _||_}
 use mathlib.Core.Option.{Option, none, some}
 use mathlib.Core.Path.{_≡_, refl, _∙_}
 use mathlib.Core.List.{List}
-use Prim.Native.Nat.{ℕ, _+_, _-_, _≤_, _<_}
+use Prim.Native.Nat.{ℕ, _+_, _≤_, _<_}
 use native.Mathlib.Omega.{arith}
 use lib.ListN.{getD, getElem?}
 use lib.Dec.{eqb}
@@ -110,10 +110,6 @@ module _ (nums directory ends : List ℕ) (n : ℕ) where
   pub callables-ask : SomeProgram nums directory ends → n < getD directory 42 0 → Has callablesOf nums directory ends n
   callables-ask = walk-asks callables-walk nums directory ends n
 
-  pub callables-fall : (t : ℕ) → SomeProgram nums directory ends → n < getD directory 42 0 → 16 - n ≡ t
-      → 16 - (n + 1) < t
-  callables-fall t h l e = omega (arith, h .stands .callables .count, h .stands .callables .few)
-
   pub callables-done : getD directory 42 0 ≤ n → JudgesParts callablesOf judgeCallables nums directory ends n Well
   callables-done = walk-done callables-walk nums directory ends n
 
@@ -128,4 +124,4 @@ module _ (nums directory ends : List ℕ) (n : ℕ) where
           → JudgesParts callablesOf judgeCallables nums directory ends n (Ill number index)
       callables-stop = walk-stop callables-walk nums directory ends n l a j
 
-pub ruleset walked = (callables-ask, callables-fall, callables-done, callables-next, callables-stop)
+pub ruleset walked = (callables-ask, callables-done, callables-next, callables-stop)

@@ -53,30 +53,6 @@ module _ (nums directory ends : List ℕ) (at actions default : ℕ) where
     chosen : Default (h .program) (h .callable)
     chosen = default-of (h .program) (h .table) (h .callables) (h .callable) (h .named)
 
-    pub default-inside : default < length nums
-    default-inside = asked .defaultStands .holds .inside
-
-    pub default-count : default + 1 < length nums
-    default-count = asked .countInside
-
-    pub default-next : default + 1 < 2 ^ 64
-    default-next = omega (arith, asked .countInside, h .named .table .stands .numbers)
-
-    pub default-literals : default + 2 < 2 ^ 64
-    default-literals = omega (arith, asked .countInside, h .named .table .stands .numbers)
-
-    pub keys-inside : at < length nums
-    keys-inside = asked .inside
-
-    pub keys-next : at + 1 < 2 ^ 64
-    keys-next = omega (arith, asked .inside, h .named .table .stands .numbers)
-
-    pub actions-inside : actions < length nums
-    actions-inside = asked .actionsInside
-
-    pub actions-next : actions + 1 < 2 ^ 64
-    actions-next = omega (arith, asked .actionsInside, h .named .table .stands .numbers)
-
     pub listed-inside : listedAt < length nums
     listed-inside = chosen .inside
 
@@ -197,24 +173,14 @@ module _ (nums directory ends : List ℕ) (at actions default : ℕ) where
     }
 
 pub ruleset defaults = (
-  default-inside,
-  default-count,
-  default-next,
-  default-literals,
-  actions-next,
   listed-inside,
   listed-small,
   default-head,
-  literals-ask,
   default-judged,
   default-uncounted,
 )
 
 pub ruleset kinds = (
-  keys-inside,
-  keys-next,
-  actions-inside,
-  actions-next,
   kinds-ask,
   listed-ask,
   kinds-fault,

@@ -2,7 +2,7 @@
 use mathlib.Core.Bool.{Bool, true, false}
 use mathlib.Core.Path.{_≡_, refl, _∙_}
 use mathlib.Core.List.{List}
-use Prim.Native.Nat.{ℕ, _+_, _-_, _^_, _≤_, _<_}
+use Prim.Native.Nat.{ℕ, _+_, _≤_, _<_}
 use native.Mathlib.Omega.{arith}
 use lib.ListN.{getD}
 use lib.Dec.{ltb}
@@ -21,9 +21,6 @@ use Rattle.form.proofs.Steps.{forgotten}
 use Rattle.form.proofs.Walking.{Walk, walk-asks, walk-done, walk-next, walk-stop}
 
 module _ (nums directory ends : List ℕ) (g : ℕ) where
-  pub types-few : Has globalsOf nums directory ends g → 128 + getD directory 0 0 < 2 ^ 64
-  types-few h = omega (arith, h .stands .headers .count, h .stands .headers .few)
-
   -- a variable's number is below all header types', and a header type is there where its number is below their count
   shape-is : (P : Program) (end ty at : ℕ) (x : GlobalTy) → StandsProgram nums directory ends P end → GlobalNumber ty x
       → need 6 at (ltb ty (128 + getD directory 0 0)) ≡ (named at (shapeIn P x) >>= λ _. ok tt)
@@ -50,7 +47,7 @@ module _ (nums directory ends : List ℕ) (g : ℕ) where
         (shape-is P end ty (getD directory (10 + g) 0) (x .ty) p (f .finds P end x p e));
   }
 
-pub ruleset globals = (types-few, global-slot, global-judged)
+pub ruleset globals = (global-slot, global-judged)
 
 -- globals one after the other
 globals-walk : Walk globalsOf globalIs globalsAre 9
@@ -65,10 +62,6 @@ module _ (nums directory ends : List ℕ) (g : ℕ) where
   pub globals-ask : SomeProgram nums directory ends → g < getD directory 9 0 → Has globalsOf nums directory ends g
   globals-ask = walk-asks globals-walk nums directory ends g
 
-  pub globals-fall : (t : ℕ) → SomeProgram nums directory ends → g < getD directory 9 0 → 32 - g ≡ t
-      → 32 - (g + 1) < t
-  globals-fall t h l e = omega (arith, h .stands .globals .count, h .stands .globals .few)
-
   pub globals-done : getD directory 9 0 ≤ g → JudgesParts globalsOf globalsAre nums directory ends g Well
   globals-done = walk-done globals-walk nums directory ends g
 
@@ -81,4 +74,4 @@ module _ (nums directory ends : List ℕ) (g : ℕ) where
         → JudgesParts globalsOf globalsAre nums directory ends g (Ill number index)
     globals-stop = walk-stop globals-walk nums directory ends g l a j
 
-pub ruleset walked = (globals-ask, globals-fall, globals-done, globals-next, globals-stop)
+pub ruleset walked = (globals-ask, globals-done, globals-next, globals-stop)

@@ -124,9 +124,6 @@ module _ (nums directory ends : List ℕ) (at count slot : ℕ) (h : AsksKeys nu
     pub key-ends : at + 1 < length ends
     key-ends = omega (arith, expr-begins (asked .stands), h .stands .room)
 
-    pub key-slot : slot < 32
-    key-slot = omega (arith, h .slots, more)
-
     pub key-here : AsksKey nums directory ends (at + 1)
     key-here = record {
       program = h .program;
@@ -211,4 +208,4 @@ module _ (nums directory ends : List ℕ) (at count slot : ℕ) (widths : List �
             (rw (add-one slot) at (l .laid (rest-bits (at + 1) t b r w q) P end (o .others) s (o .rest)));
       }
 
-pub ruleset keyed = (key-next, key-ends, key-slot, key-here, keys-left, keys-none, keys-fault, keys-judged)
+pub ruleset keyed = (key-next, key-ends, key-here, keys-left, keys-none, keys-fault, keys-judged)

@@ -3,7 +3,7 @@ use mathlib.Core.Bool.{Bool, true, false}
 use mathlib.Core.Option.{Option, none, some}
 use mathlib.Core.Path.{_≡_, refl, sym, ap, _∙_}
 use mathlib.Core.List.{List, [], _∷_}
-use Prim.Native.Nat.{ℕ, zero, suc, _+_, _^_, _≤_, _<_}
+use Prim.Native.Nat.{ℕ, zero, suc, _+_, _≤_, _<_}
 use native.Mathlib.Omega.{arith}
 use lib.ListN.{length, getD, getElem?}
 use lib.Dec.{ltb}
@@ -102,15 +102,6 @@ module _ (nums directory : List ℕ) (at actions default : ℕ) where
     parts : TableParts nums (h .ends) at actions default (h .table)
     parts = table-parts nums (h .ends) at actions default (h .table) (h .stands .found)
 
-    pub names-inside : actions < length nums
-    names-inside = parts .actionsInside
-
-    pub names-small : actions + 1 < 2 ^ 64
-    names-small = omega (arith, parts .actionsInside, h .stands .stands .numbers)
-
-    pub position-inside : default < length nums
-    position-inside = parts .defaultStands .holds .inside
-
     pub names-exist : AsksExist nums (actions + 1) (getD nums actions 0)
     names-exist = record {
       numerals = h .table .actions;
@@ -155,4 +146,4 @@ module _ (nums directory : List ℕ) (at actions default : ℕ) where
             ∙ position-is cs (T .default .number) (T .default .at)
         go ends P T p (fault number index) q e = let z : _≡_ {A = ℕ} 0 1 = cc in absurd (omega arith)
 
-pub ruleset names = (names-inside, names-small, position-inside, names-exist, names-fault, names-judged)
+pub ruleset names = (names-exist, names-fault, names-judged)

@@ -2,7 +2,7 @@
 use mathlib.Core.Option.{Option, none, some}
 use mathlib.Core.Path.{_≡_, refl, sym, ap, _∙_}
 use mathlib.Core.List.{List, _∷_}
-use Prim.Native.Nat.{ℕ, suc, _+_, _-_, _*_, _^_, _≤_, _<_}
+use Prim.Native.Nat.{ℕ, suc, _+_, _*_, _≤_, _<_}
 use native.Mathlib.Omega.{arith}
 use native.Mathlib.Numerals.{add-one}
 use lib.ListN.{length, getD, getElem?, drop, drop-of-length-le}
@@ -18,7 +18,7 @@ use Rattle.form.specs.declared.Formal.the-variants.{Well, Ill}
 use Rattle.form.specs.declared.keys.Keyed.{Keyed}
 use Rattle.form.specs.declared.keys.Keyed.the-variants.{AllBits, Boolean, Unkeyed}
 use Rattle.form.specs.Claims.{toldForm, keyWidths, layTables}
-use Rattle.form.specs.Parts.{toldKeys, AsksKeys, JudgesKeys, TableAt, namesOf, AsksNames, JudgesNames, NamedTable, AsksNamed, JudgesNamed, defaultIs, kindsAre, behindKeys, behindNames, AsksLays, LaysNamed, tableIs, tablesAre, LaysTable, LaysTables}
+use Rattle.form.specs.Parts.{toldKeys, AsksKeys, JudgesKeys, TableAt, namesOf, AsksNames, JudgesNames, NamedTable, JudgesNamed, defaultIs, kindsAre, behindKeys, behindNames, AsksLays, LaysNamed, tableIs, tablesAre, LaysTable, LaysTables}
 use Rattle.form.proofs.OfNames.{TableParts, table-parts, all-named}
 use Rattle.form.proofs.Steps.{well-is, ill-is}
 use Rattle.form.proofs.Walking.{Walk, drop-member, walk-asks, walk-done, here, walk-next, walk-stop}
@@ -35,15 +35,6 @@ module _ (nums directory ends : List ℕ) (at actions default t : ℕ) where
     abbrev asked : TableParts nums ends at actions default (h .asks .table)
     asked = table-parts nums ends at actions default (h .asks .table) (h .asks .named .table .found)
 
-    pub keys-inside : at < length nums
-    keys-inside = asked .inside
-
-    pub keys-next : at + 1 < 2 ^ 64
-    keys-next = omega (arith, asked .inside, h .asks .named .table .stands .numbers)
-
-    pub keys-slots : 4 * t < 2 ^ 64
-    keys-slots = omega (arith, h .few)
-
     pub keys-ask : AsksKeys nums directory ends (at + 1) (getD nums at 0) (4 * t)
     keys-ask = record {
       program = h .asks .program;
@@ -53,9 +44,6 @@ module _ (nums directory ends : List ℕ) (at actions default t : ℕ) where
       keysStand = asked .keys;
       slots = omega (arith, h .few, asked .fewKeys);
     }
-
-    pub behind-ask : AsksNamed nums directory ends at actions default
-    behind-ask = h .asks
 
   module _ (a : Keyed) (widths widths′ : List ℕ)
       (j : JudgesKeys nums directory ends (at + 1) (getD nums at 0) (4 * t) widths widths′ a)
@@ -94,11 +82,7 @@ module _ (nums directory ends : List ℕ) (at actions default t : ℕ) where
       }
 
 pub ruleset laying = (
-  keys-inside,
-  keys-next,
-  keys-slots,
   keys-ask,
-  behind-ask,
   lays-unkeyed,
   lays-boolean,
   lays-judged,
@@ -257,9 +241,6 @@ module _ (nums directory ends : List ℕ) (t : ℕ) where
   pub tables-ask : SomeProgram nums directory ends → t < getD directory 59 0 → Has tablesOf nums directory ends t
   tables-ask = walk-asks tables-walk nums directory ends t
 
-  pub tables-fall : (n : ℕ) → SomeProgram nums directory ends → t < getD directory 59 0 → 8 - t ≡ n → 8 - (t + 1) < n
-  tables-fall n h l e = omega (arith, h .stands .tables .count, h .stands .tables .few)
-
   pub tables-done : (widths : List ℕ) → getD directory 59 0 ≤ t → LaysTables nums directory ends t widths widths Well
   unfolding layTables
   tables-done widths l = record {
@@ -292,4 +273,4 @@ module _ (nums directory ends : List ℕ) (t : ℕ) where
         laid = λ q P end s. let z : _≡_ {A = ℕ} 0 1 = cc in absurd (omega arith);
       }
 
-pub ruleset walked = (tables-ask, tables-fall, tables-done, tables-next, tables-stop)
+pub ruleset walked = (tables-ask, tables-done, tables-next, tables-stop)
