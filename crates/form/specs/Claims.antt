@@ -1,12 +1,9 @@
 -- What the judgement of a whole program promises: the rules' answer, and, where the program is fine, the widths of the
 -- keys of its tables in the slots lent.
-use mathlib.Core.Option.{some}
 use mathlib.Core.Path.{_≡_}
 use mathlib.Core.List.{List, [], _∷_}
-use Prim.Native.Nat.{ℕ, suc, _+_, _*_, _≤_}
-use lib.ListN.{getD, getElem?}
+use Prim.Native.Nat.{ℕ, suc, _*_}
 use lib.Seq.{sets}
-use Rattle.rules.specs.Words.{widest}
 use Rattle.rules.specs.Syntax.{Key, Table, Program}
 use Rattle.rules.specs.Reading.{mostKeys}
 use Rattle.rules.specs.Form.{Res, ok, fault, judgeProgram}

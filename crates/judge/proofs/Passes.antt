@@ -1,5 +1,5 @@
 -- The passes one behind the other: what each leaves is what the next asks.
-use mathlib.Core.Bool.{Bool, true, false, _&&_}
+use mathlib.Core.Bool.{true, false}
 use mathlib.Core.Path.{_≡_, refl, sym, _∙_}
 use mathlib.Core.List.{List}
 use Prim.Native.Nat.{ℕ, _*_, _≤_, _<_}
@@ -7,15 +7,14 @@ use native.Mathlib.Omega.{arith}
 use lib.Dec.{leb}
 use lib.ListN.{length, drop}
 use borrow.Author.Tests.{le-leb, lt-leb}
-use Rattle.rules.specs.Numbers.{mostBytes}
 use Rattle.rules.specs.Syntax.{Program}
 use Rattle.rules.specs.Reading.{Got, got, bad, readProgram, mostTables, mostKeys}
-use Rattle.rules.specs.Form.{Res, ok, fault, judgeProgram}
+use Rattle.rules.specs.Form.{ok, fault, judgeProgram}
 use Rattle.rules.specs.Ceiling.{mostSteps, ceilingOf}
 use Rattle.rules.specs.Running.{isFine}
 use Rattle.rules.proofs.Readers.{Kept, keeps-program}
 use Rattle.shape.specs.Directory.{directoryLeft, slotCount}
-use Rattle.shape.specs.Ends.{mostNumbers, endsLeft, ScansProgram}
+use Rattle.shape.specs.Ends.{mostNumbers, ScansProgram}
 use Rattle.shape.specs.Scans.{forget, scanOf}
 use Rattle.shape.specs.declared.Scan.{Scan}
 use Rattle.shape.specs.declared.Scan.the-variants.{Past}
@@ -33,7 +32,7 @@ use Rattle.ceiling.proofs.Whole.{told-exact, told-over}
 use Rattle.lists.specs.declared.Listed.{Listed}
 use Rattle.lists.specs.declared.Listed.the-variants as listed
 use Rattle.program.specs.Keys.{WidthsOf}
-use Rattle.lists.specs.Listing.{listing, listedOf, entriesLeft, offsetsLeft, AsksLists, ListsJudged, JudgesLists}
+use Rattle.lists.specs.Listing.{AsksLists, ListsJudged, JudgesLists}
 use Rattle.judge.specs.declared.Verdict.{Verdict}
 use Rattle.judge.specs.declared.Verdict.the-variants.{Accepted, Refused}
 use Rattle.judge.specs.Verdicts.{afterLists, afterCeiling, afterForm, afterShape, widthsAfter, listsJudged, entriesAfter, offsetsAfter, Lent, JudgesNumbers}

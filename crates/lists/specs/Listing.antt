@@ -4,14 +4,13 @@ use mathlib.Core.Bool.{true}
 use mathlib.Core.Option.{Option, none, some}
 use mathlib.Core.Path.{_≡_}
 use mathlib.Core.List.{List, [], _∷_}
-use Prim.Native.Nat.{ℕ, suc, _+_, _*_, _≤_}
-use lib.ListN.{length, getD, getElem?, drop}
+use Prim.Native.Nat.{ℕ, suc, _+_}
+use lib.ListN.{length, drop}
 use lib.Seq.{sets}
-use Rattle.rules.specs.Words.{widest}
-use Rattle.rules.specs.Syntax.{Global, Key, Table, Program}
+use Rattle.rules.specs.Syntax.{Global, Program}
 use Rattle.rules.specs.Reading.{Got, got, bad, Reader, _>>=_, pure}
 use Rattle.rules.specs.Form.{Shape, aVariable, aHeader, shapeIn}
-use Rattle.rules.specs.Lists.{Pattern, exactly, prefixed, masked, Entry, Cell, keyWidth, readEntries, readStore, nothingLeft, slotsOf}
+use Rattle.rules.specs.Lists.{Pattern, exactly, prefixed, masked, Entry, Cell, readEntries, readStore, nothingLeft, slotsOf}
 use Rattle.program.specs.Keys.{WidthsOf}
 use Rattle.program.specs.Stands.{StandsProgram}
 use Rattle.lists.specs.declared.Listed.{Listed}
