@@ -1,0 +1,340 @@
+-- What an entry adds to a look-up, and the entries one after the other.
+use mathlib.Core.Bool.{Bool, true, false}
+use mathlib.Core.Option.{some}
+use mathlib.Core.Path.{_≡_, refl, sym, _∙_}
+use mathlib.Core.List.{List, [], _∷_}
+use Prim.Native.Nat.{ℕ, _+_, _-_, _*_, _^_, _<_}
+use native.Mathlib.Omega.{arith}
+use lib.Dec.{eqb}
+use lib.ListN.{length, getD}
+use borrow.Author.Tests.{eq-eqb, ne-eqb}
+use Rattle.rules.specs.Syntax.{Table, Program}
+use Rattle.rules.specs.Lists as Lists
+use Rattle.rules.specs.Lists.{Pattern, actionAt}
+use Rattle.rules.specs.Running.{Worked, patternsFit, argumentsGiven, matchesAll, prefixOf, longestWins, better, lookUp, entriesOf, entriesFit}
+use Rattle.rules.specs.Running as rules
+use Rattle.rules.proofs.Predicates.{and-both}
+use Rattle.lists.specs.Listing.{patternsSize}
+use Rattle.lookup.specs.Matching.{widthsOf, KeyPatterns, AsksMatch, Matched, matched, unmatched, TellsMatch}
+use Rattle.lookup.specs.LookingUp.{AsksKeys, TellsLongest, FoundStands, entry, none, TellsBetter, Sought, AsksStep, TellsStep, StandsEntries, SoughtIn, AsksLook, TellsLook, TellsLookUp}
+use Rattle.lookup.specs.declared.Match.{Match}
+use Rattle.lookup.specs.declared.Match.the-variants.{Yes, No}
+use Rattle.lookup.specs.declared.Found.{Found}
+use Rattle.lookup.specs.declared.Found.the-variants.{Entry, Nothing}
+
+-- an entry of the table, and one of another
+own-of : (t : ℕ) (e : Lists.Entry) (es : List Lists.Entry) → e .table ≡ t → entriesOf t (e ∷ es) ≡ e ∷ entriesOf t es
+unfolding entriesOf
+own-of t e es q = rw (entriesOf, eq-eqb (e .table) t q) refl
+
+other-of : (t : ℕ) (e : Lists.Entry) (es : List Lists.Entry) → (e .table ≡ t → ⊥)
+    → entriesOf t (e ∷ es) ≡ entriesOf t es
+unfolding entriesOf
+other-of t e es n = rw (entriesOf, ne-eqb (e .table) t n) refl
+
+own-alone : (t : ℕ) (e : Lists.Entry) → e .table ≡ t → entriesOf t (e ∷ []) ≡ e ∷ []
+unfolding entriesOf
+own-alone t e q = own-of t e [] q
+
+other-alone : (t : ℕ) (e : Lists.Entry) → (e .table ≡ t → ⊥) → entriesOf t (e ∷ []) ≡ []
+unfolding entriesOf
+other-alone t e n = other-of t e [] n
+
+look-matched : (longest : Bool) (ws : List Worked) (f : rules.Found) (e : Lists.Entry) (es : List Lists.Entry)
+    → matchesAll ws (e .patterns) ≡ true → lookUp longest ws f (e ∷ es) ≡ lookUp longest ws (better longest f e) es
+unfolding lookUp
+look-matched longest ws f e es q = rw (lookUp, q) refl
+
+look-unmatched : (longest : Bool) (ws : List Worked) (f : rules.Found) (e : Lists.Entry) (es : List Lists.Entry)
+    → matchesAll ws (e .patterns) ≡ false → lookUp longest ws f (e ∷ es) ≡ lookUp longest ws f es
+unfolding lookUp
+look-unmatched longest ws f e es q = rw (lookUp, q) refl
+
+look-none : (longest : Bool) (ws : List Worked) (f : rules.Found) → lookUp longest ws f [] ≡ f
+unfolding lookUp
+look-none longest ws f = refl
+
+-- the first of the entries fit, if all do
+own-fits : (P : Program) (T : Table) (widths : List ℕ) (e : Lists.Entry) (es : List Lists.Entry)
+    → entriesFit P T widths (e ∷ es) ≡ true
+    → (patternsFit widths (e .patterns) ≡ true)
+    × ((argumentsGiven (actionAt P T (e .position)) (e .arguments) ≡ true) × (entriesFit P T widths es ≡ true))
+unfolding entriesFit
+own-fits P T widths e es h =
+    let a : (patternsFit widths (e .patterns) ≡ true) × _ = and-both (patternsFit widths (e .patterns)) _ h in
+    (a .0, and-both (argumentsGiven (actionAt P T (e .position)) (e .arguments)) _ (a .1))
+
+same-some : {T U : Table} → some T ≡ some U → T ≡ U
+same-some q = cc
+
+module _ (nums ends widths keys : List ℕ) (t table at : ℕ) where
+  -- an entry of the table asks of its keys
+  own-patterns : {P : Program} {T : Table} {ws : List Worked} {e : Lists.Entry}
+      → Sought nums ends widths keys t table at P T ws e → getD nums at 0 ≡ t
+      → KeyPatterns nums ends widths keys (table + 1) (getD nums table 0) (4 * t) 0 (at + 1) (T .keys) ws (e .patterns)
+  own-patterns {P = P} {T = T} {ws = ws} {e = e} h q =
+      let own : e .table ≡ t = sym (h .entryStands .number .is) ∙ q in
+      let same : h .entryStands .table ≡ T
+      = same-some (sym (h .entryStands .tableIs) ∙ (rw own (h .tableIs))) in
+      record {
+        keysStand = h .stands .keys;
+        counts = h .stands .keyCount .holds .is;
+        worked = h .worked;
+        patterns = rw same at (h .entryStands .patterns);
+        fits = own-fits P T (widthsOf ws) e [] (rw (own-alone t e own) at (h .fits)) .0;
+      }
+
+  module _ (h : AsksStep nums ends widths keys t table at) where
+    pub entry-inside : at < length nums
+    entry-inside = h .sought .entryStands .number .inside
+
+    pub table-inside : table < length nums
+    table-inside = h .sought .stands .keyCount .holds .inside
+
+    pub slot-small : 4 * t < 2 ^ 64
+    slot-small = omega (arith, h .few)
+
+    pub table-next : table + 1 < 2 ^ 64
+    table-next = omega (arith, table-inside, h .numbers)
+
+    pub entry-next : at + 1 < 2 ^ 64
+    entry-next = omega (arith, entry-inside, h .numbers)
+
+    pub match-asked : getD nums at 0 ≡ t
+        → AsksMatch nums ends widths keys (table + 1) (getD nums table 0) (4 * t) 0 (at + 1)
+    match-asked q = record {
+      keyList = h .tableAt .keys;
+      worked = h .worked;
+      patterns = h .entry .patterns;
+      stand = own-patterns (h .sought) q;
+      numbers = h .numbers;
+      room = h .room;
+      slots = omega (arith, h .few, h .sought .stands .keyCount .atMost, h .sought .stands .keyCount .holds .is);
+      place = omega (arith, h .sought .stands .keyCount .atMost, h .sought .stands .keyCount .holds .is);
+    }
+
+  module _ (longest : Bool) (best : Found) where
+    pub step-other : (getD nums at 0 ≡ t → ⊥) → TellsStep nums ends widths keys t table longest at best best
+    step-other n = record {
+      told = λ P T ws e h f s. rw (other-alone t e (λ q. n (h .entryStands .number .is ∙ q)), look-none longest ws f) s;
+    }
+
+    module _ (q : getD nums at 0 ≡ t) (m : Match)
+        (u : TellsMatch nums ends widths keys (table + 1) (getD nums table 0) (4 * t) 0 (at + 1) m)
+      where
+        pub step-unmatched : m ≡ No → TellsStep nums ends widths keys t table longest at best best
+        step-unmatched n = record { told = go }
+          where
+            missed : {ws : List Worked} {ps : List Pattern} → Matched (at + 1) ws ps No → matchesAll ws ps ≡ false
+            missed (unmatched k) = k
+
+            go : (P : Program) (T : Table) (ws : List Worked) (e : Lists.Entry)
+                → Sought nums ends widths keys t table at P T ws e → (f : rules.Found) → FoundStands nums f best
+                → FoundStands nums (lookUp longest ws f (entriesOf t (e ∷ []))) best
+            go P T ws e h f s =
+                let own : e .table ≡ t = sym (h .entryStands .number .is) ∙ q in
+                let k : matchesAll ws (e .patterns) ≡ false
+                = missed (rw n at (u .told (T .keys) ws (e .patterns) (own-patterns h q))) in
+                rw (own-alone t e own, look-unmatched longest ws f e [] k, look-none longest ws f) s
+
+        pub step-matched : (prefix next : ℕ) (r : Found) → m ≡ Yes prefix next → TellsBetter longest best next prefix r
+            → TellsStep nums ends widths keys t table longest at best r
+        step-matched prefix next r n b = record { told = go }
+          where
+            all : {ws : List Worked} {ps : List Pattern} → Matched (at + 1) ws ps (Yes prefix next)
+                → (matchesAll ws ps ≡ true) × ((prefix ≡ prefixOf ps) × (next ≡ at + 1 + patternsSize ps))
+            all (matched k p l) = (k, (p, l))
+
+            go : (P : Program) (T : Table) (ws : List Worked) (e : Lists.Entry)
+                → Sought nums ends widths keys t table at P T ws e → (f : rules.Found) → FoundStands nums f best
+                → FoundStands nums (lookUp longest ws f (entriesOf t (e ∷ []))) r
+            go P T ws e h f s =
+                let own : e .table ≡ t = sym (h .entryStands .number .is) ∙ q in
+                let k : (matchesAll ws (e .patterns) ≡ true)
+                × ((prefix ≡ prefixOf (e .patterns)) × (next ≡ at + 1 + patternsSize (e .patterns)))
+                = all (rw n at (u .told (T .keys) ws (e .patterns) (own-patterns h q))) in
+                let args : next + 1 ≡ at + 2 + patternsSize (e .patterns) = omega (arith, k .1 .1) in
+                let this : FoundStands nums (rules.found e) (Entry next prefix)
+                =
+                entry {e = e} {action = next} (rw (k .1 .1) (h .entryStands .position)) (rw args (h .entryStands .arguments)) (k .1 .0) in
+                rw (own-alone t e own, look-matched longest ws f e [] (k .0), look-none longest ws (better longest f e))
+                (b .told nums f e s this)
+
+pub ruleset steps = (
+  entry-inside,
+  table-inside,
+  slot-small,
+  table-next,
+  entry-next,
+  match-asked,
+  step-other,
+  step-unmatched,
+  step-matched,
+)
+
+-- entries of which some are left have a first
+record First (nums ends entries widths keys : List ℕ) (t table i left : ℕ) (P : Program) (T : Table)
+    (ws : List Worked) (es : List Lists.Entry) : Type 0 where
+  pub entry : Lists.Entry
+  pub others : List Lists.Entry
+  pub same : es ≡ entry ∷ others
+  pub first : Sought nums ends widths keys t table (getD entries i 0) P T ws entry
+  pub rest : SoughtIn nums ends entries widths keys t table (i + 1) (left - 1) P T ws others
+
+-- what fits one behind the other fits apart
+fit-apart : (P : Program) (T : Table) (widths : List ℕ) (t : ℕ) (e : Lists.Entry) (es : List Lists.Entry)
+    → entriesFit P T widths (entriesOf t (e ∷ es)) ≡ true
+    → (entriesFit P T widths (entriesOf t (e ∷ [])) ≡ true) × (entriesFit P T widths (entriesOf t es) ≡ true)
+unfolding entriesFit entriesOf
+fit-apart P T widths t e es h = go (eqb (e .table) t) h
+  where
+    go : (own : Bool)
+        → entriesFit P T widths (elim own [ true ↦ e ∷ entriesOf t es | false ↦ entriesOf t es ]) ≡ true
+        → (entriesFit P T widths (elim own [ true ↦ e ∷ [] | false ↦ [] ]) ≡ true)
+        × (entriesFit P T widths (entriesOf t es) ≡ true)
+    go true k =
+        let f : _ = own-fits P T widths e (entriesOf t es) k in
+        (rw (entriesFit, f .0, f .1 .0) refl, f .1 .1)
+    go false k = (refl, k)
+
+first-of : (nums ends entries widths keys : List ℕ) (t table i left : ℕ) (P : Program) (T : Table) (ws : List Worked)
+    (es : List Lists.Entry) → SoughtIn nums ends entries widths keys t table i left P T ws es → (left ≡ 0 → ⊥)
+    → First nums ends entries widths keys t table i left P T ws es
+unfolding StandsEntries
+first-of nums ends entries widths keys t table i left P T ws [] h more = absurd (more (h .counts))
+first-of nums ends entries widths keys t table i left P T ws (e ∷ es) h more =
+    let f : _ = fit-apart P T (widthsOf ws) t e es (h .fits) in
+    record {
+      entry = e;
+      others = es;
+      same = refl;
+      first = record {
+        tableIs = h .tableIs;
+        stands = h .stands;
+        worked = h .worked;
+        entryStands = h .entriesStand .0;
+        fits = f .0;
+      };
+      rest = record {
+        tableIs = h .tableIs;
+        stands = h .stands;
+        worked = h .worked;
+        entriesStand = h .entriesStand .1;
+        counts = omega (arith, h .counts);
+        fits = f .1;
+      };
+    }
+
+-- a look-up goes on from what its first entry gives
+look-on : (longest : Bool) (ws : List Worked) (f : rules.Found) (t : ℕ) (e : Lists.Entry) (es : List Lists.Entry)
+    → lookUp longest ws f (entriesOf t (e ∷ es))
+    ≡ lookUp longest ws (lookUp longest ws f (entriesOf t (e ∷ []))) (entriesOf t es)
+unfolding lookUp entriesOf
+look-on longest ws f t e es = go (eqb (e .table) t)
+  where
+    own : (m : Bool)
+        → elim m [ true ↦ lookUp longest ws (better longest f e) (entriesOf t es) | false ↦ lookUp longest ws f (entriesOf t es) ]
+        ≡ lookUp longest ws (elim m [ true ↦ better longest f e | false ↦ f ]) (entriesOf t es)
+    own true = refl
+    own false = refl
+
+    go : (mine : Bool)
+        → lookUp longest ws f (elim mine [ true ↦ e ∷ entriesOf t es | false ↦ entriesOf t es ])
+        ≡ lookUp longest ws (lookUp longest ws f (elim mine [ true ↦ e ∷ [] | false ↦ [] ])) (entriesOf t es)
+    go true = own (matchesAll ws (e .patterns))
+    go false = refl
+
+module _ (nums ends entries widths keys : List ℕ) (t table i left : ℕ) where
+  module _ (h : AsksLook nums ends entries widths keys t table i left) (more : left ≡ 0 → ⊥) where
+    asked-first : First nums ends entries widths keys t table i left (h .program) (h .tableAt) (h .worked) (h .entryList)
+    asked-first =
+        first-of nums ends entries widths keys t table i left (h .program) (h .tableAt) (h .worked) (h .entryList)
+        (h .sought) more
+
+    pub slot-inside : i < 65
+    slot-inside = omega (arith, h .slots, more)
+
+    pub slot-next : i + 1 < 2 ^ 64
+    slot-next = omega (arith, h .slots, more)
+
+    pub step-asked : AsksStep nums ends widths keys t table (getD entries i 0)
+    step-asked = record {
+      program = h .program;
+      tableAt = h .tableAt;
+      worked = h .worked;
+      entry = asked-first .entry;
+      sought = asked-first .first;
+      numbers = h .numbers;
+      room = h .room;
+      few = h .few;
+    }
+
+    pub look-asked : AsksLook nums ends entries widths keys t table (i + 1) (left - 1)
+    look-asked = record {
+      program = h .program;
+      tableAt = h .tableAt;
+      worked = h .worked;
+      entryList = asked-first .others;
+      sought = asked-first .rest;
+      numbers = h .numbers;
+      room = h .room;
+      few = h .few;
+      slots = omega (arith, h .slots, more);
+    }
+
+  module _ (longest : Bool) (best : Found) where
+    pub look-ended : left ≡ 0 → TellsLook nums ends entries widths keys t table longest i left best best
+    unfolding lookUp entriesOf
+    look-ended e = record { told = λ P T ws es h f s. go ws es (h .counts) f s }
+      where
+        go : (ws : List Worked) (es : List Lists.Entry) → left ≡ length es → (f : rules.Found)
+            → FoundStands nums f best → FoundStands nums (lookUp longest ws f (entriesOf t es)) best
+        go ws [] c f s = s
+        go ws (x ∷ es) c f s = absurd (omega (arith, e, c))
+
+    pub look-further : (a r : Found) → (left ≡ 0 → ⊥)
+        → TellsStep nums ends widths keys t table longest (getD entries i 0) best a
+        → TellsLook nums ends entries widths keys t table longest (i + 1) (left - 1) a r
+        → TellsLook nums ends entries widths keys t table longest i left best r
+    look-further a r more u v =
+        record { told = λ P T ws es h f s. go (first-of _ _ _ _ _ _ _ _ _ P T ws es h more) f s }
+      where
+        go : {P : Program} {T : Table} {ws : List Worked} {es : List Lists.Entry}
+            → First nums ends entries widths keys t table i left P T ws es → (f : rules.Found)
+            → FoundStands nums f best → FoundStands nums (lookUp longest ws f (entriesOf t es)) r
+        go {P = P} {T = T} {ws = ws} o f s =
+            rw (o .same, look-on longest ws f t (o .entry) (o .others))
+            (v .told P T ws (o .others) (o .rest) (lookUp longest ws f (entriesOf t (o .entry ∷ [])))
+            (u .told P T ws (o .entry) (o .first) f s))
+
+pub ruleset looks = (slot-inside, slot-next, step-asked, look-asked, look-ended, look-further)
+
+-- the whole look-up
+module _ (nums ends entries widths keys : List ℕ) (t table : ℕ) where
+  module _ (h : AsksLook nums ends entries widths keys t table 1 (getD entries 0 0)) where
+    pub count-inside : table < length nums
+    count-inside = h .sought .stands .keyCount .holds .inside
+
+    pub keys-begin : table + 1 < 2 ^ 64
+    keys-begin = omega (arith, count-inside, h .numbers)
+
+    pub keys-asked : AsksKeys nums ends (table + 1) (getD nums table 0)
+    keys-asked = record {
+      keyList = h .tableAt .keys;
+      stand = h .sought .stands .keys;
+      counts = h .sought .stands .keyCount .holds .is;
+      numbers = h .numbers;
+      room = h .room;
+    }
+
+  pub looked-up : (longest : Bool) (best r : Found) → TellsLongest nums ends (table + 1) (getD nums table 0) longest
+      → best ≡ Nothing → TellsLook nums ends entries widths keys t table longest 1 (getD entries 0 0) best r
+      → TellsLookUp nums ends entries widths keys t table r
+  looked-up longest best r l b u = record {
+    told = λ P T ws es h.
+        let same : longest ≡ longestWins (T .keys) =
+        l .told (T .keys) (h .stands .keys) (h .stands .keyCount .holds .is) in
+        rw (← same) (u .told P T ws es h rules.nothing (rw b none));
+  }
+
+pub ruleset whole = (count-inside, keys-begin, keys-asked, looked-up)

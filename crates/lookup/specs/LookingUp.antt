@@ -1,0 +1,112 @@
+-- The look-up of a table: whether the longest prefix wins, and the entry that is found, as the rules say.
+use mathlib.Core.Bool.{Bool, true}
+use mathlib.Core.Option.{some}
+use mathlib.Core.Path.{_≡_}
+use mathlib.Core.List.{List, [], _∷_}
+use Prim.Native.Nat.{ℕ, suc, _+_, _*_, _≤_}
+use lib.Dec.{eqb}
+use lib.ListN.{length, getD, getElem?}
+use Rattle.rules.specs.Numbers.{mostBytes}
+use Rattle.rules.specs.Syntax.{KeyKind, Key, Table, Program}
+use Rattle.rules.specs.Reading.{mostKeys, mostTables}
+use Rattle.rules.specs.Lists as Lists
+use Rattle.rules.specs.Lists.{mostEntries}
+use Rattle.rules.specs.Running.{Worked, prefixOf, anyKey, longestWins, better, lookUp, entriesOf, entriesFit}
+use Rattle.rules.specs.Running as rules
+use Rattle.program.specs.Codes.{keyKindNumber}
+use Rattle.program.specs.Stands.{Holds, StandsKeys, StandsTable}
+use Rattle.lists.specs.Stands.{HoldsAll, StandsEntry}
+use Rattle.lookup.specs.Matching.{StandsAllWorked, widthsOf}
+use Rattle.lookup.specs.declared.Found.{Found}
+use Rattle.lookup.specs.declared.Found.the-variants.{Entry, Nothing}
+
+-- keys one after the other, the first of which stands at an index
+pub record AsksKeys (nums ends : List ℕ) (from count : ℕ) : Type 0 where
+  pub keyList : List Key
+  pub stand : StandsKeys nums ends from keyList
+  pub counts : count ≡ length keyList
+  pub numbers : length nums ≤ mostBytes
+  pub room : length nums ≤ length ends
+
+unfoldable pub ofKind : ℕ → KeyKind → Bool
+ofKind number kind = eqb (keyKindNumber kind) number
+
+pub record TellsAny (nums ends : List ℕ) (number from count : ℕ) (r : Bool) : Type 0 where
+  pub told : (ks : List Key) → StandsKeys nums ends from ks → count ≡ length ks → r ≡ anyKey (ofKind number) ks
+
+pub record TellsLongest (nums ends : List ℕ) (from count : ℕ) (r : Bool) : Type 0 where
+  pub told : (ks : List Key) → StandsKeys nums ends from ks → count ≡ length ks → r ≡ longestWins ks
+
+-- an entry that is found: its action's position and arguments stand one after the other, and its prefix is kept
+pub data FoundStands (nums : List ℕ) : rules.Found → Found → Type 0 where
+  entry : {e : Lists.Entry} {action prefix : ℕ} → Holds nums action (e .position)
+      → HoldsAll nums (action + 1) (e .arguments) → prefix ≡ prefixOf (e .patterns)
+      → FoundStands nums (rules.found e) (Entry action prefix)
+  none : FoundStands nums rules.nothing Nothing
+
+pub record TellsBetter (longest : Bool) (best : Found) (action prefix : ℕ) (r : Found) : Type 0 where
+  pub told : (nums : List ℕ) (f : rules.Found) (e : Lists.Entry) → FoundStands nums f best
+      → FoundStands nums (rules.found e) (Entry action prefix) → FoundStands nums (better longest f e) r
+
+-- a table, its keys as they were worked out, and an entry of any table
+pub record Sought (nums ends widths keys : List ℕ) (t table at : ℕ) (P : Program) (T : Table) (ws : List Worked)
+    (e : Lists.Entry) : Type 0 where
+  pub tableIs : getElem? (P .tables) t ≡ some T
+  pub stands : StandsTable nums ends table T
+  pub worked : StandsAllWorked widths keys (mostKeys * t) 0 ws
+  pub entryStands : StandsEntry P nums at e
+  pub fits : entriesFit P T (widthsOf ws) (entriesOf t (e ∷ [])) ≡ true
+
+pub record AsksStep (nums ends widths keys : List ℕ) (t table at : ℕ) : Type 0 where
+  pub program : Program
+  pub tableAt : Table
+  pub worked : List Worked
+  pub entry : Lists.Entry
+  pub sought : Sought nums ends widths keys t table at program tableAt worked entry
+  pub numbers : length nums ≤ mostBytes
+  pub room : length nums ≤ length ends
+  pub few : t + 1 ≤ mostTables
+
+pub record TellsStep (nums ends widths keys : List ℕ) (t table : ℕ) (longest : Bool) (at : ℕ) (best r : Found)
+    : Type 0 where
+  pub told : (P : Program) (T : Table) (ws : List Worked) (e : Lists.Entry)
+      → Sought nums ends widths keys t table at P T ws e → (f : rules.Found) → FoundStands nums f best
+      → FoundStands nums (lookUp longest ws f (entriesOf t (e ∷ []))) r
+
+-- entries whose places stand in slots one after the other
+unfoldable pub StandsEntries : Program → List ℕ → List ℕ → ℕ → List Lists.Entry → Type 0
+StandsEntries P nums entries i [] = Unit
+StandsEntries P nums entries i (e ∷ es) =
+    StandsEntry P nums (getD entries i 0) e × StandsEntries P nums entries (i + 1) es
+
+pub record SoughtIn (nums ends entries widths keys : List ℕ) (t table i left : ℕ) (P : Program) (T : Table)
+    (ws : List Worked) (es : List Lists.Entry) : Type 0 where
+  pub tableIs : getElem? (P .tables) t ≡ some T
+  pub stands : StandsTable nums ends table T
+  pub worked : StandsAllWorked widths keys (mostKeys * t) 0 ws
+  pub entriesStand : StandsEntries P nums entries i es
+  pub counts : left ≡ length es
+  pub fits : entriesFit P T (widthsOf ws) (entriesOf t es) ≡ true
+
+pub record AsksLook (nums ends entries widths keys : List ℕ) (t table i left : ℕ) : Type 0 where
+  pub program : Program
+  pub tableAt : Table
+  pub worked : List Worked
+  pub entryList : List Lists.Entry
+  pub sought : SoughtIn nums ends entries widths keys t table i left program tableAt worked entryList
+  pub numbers : length nums ≤ mostBytes
+  pub room : length nums ≤ length ends
+  pub few : t + 1 ≤ mostTables
+  pub slots : i + left ≤ suc mostEntries
+
+pub record TellsLook (nums ends entries widths keys : List ℕ) (t table : ℕ) (longest : Bool) (i left : ℕ)
+    (best r : Found) : Type 0 where
+  pub told : (P : Program) (T : Table) (ws : List Worked) (es : List Lists.Entry)
+      → SoughtIn nums ends entries widths keys t table i left P T ws es → (f : rules.Found)
+      → FoundStands nums f best → FoundStands nums (lookUp longest ws f (entriesOf t es)) r
+
+-- the whole look-up: the count of the entries stands in the first of their slots
+pub record TellsLookUp (nums ends entries widths keys : List ℕ) (t table : ℕ) (r : Found) : Type 0 where
+  pub told : (P : Program) (T : Table) (ws : List Worked) (es : List Lists.Entry)
+      → SoughtIn nums ends entries widths keys t table 1 (getD entries 0 0) P T ws es
+      → FoundStands nums (lookUp (longestWins (T .keys)) ws rules.nothing (entriesOf t es)) r

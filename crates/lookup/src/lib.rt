@@ -1,0 +1,54 @@
+// The look-up of an apply: among the entries of a table that match all its keys the one with the longest prefix, where
+// the table has an lpm key and no ternary one, else the earliest.
+ghost use lib.ListN.{getD};
+ghost use Rattle.lookup.specs.LookingUp.{AsksLook, TellsLookUp};
+use looking::longest_wins;
+use looking::look_from;
+
+mod looking;
+mod matching;
+
+// The most keys of a table: as many slots have their widths, and as many their numbers.
+pub const MOST_KEYS: usize = 4;
+
+// Whether all keys match an entry's patterns: the prefix length of its lpm key, or 0 where it has none, and the index
+// behind the patterns.
+pub enum Match {
+    Yes { prefix: u64, next: usize },
+    No,
+}
+
+// The entry that is found: where the position of its action stands, with the arguments behind it, and its prefix length.
+pub enum Found {
+    Entry { action: usize, prefix: u64 },
+    Nothing,
+}
+
+// The entry that table `t`, which stands at `table`, finds by its keys' numbers.
+pub fn look_up(
+    nums: &[u64],
+    ends: &[u64],
+    entries: &[u64; lists::ENTRIES],
+    widths: &[u64; lists::WIDTHS],
+    keys: &[u64; MOST_KEYS],
+    t: u64,
+    table: usize,
+) -> Found
+    requires { ⌜ AsksLook (now nums) (now ends) (now entries) (now widths) (now keys) t table 1 (getD (now entries) 0 0) ⌝ }
+    ensures { λ r. ⌜ TellsLookUp (now (nums .entry)) (now (ends .entry)) (now (entries .entry)) (now (widths .entry)) (now (keys .entry)) t table r ⌝ }
+{
+    let longest = longest_wins(nums, ends, table + 1, nums[table]);
+    look_from(
+        nums,
+        ends,
+        entries,
+        widths,
+        keys,
+        t,
+        table,
+        longest,
+        1,
+        entries[0],
+        Found::Nothing,
+    )
+}

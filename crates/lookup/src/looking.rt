@@ -1,0 +1,144 @@
+// The look-up among the entries of a table.
+ghost use Rattle.lookup.specs.LookingUp.{AsksKeys, TellsAny, TellsLongest, TellsBetter, AsksStep, TellsStep, AsksLook, TellsLook};
+use super::matching::match_from;
+use crate::Found;
+use crate::Match;
+
+// The kinds of keys that decide whether the longest prefix wins.
+const LPM: u64 = 1;
+
+const TERNARY: u64 = 2;
+
+// Whether one of so many keys, the first of which stands at `from`, is of a kind.
+fn any_key(nums: &[u64], ends: &[u64], kind: u64, from: usize, count: u64) -> bool
+    requires { ⌜ AsksKeys (now nums) (now ends) from count ⌝ }
+    ensures { λ r. ⌜ TellsAny (now (nums .entry)) (now (ends .entry)) kind from count r ⌝ }
+{
+    if count == 0 {
+        false
+    } else if nums[from] == kind {
+        true
+    } else {
+        any_key(nums, ends, kind, ends[from + 1] as usize, count - 1)
+    }
+}
+
+// Whether the longest prefix wins.
+pub(crate) fn longest_wins(nums: &[u64], ends: &[u64], from: usize, count: u64) -> bool
+    requires { ⌜ AsksKeys (now nums) (now ends) from count ⌝ }
+    ensures { λ r. ⌜ TellsLongest (now (nums .entry)) (now (ends .entry)) from count r ⌝ }
+{
+    if any_key(nums, ends, LPM, from, count) {
+        if any_key(nums, ends, TERNARY, from, count) {
+            false
+        } else {
+            true
+        }
+    } else {
+        false
+    }
+}
+
+// The better of what was found and an entry behind it: ties go to the earlier.
+fn better(longest: bool, best: Found, action: usize, prefix: u64) -> Found
+    ensures { λ r. ⌜ TellsBetter longest best action prefix r ⌝ }
+{
+    match best {
+        Found::Entry {
+            action: earlier,
+            prefix: length,
+        } => {
+            if longest {
+                if length < prefix {
+                    Found::Entry { action, prefix }
+                } else {
+                    Found::Entry {
+                        action: earlier,
+                        prefix: length,
+                    }
+                }
+            } else {
+                Found::Entry {
+                    action: earlier,
+                    prefix: length,
+                }
+            }
+        }
+        Found::Nothing => Found::Entry { action, prefix },
+    }
+}
+
+// What is found once an entry of any table is looked at.
+fn step(
+    nums: &[u64],
+    ends: &[u64],
+    widths: &[u64; lists::WIDTHS],
+    keys: &[u64; super::MOST_KEYS],
+    t: u64,
+    table: usize,
+    longest: bool,
+    at: usize,
+    best: Found,
+) -> Found
+    requires { ⌜ AsksStep (now nums) (now ends) (now widths) (now keys) t table at ⌝ }
+    ensures { λ r. ⌜ TellsStep (now (nums .entry)) (now (ends .entry)) (now (widths .entry)) (now (keys .entry)) t table longest at best r ⌝ }
+{
+    if nums[at] == t {
+        let slot = super::MOST_KEYS * t as usize;
+        let keyed = match_from(
+            nums,
+            ends,
+            widths,
+            keys,
+            table + 1,
+            nums[table],
+            slot,
+            0,
+            at + 1,
+        );
+        match keyed {
+            Match::Yes { prefix, next } => better(longest, best, next, prefix),
+            Match::No => best,
+        }
+    } else {
+        best
+    }
+}
+
+// What is found once so many entries are looked at, whose places stand from slot `i` on.
+pub(crate) fn look_from(
+    nums: &[u64],
+    ends: &[u64],
+    entries: &[u64; lists::ENTRIES],
+    widths: &[u64; lists::WIDTHS],
+    keys: &[u64; super::MOST_KEYS],
+    t: u64,
+    table: usize,
+    longest: bool,
+    i: usize,
+    left: u64,
+    best: Found,
+) -> Found
+    requires { ⌜ AsksLook (now nums) (now ends) (now entries) (now widths) (now keys) t table i left ⌝ }
+    ensures { λ r. ⌜ TellsLook (now (nums .entry)) (now (ends .entry)) (now (entries .entry)) (now (widths .entry)) (now (keys .entry)) t table longest i left best r ⌝ }
+{
+    if left == 0 {
+        best
+    } else {
+        let at = entries[i] as usize;
+        let found = step(nums, ends, widths, keys, t, table, longest, at, best);
+        look_from(
+            nums,
+            ends,
+            entries,
+            widths,
+            keys,
+            t,
+            table,
+            longest,
+            i + 1,
+            left - 1,
+            found,
+        )
+    }
+}

@@ -1,0 +1,110 @@
+// The keys of a table against the patterns of an entry.
+ghost use Rattle.lookup.specs.Matching.{AsksOne, TellsOne, AsksMatch, TellsMatch};
+use crate::Match;
+
+// The kinds of keys.
+const EXACT: u64 = 0;
+
+const LPM: u64 = 1;
+
+// Whether a key matches, where the next pattern stands, and the prefix length where the key is lpm.
+struct One {
+    matches: bool,
+    next: usize,
+    lpm: bool,
+    prefix: u64,
+}
+
+// One key against one pattern.
+fn match_one(
+    nums: &[u64],
+    widths: &[u64; lists::WIDTHS],
+    keys: &[u64; super::MOST_KEYS],
+    from: usize,
+    slot: usize,
+    j: usize,
+    at: usize,
+) -> One
+    requires { ⌜ AsksOne (now nums) (now widths) (now keys) from slot j at ⌝ }
+    ensures { λ r. ⌜ TellsOne (now (nums .entry)) (now (widths .entry)) (now (keys .entry)) from slot j at (r .matches) (r .next) (r .lpm) (r .prefix) ⌝ }
+{
+    let kind = nums[from];
+    let value = nums[at];
+    let key = keys[j];
+    if kind == EXACT {
+        One {
+            matches: words::order::equal(key, value),
+            next: at + 1,
+            lpm: false,
+            prefix: 0,
+        }
+    } else if kind == LPM {
+        let prefix = nums[at + 1];
+        One {
+            matches: words::keys::prefix_matches(widths[slot], prefix, value, key),
+            next: at + 2,
+            lpm: true,
+            prefix: prefix,
+        }
+    } else {
+        One {
+            matches: words::keys::mask_matches(nums[at + 1], value, key),
+            next: at + 2,
+            lpm: false,
+            prefix: 0,
+        }
+    }
+}
+
+// So many keys, the first of which stands at `from`, against patterns one after the other from `at` on.
+pub(crate) fn match_from(
+    nums: &[u64],
+    ends: &[u64],
+    widths: &[u64; lists::WIDTHS],
+    keys: &[u64; super::MOST_KEYS],
+    from: usize,
+    count: u64,
+    slot: usize,
+    j: usize,
+    at: usize,
+) -> Match
+    requires { ⌜ AsksMatch (now nums) (now ends) (now widths) (now keys) from count slot j at ⌝ }
+    ensures { λ r. ⌜ TellsMatch (now (nums .entry)) (now (ends .entry)) (now (widths .entry)) (now (keys .entry)) from count slot j at r ⌝ }
+{
+    if count == 0 {
+        Match::Yes {
+            prefix: 0,
+            next: at,
+        }
+    } else {
+        let one = match_one(nums, widths, keys, from, slot, j, at);
+        if one.matches {
+            let rest = match_from(
+                nums,
+                ends,
+                widths,
+                keys,
+                ends[from + 1] as usize,
+                count - 1,
+                slot + 1,
+                j + 1,
+                one.next,
+            );
+            match rest {
+                Match::Yes { prefix, next } => {
+                    if one.lpm {
+                        Match::Yes {
+                            prefix: one.prefix,
+                            next,
+                        }
+                    } else {
+                        Match::Yes { prefix, next }
+                    }
+                }
+                Match::No => Match::No,
+            }
+        } else {
+            Match::No
+        }
+    }
+}
