@@ -8,22 +8,22 @@ use borrow.Author.Tests.{lt-ltb, le-ltb}
 use Rattle.rules.specs.Lists as Lists
 use Rattle.rules.specs.Running.{prefixOf, beats, better}
 use Rattle.rules.specs.Running as rules
-use Rattle.lookup.specs.LookingUp.{FoundStands, entry, none, TellsBetter}
-use Rattle.lookup.specs.declared.Found.{Found}
-use Rattle.lookup.specs.declared.Found.the-variants.{Entry, Nothing}
+use Rattle.lookup.specs.LookingUp.{BestStands, entry, none, TellsBetter}
+use Rattle.lookup.specs.declared.Best.{Best}
+use Rattle.lookup.specs.declared.Best.the-variants.{Entry, Nothing}
 
 prefix-kept : {nums : List ℕ} {e : Lists.Entry} {action prefix : ℕ}
-    → FoundStands nums (rules.found e) (Entry action prefix) → prefix ≡ prefixOf (e .patterns)
+    → BestStands nums (rules.found e) (Entry action prefix) → prefix ≡ prefixOf (e .patterns)
 prefix-kept (entry p g q) = q
 
-module _ (longest : Bool) (best : Found) (action prefix : ℕ) where
+module _ (longest : Bool) (best : Best) (action prefix : ℕ) where
   pub better-first : best ≡ Nothing → TellsBetter longest best action prefix (Entry action prefix)
   unfolding better
   better-first b = record { told = λ nums f e s u. go (rw b at s) u }
     where
-      go : {nums : List ℕ} {f : rules.Found} {e : Lists.Entry} → FoundStands nums f Nothing
-          → FoundStands nums (rules.found e) (Entry action prefix)
-          → FoundStands nums (better longest f e) (Entry action prefix)
+      go : {nums : List ℕ} {f : rules.Found} {e : Lists.Entry} → BestStands nums f Nothing
+          → BestStands nums (rules.found e) (Entry action prefix)
+          → BestStands nums (better longest f e) (Entry action prefix)
       go none u = u
 
   beats-longer : (e b : Lists.Entry) → longest ≡ true → prefixOf (b .patterns) < prefixOf (e .patterns)
@@ -45,9 +45,9 @@ module _ (longest : Bool) (best : Found) (action prefix : ℕ) where
     unfolding better
     better-longer l n = record { told = λ nums f e s u. go e (rw b at s) u }
       where
-        go : {nums : List ℕ} {f : rules.Found} (e : Lists.Entry) → FoundStands nums f (Entry a p)
-            → FoundStands nums (rules.found e) (Entry action prefix)
-            → FoundStands nums (better longest f e) (Entry action prefix)
+        go : {nums : List ℕ} {f : rules.Found} (e : Lists.Entry) → BestStands nums f (Entry a p)
+            → BestStands nums (rules.found e) (Entry action prefix)
+            → BestStands nums (better longest f e) (Entry action prefix)
         go e (entry {e =
             earlier} h g q) u = rw (better, beats-longer e earlier l (omega (arith, n, q, prefix-kept u))) u
 
@@ -55,9 +55,9 @@ module _ (longest : Bool) (best : Found) (action prefix : ℕ) where
     unfolding better
     better-shorter l n = record { told = λ nums f e s u. go e (rw b at s) u }
       where
-        go : {nums : List ℕ} {f : rules.Found} (e : Lists.Entry) → FoundStands nums f (Entry a p)
-            → FoundStands nums (rules.found e) (Entry action prefix)
-            → FoundStands nums (better longest f e) (Entry a p)
+        go : {nums : List ℕ} {f : rules.Found} (e : Lists.Entry) → BestStands nums f (Entry a p)
+            → BestStands nums (rules.found e) (Entry action prefix)
+            → BestStands nums (better longest f e) (Entry a p)
         go e (entry {e = earlier} h g q) u =
             rw (better, beats-not e earlier l (omega (arith, n, q, prefix-kept u))) (entry h g q)
 
@@ -65,8 +65,8 @@ module _ (longest : Bool) (best : Found) (action prefix : ℕ) where
     unfolding better
     better-earlier l = record { told = λ nums f e s u. go e (rw b at s) }
       where
-        go : {nums : List ℕ} {f : rules.Found} (e : Lists.Entry) → FoundStands nums f (Entry a p)
-            → FoundStands nums (better longest f e) (Entry a p)
+        go : {nums : List ℕ} {f : rules.Found} (e : Lists.Entry) → BestStands nums f (Entry a p)
+            → BestStands nums (better longest f e) (Entry a p)
         go e (entry {e = earlier} h g q) = rw (better, beats-never e earlier l) (entry h g q)
 
 pub ruleset betters = (better-first, better-longer, better-shorter, better-earlier)

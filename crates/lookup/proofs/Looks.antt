@@ -16,11 +16,13 @@ use Rattle.rules.specs.Running as rules
 use Rattle.rules.proofs.Predicates.{and-both}
 use Rattle.lists.specs.Listing.{patternsSize}
 use Rattle.lookup.specs.Matching.{widthsOf, KeyPatterns, AsksMatch, Matched, matched, unmatched, TellsMatch}
-use Rattle.lookup.specs.LookingUp.{AsksKeys, TellsLongest, FoundStands, entry, none, TellsBetter, Sought, AsksStep, TellsStep, StandsEntries, SoughtIn, AsksLook, TellsLook, TellsLookUp}
+use Rattle.lookup.specs.LookingUp.{AsksKeys, TellsLongest, BestStands, entry, none, TellsBetter, Sought, AsksStep, TellsStep, StandsEntries, SoughtIn, AsksLook, TellsLook, Looked, entry-found, nothing-found, TellsLookUp}
 use Rattle.lookup.specs.declared.Match.{Match}
 use Rattle.lookup.specs.declared.Match.the-variants.{Yes, No}
-use Rattle.lookup.specs.declared.Found.{Found}
-use Rattle.lookup.specs.declared.Found.the-variants.{Entry, Nothing}
+use Rattle.lookup.specs.declared.Best.{Best}
+use Rattle.lookup.specs.declared.Best.the-variants.{Entry, Nothing}
+use Rattle.lookup.specs.declared.Lookup.the-variants as Lookups
+use Rattle.lookup.specs.declared.Lookup.the-variants.{Found}
 
 -- an entry of the table, and one of another
 own-of : (t : ℕ) (e : Lists.Entry) (es : List Lists.Entry) → e .table ≡ t → entriesOf t (e ∷ es) ≡ e ∷ entriesOf t es
@@ -113,7 +115,7 @@ module _ (nums ends widths keys : List ℕ) (t table at : ℕ) where
       place = omega (arith, h .sought .stands .keyCount .atMost, h .sought .stands .keyCount .holds .is);
     }
 
-  module _ (longest : Bool) (best : Found) where
+  module _ (longest : Bool) (best : Best) where
     pub step-other : (getD nums at 0 ≡ t → ⊥) → TellsStep nums ends widths keys t table longest at best best
     step-other n = record {
       told = λ P T ws e h f s. rw (other-alone t e (λ q. n (h .entryStands .number .is ∙ q)), look-none longest ws f) s;
@@ -129,15 +131,15 @@ module _ (nums ends widths keys : List ℕ) (t table at : ℕ) where
             missed (unmatched k) = k
 
             go : (P : Program) (T : Table) (ws : List Worked) (e : Lists.Entry)
-                → Sought nums ends widths keys t table at P T ws e → (f : rules.Found) → FoundStands nums f best
-                → FoundStands nums (lookUp longest ws f (entriesOf t (e ∷ []))) best
+                → Sought nums ends widths keys t table at P T ws e → (f : rules.Found) → BestStands nums f best
+                → BestStands nums (lookUp longest ws f (entriesOf t (e ∷ []))) best
             go P T ws e h f s =
                 let own : e .table ≡ t = sym (h .entryStands .number .is) ∙ q in
                 let k : matchesAll ws (e .patterns) ≡ false
                 = missed (rw n at (u .told (T .keys) ws (e .patterns) (own-patterns h q))) in
                 rw (own-alone t e own, look-unmatched longest ws f e [] k, look-none longest ws f) s
 
-        pub step-matched : (prefix next : ℕ) (r : Found) → m ≡ Yes prefix next → TellsBetter longest best next prefix r
+        pub step-matched : (prefix next : ℕ) (r : Best) → m ≡ Yes prefix next → TellsBetter longest best next prefix r
             → TellsStep nums ends widths keys t table longest at best r
         step-matched prefix next r n b = record { told = go }
           where
@@ -146,15 +148,15 @@ module _ (nums ends widths keys : List ℕ) (t table at : ℕ) where
             all (matched k p l) = (k, (p, l))
 
             go : (P : Program) (T : Table) (ws : List Worked) (e : Lists.Entry)
-                → Sought nums ends widths keys t table at P T ws e → (f : rules.Found) → FoundStands nums f best
-                → FoundStands nums (lookUp longest ws f (entriesOf t (e ∷ []))) r
+                → Sought nums ends widths keys t table at P T ws e → (f : rules.Found) → BestStands nums f best
+                → BestStands nums (lookUp longest ws f (entriesOf t (e ∷ []))) r
             go P T ws e h f s =
                 let own : e .table ≡ t = sym (h .entryStands .number .is) ∙ q in
                 let k : (matchesAll ws (e .patterns) ≡ true)
                 × ((prefix ≡ prefixOf (e .patterns)) × (next ≡ at + 1 + patternsSize (e .patterns)))
                 = all (rw n at (u .told (T .keys) ws (e .patterns) (own-patterns h q))) in
                 let args : next + 1 ≡ at + 2 + patternsSize (e .patterns) = omega (arith, k .1 .1) in
-                let this : FoundStands nums (rules.found e) (Entry next prefix)
+                let this : BestStands nums (rules.found e) (Entry next prefix)
                 =
                 entry {e = e} {action = next} (rw (k .1 .1) (h .entryStands .position)) (rw args (h .entryStands .arguments)) (k .1 .0) in
                 rw (own-alone t e own, look-matched longest ws f e [] (k .0), look-none longest ws (better longest f e))
@@ -282,17 +284,17 @@ module _ (nums ends entries widths keys : List ℕ) (t table i left : ℕ) where
       slots = omega (arith, h .slots, more);
     }
 
-  module _ (longest : Bool) (best : Found) where
+  module _ (longest : Bool) (best : Best) where
     pub look-ended : left ≡ 0 → TellsLook nums ends entries widths keys t table longest i left best best
     unfolding lookUp entriesOf
     look-ended e = record { told = λ P T ws es h f s. go ws es (h .counts) f s }
       where
         go : (ws : List Worked) (es : List Lists.Entry) → left ≡ length es → (f : rules.Found)
-            → FoundStands nums f best → FoundStands nums (lookUp longest ws f (entriesOf t es)) best
+            → BestStands nums f best → BestStands nums (lookUp longest ws f (entriesOf t es)) best
         go ws [] c f s = s
         go ws (x ∷ es) c f s = absurd (omega (arith, e, c))
 
-    pub look-further : (a r : Found) → (left ≡ 0 → ⊥)
+    pub look-further : (a r : Best) → (left ≡ 0 → ⊥)
         → TellsStep nums ends widths keys t table longest (getD entries i 0) best a
         → TellsLook nums ends entries widths keys t table longest (i + 1) (left - 1) a r
         → TellsLook nums ends entries widths keys t table longest i left best r
@@ -301,7 +303,7 @@ module _ (nums ends entries widths keys : List ℕ) (t table i left : ℕ) where
       where
         go : {P : Program} {T : Table} {ws : List Worked} {es : List Lists.Entry}
             → First nums ends entries widths keys t table i left P T ws es → (f : rules.Found)
-            → FoundStands nums f best → FoundStands nums (lookUp longest ws f (entriesOf t es)) r
+            → BestStands nums f best → BestStands nums (lookUp longest ws f (entriesOf t es)) r
         go {P = P} {T = T} {ws = ws} o f s =
             rw (o .same, look-on longest ws f t (o .entry) (o .others))
             (v .told P T ws (o .others) (o .rest) (lookUp longest ws f (entriesOf t (o .entry ∷ [])))
@@ -327,14 +329,34 @@ module _ (nums ends entries widths keys : List ℕ) (t table : ℕ) where
       room = h .room;
     }
 
-  pub looked-up : (longest : Bool) (best r : Found) → TellsLongest nums ends (table + 1) (getD nums table 0) longest
-      → best ≡ Nothing → TellsLook nums ends entries widths keys t table longest 1 (getD entries 0 0) best r
-      → TellsLookUp nums ends entries widths keys t table r
-  looked-up longest best r l b u = record {
-    told = λ P T ws es h.
-        let same : longest ≡ longestWins (T .keys) =
-        l .told (T .keys) (h .stands .keys) (h .stands .keyCount .holds .is) in
-        rw (← same) (u .told P T ws es h rules.nothing (rw b none));
-  }
+  looked-up : (longest : Bool) (best b : Best) → TellsLongest nums ends (table + 1) (getD nums table 0) longest
+      → best ≡ Nothing → TellsLook nums ends entries widths keys t table longest 1 (getD entries 0 0) best b
+      → (P : Program) (T : Table) (ws : List Worked) (es : List Lists.Entry)
+      → SoughtIn nums ends entries widths keys t table 1 (getD entries 0 0) P T ws es
+      → BestStands nums (lookUp (longestWins (T .keys)) ws rules.nothing (entriesOf t es)) b
+  looked-up longest best b l n u P T ws es h =
+      let same : longest ≡ longestWins (T .keys)
+      = l .told (T .keys) (h .stands .keys) (h .stands .keyCount .holds .is) in
+      rw (← same) (u .told P T ws es h rules.nothing (rw n none))
 
-pub ruleset whole = (count-inside, keys-begin, keys-asked, looked-up)
+  module _ (longest : Bool) (best b : Best) (l : TellsLongest nums ends (table + 1) (getD nums table 0) longest)
+      (n : best ≡ Nothing) (u : TellsLook nums ends entries widths keys t table longest 1 (getD entries 0 0) best b)
+    where
+      pub found-told : (action prefix : ℕ) → b ≡ Entry action prefix
+          → TellsLookUp nums ends entries widths keys t table (Found action)
+      found-told action prefix q = record {
+        told = λ P T ws es h. go (rw q at (looked-up longest best b l n u P T ws es h));
+      }
+        where
+          go : {f : rules.Found} → BestStands nums f (Entry action prefix) → Looked nums f (Found action)
+          go (entry p a k) = entry-found p a
+
+      pub nothing-told : b ≡ Nothing → TellsLookUp nums ends entries widths keys t table Lookups.Nothing
+      nothing-told q = record {
+        told = λ P T ws es h. go (rw q at (looked-up longest best b l n u P T ws es h));
+      }
+        where
+          go : {f : rules.Found} → BestStands nums f Nothing → Looked nums f Lookups.Nothing
+          go none = nothing-found
+
+pub ruleset whole = (count-inside, keys-begin, keys-asked, found-told, nothing-told)

@@ -17,8 +17,11 @@ use Rattle.program.specs.Codes.{keyKindNumber}
 use Rattle.program.specs.Stands.{Holds, StandsKeys, StandsTable}
 use Rattle.lists.specs.Stands.{HoldsAll, StandsEntry}
 use Rattle.lookup.specs.Matching.{StandsAllWorked, widthsOf}
-use Rattle.lookup.specs.declared.Found.{Found}
-use Rattle.lookup.specs.declared.Found.the-variants.{Entry, Nothing}
+use Rattle.lookup.specs.declared.Best.{Best}
+use Rattle.lookup.specs.declared.Best.the-variants.{Entry, Nothing}
+use Rattle.lookup.specs.declared.Lookup.{Lookup}
+use Rattle.lookup.specs.declared.Lookup.the-variants as Lookups
+use Rattle.lookup.specs.declared.Lookup.the-variants.{Found}
 
 -- keys one after the other, the first of which stands at an index
 pub record AsksKeys (nums ends : List ℕ) (from count : ℕ) : Type 0 where
@@ -38,15 +41,15 @@ pub record TellsLongest (nums ends : List ℕ) (from count : ℕ) (r : Bool) : T
   pub told : (ks : List Key) → StandsKeys nums ends from ks → count ≡ length ks → r ≡ longestWins ks
 
 -- an entry that is found: its action's position and arguments stand one after the other, and its prefix is kept
-pub data FoundStands (nums : List ℕ) : rules.Found → Found → Type 0 where
+pub data BestStands (nums : List ℕ) : rules.Found → Best → Type 0 where
   entry : {e : Lists.Entry} {action prefix : ℕ} → Holds nums action (e .position)
       → HoldsAll nums (action + 1) (e .arguments) → prefix ≡ prefixOf (e .patterns)
-      → FoundStands nums (rules.found e) (Entry action prefix)
-  none : FoundStands nums rules.nothing Nothing
+      → BestStands nums (rules.found e) (Entry action prefix)
+  none : BestStands nums rules.nothing Nothing
 
-pub record TellsBetter (longest : Bool) (best : Found) (action prefix : ℕ) (r : Found) : Type 0 where
-  pub told : (nums : List ℕ) (f : rules.Found) (e : Lists.Entry) → FoundStands nums f best
-      → FoundStands nums (rules.found e) (Entry action prefix) → FoundStands nums (better longest f e) r
+pub record TellsBetter (longest : Bool) (best : Best) (action prefix : ℕ) (r : Best) : Type 0 where
+  pub told : (nums : List ℕ) (f : rules.Found) (e : Lists.Entry) → BestStands nums f best
+      → BestStands nums (rules.found e) (Entry action prefix) → BestStands nums (better longest f e) r
 
 -- a table, its keys as they were worked out, and an entry of any table
 pub record Sought (nums ends widths keys : List ℕ) (t table at : ℕ) (P : Program) (T : Table) (ws : List Worked)
@@ -67,11 +70,11 @@ pub record AsksStep (nums ends widths keys : List ℕ) (t table at : ℕ) : Type
   pub room : length nums ≤ length ends
   pub few : t + 1 ≤ mostTables
 
-pub record TellsStep (nums ends widths keys : List ℕ) (t table : ℕ) (longest : Bool) (at : ℕ) (best r : Found)
+pub record TellsStep (nums ends widths keys : List ℕ) (t table : ℕ) (longest : Bool) (at : ℕ) (best r : Best)
     : Type 0 where
   pub told : (P : Program) (T : Table) (ws : List Worked) (e : Lists.Entry)
-      → Sought nums ends widths keys t table at P T ws e → (f : rules.Found) → FoundStands nums f best
-      → FoundStands nums (lookUp longest ws f (entriesOf t (e ∷ []))) r
+      → Sought nums ends widths keys t table at P T ws e → (f : rules.Found) → BestStands nums f best
+      → BestStands nums (lookUp longest ws f (entriesOf t (e ∷ []))) r
 
 -- entries whose places stand in slots one after the other
 unfoldable pub StandsEntries : Program → List ℕ → List ℕ → ℕ → List Lists.Entry → Type 0
@@ -100,13 +103,19 @@ pub record AsksLook (nums ends entries widths keys : List ℕ) (t table i left :
   pub slots : i + left ≤ suc mostEntries
 
 pub record TellsLook (nums ends entries widths keys : List ℕ) (t table : ℕ) (longest : Bool) (i left : ℕ)
-    (best r : Found) : Type 0 where
+    (best r : Best) : Type 0 where
   pub told : (P : Program) (T : Table) (ws : List Worked) (es : List Lists.Entry)
       → SoughtIn nums ends entries widths keys t table i left P T ws es → (f : rules.Found)
-      → FoundStands nums f best → FoundStands nums (lookUp longest ws f (entriesOf t es)) r
+      → BestStands nums f best → BestStands nums (lookUp longest ws f (entriesOf t es)) r
+
+-- what the look-up answers, without the prefix
+pub data Looked (nums : List ℕ) : rules.Found → Lookup → Type 0 where
+  entry-found : {e : Lists.Entry} {action : ℕ} → Holds nums action (e .position)
+      → HoldsAll nums (action + 1) (e .arguments) → Looked nums (rules.found e) (Found action)
+  nothing-found : Looked nums rules.nothing Lookups.Nothing
 
 -- the whole look-up: the count of the entries stands in the first of their slots
-pub record TellsLookUp (nums ends entries widths keys : List ℕ) (t table : ℕ) (r : Found) : Type 0 where
+pub record TellsLookUp (nums ends entries widths keys : List ℕ) (t table : ℕ) (r : Lookup) : Type 0 where
   pub told : (P : Program) (T : Table) (ws : List Worked) (es : List Lists.Entry)
       → SoughtIn nums ends entries widths keys t table 1 (getD entries 0 0) P T ws es
-      → FoundStands nums (lookUp (longestWins (T .keys)) ws rules.nothing (entriesOf t es)) r
+      → Looked nums (lookUp (longestWins (T .keys)) ws rules.nothing (entriesOf t es)) r

@@ -13,14 +13,20 @@ pub const MOST_KEYS: usize = 4;
 
 // Whether all keys match an entry's patterns: the prefix length of its lpm key, or 0 where it has none, and the index
 // behind the patterns.
-pub enum Match {
+pub(crate) enum Match {
     Yes { prefix: u64, next: usize },
     No,
 }
 
-// The entry that is found: where the position of its action stands, with the arguments behind it, and its prefix length.
-pub enum Found {
+// The best entry so far: where the position of its action stands, with the arguments behind it, and its prefix length.
+pub(crate) enum Best {
     Entry { action: usize, prefix: u64 },
+    Nothing,
+}
+
+// The entry that is found: where the position of its action stands, with the arguments behind it.
+pub enum Lookup {
+    Found(usize),
     Nothing,
 }
 
@@ -33,12 +39,12 @@ pub fn look_up(
     keys: &[u64; MOST_KEYS],
     t: u64,
     table: usize,
-) -> Found
+) -> Lookup
     requires { ⌜ AsksLook (now nums) (now ends) (now entries) (now widths) (now keys) t table 1 (getD (now entries) 0 0) ⌝ }
     ensures { λ r. ⌜ TellsLookUp (now (nums .entry)) (now (ends .entry)) (now (entries .entry)) (now (widths .entry)) (now (keys .entry)) t table r ⌝ }
 {
     let longest = longest_wins(nums, ends, table + 1, nums[table]);
-    look_from(
+    let best = look_from(
         nums,
         ends,
         entries,
@@ -49,6 +55,10 @@ pub fn look_up(
         longest,
         1,
         entries[0],
-        Found::Nothing,
-    )
+        Best::Nothing,
+    );
+    match best {
+        Best::Entry { action, prefix } => Lookup::Found(action),
+        Best::Nothing => Lookup::Nothing,
+    }
 }

@@ -1,7 +1,7 @@
 // The look-up among the entries of a table.
 ghost use Rattle.lookup.specs.LookingUp.{AsksKeys, TellsAny, TellsLongest, TellsBetter, AsksStep, TellsStep, AsksLook, TellsLook};
 use super::matching::match_from;
-use crate::Found;
+use crate::Best;
 use crate::Match;
 
 // The kinds of keys that decide whether the longest prefix wins.
@@ -40,31 +40,31 @@ pub(crate) fn longest_wins(nums: &[u64], ends: &[u64], from: usize, count: u64) 
 }
 
 // The better of what was found and an entry behind it: ties go to the earlier.
-fn better(longest: bool, best: Found, action: usize, prefix: u64) -> Found
+fn better(longest: bool, best: Best, action: usize, prefix: u64) -> Best
     ensures { λ r. ⌜ TellsBetter longest best action prefix r ⌝ }
 {
     match best {
-        Found::Entry {
+        Best::Entry {
             action: earlier,
             prefix: length,
         } => {
             if longest {
                 if length < prefix {
-                    Found::Entry { action, prefix }
+                    Best::Entry { action, prefix }
                 } else {
-                    Found::Entry {
+                    Best::Entry {
                         action: earlier,
                         prefix: length,
                     }
                 }
             } else {
-                Found::Entry {
+                Best::Entry {
                     action: earlier,
                     prefix: length,
                 }
             }
         }
-        Found::Nothing => Found::Entry { action, prefix },
+        Best::Nothing => Best::Entry { action, prefix },
     }
 }
 
@@ -78,8 +78,8 @@ fn step(
     table: usize,
     longest: bool,
     at: usize,
-    best: Found,
-) -> Found
+    best: Best,
+) -> Best
     requires { ⌜ AsksStep (now nums) (now ends) (now widths) (now keys) t table at ⌝ }
     ensures { λ r. ⌜ TellsStep (now (nums .entry)) (now (ends .entry)) (now (widths .entry)) (now (keys .entry)) t table longest at best r ⌝ }
 {
@@ -117,8 +117,8 @@ pub(crate) fn look_from(
     longest: bool,
     i: usize,
     left: u64,
-    best: Found,
-) -> Found
+    best: Best,
+) -> Best
     requires { ⌜ AsksLook (now nums) (now ends) (now entries) (now widths) (now keys) t table i left ⌝ }
     ensures { λ r. ⌜ TellsLook (now (nums .entry)) (now (ends .entry)) (now (entries .entry)) (now (widths .entry)) (now (keys .entry)) t table longest i left best r ⌝ }
 {

@@ -22,8 +22,17 @@ element-copy-out-look-from c = search (whole, needs)
 look-from-requires : tie.Need-look-from-requires
 look-from-requires c κs = search (whole, needs)
 
+enum-known-best : tie.Need-enum-known-best
+enum-known-best c = search (whole, needs)
+
+enum-told : tie.Need-enum-told
+enum-told c = search (whole, needs)
+
 returns : tie.Need-returns
 returns c = search (whole, needs)
+
+returns-2 : tie.Need-returns-2
+returns-2 c = search (whole, needs)
 
 pub look-up-spec : {M : Type 1} → statement M
 look-up-spec =
@@ -35,4 +44,7 @@ look-up-spec =
     longest-wins-requires
     element-copy-out-look-from
     look-from-requires
-    returns)
+    enum-known-best
+    enum-told
+    returns
+    returns-2)
