@@ -9,11 +9,11 @@ use lib.ListN.{length, getD, getElem?, set, length-set}
 use lib.Seq.{getD-set-same, getD-set-other}
 use borrow.Author.Tests.{eqb-true, eqb-false}
 use Rattle.rules.specs.Syntax.{Numeral, Key, Table, Program}
-use Rattle.rules.specs.Reading.{deepest}
 use Rattle.rules.specs.Ceiling.{ceilingExpr, ceilingKeys, largestOf, ceilingTable}
-use Rattle.program.specs.Stands.{StandsExpr, StandsKeys, StandsNumeral, StandsNumerals}
+use Rattle.program.specs.Stands.{StandsNumerals}
 use Rattle.program.specs.Looks.{Has, Finds, tablesOf, FoundTable}
 use Rattle.program.proofs.Views.{expr-begins}
+use Rattle.program.proofs.Firsts.{FirstNumeral, first-numeral, FirstKey, first-key}
 use Rattle.program.proofs.Found.{At, member-at}
 use Rattle.ceiling.specs.Cut.{cut}
 use Rattle.ceiling.specs.Claims.{calleeBelow, Counted, AsksExpr, CountsExpr, AsksCall, CountsCall}
@@ -25,28 +25,6 @@ pub count-falls : (t count : ℕ) → count ≡ t → (count ≡ 0 → ⊥) → 
 count-falls t zero e n = absurd (n refl)
 count-falls t (suc count) e n = omega (arith, e)
 
--- the first of some keys
-record KeyView (nums ends : List ℕ) (at count : ℕ) (ks : List Key) : Type 0 where
-  pub first : Key
-  pub others : List Key
-  pub same : ks ≡ first ∷ others
-  pub stands : StandsExpr nums ends deepest (at + 1) (first .expr)
-  pub othersStand : StandsKeys nums ends (getD ends (at + 1) 0) others
-  pub fewer : count - 1 ≡ length others
-
-key-view : (nums ends : List ℕ) (at count : ℕ) (ks : List Key) → StandsKeys nums ends at ks → count ≡ length ks
-    → (count ≡ 0 → ⊥) → KeyView nums ends at count ks
-unfolding StandsKeys
-key-view nums ends at count [] s e n = absurd (n e)
-key-view nums ends at count (k ∷ ks) s e n = record {
-  first = k;
-  others = ks;
-  same = refl;
-  stands = s .1 .1 .0;
-  othersStand = s .1 .1 .1;
-  fewer = omega (arith, e);
-}
-
 pub record KeyRoom (nums ends : List ℕ) (at : ℕ) : Type 0 where
   pub inside : at + 1 < length nums
   pub numbers : length nums ≤ 4096
@@ -54,12 +32,12 @@ pub record KeyRoom (nums ends : List ℕ) (at : ℕ) : Type 0 where
 
 module _ (nums directory ends kept : List ℕ) (reach at count : ℕ) (a : AsksKeys nums directory ends kept reach at count)
     (n : count ≡ 0 → ⊥) where
-  first-key : KeyView nums ends at count (a .keys)
-  first-key = key-view nums ends at count (a .keys) (a .stand) (a .counts) n
+  asked-key : FirstKey nums ends at count (a .keys)
+  asked-key = first-key nums ends at count (a .keys) (a .stand) (a .counts) n
 
   pub key-room : KeyRoom nums ends at
   key-room = record {
-    inside = expr-begins (first-key .stands) .inside;
+    inside = expr-begins (asked-key .stands) .inside;
     numbers = a .setting .stands .numbers;
     room = a .setting .stands .room;
   }
@@ -67,9 +45,9 @@ module _ (nums directory ends kept : List ℕ) (reach at count : ℕ) (a : AsksK
   pub key-asks : AsksExpr nums directory ends kept reach 32 (at + 1)
   key-asks = record {
     program = a .program;
-    expr = first-key .first .expr;
+    expr = asked-key .first .expr;
     setting = a .setting;
-    stands = first-key .stands;
+    stands = asked-key .stands;
     deep = omega arith;
   }
 
@@ -77,10 +55,10 @@ module _ (nums directory ends kept : List ℕ) (reach at count : ℕ) (a : AsksK
       → AsksKeys nums directory ends kept₁ reach (getD ends (at + 1) 0) (count - 1)
   keys-rest kept₁ one c = record {
     program = a .program;
-    keys = first-key .others;
-    setting = resumed (a .setting) (c .counted (a .program) (first-key .first .expr) (a .setting) (first-key .stands));
-    stand = first-key .othersStand;
-    counts = first-key .fewer;
+    keys = asked-key .others;
+    setting = resumed (a .setting) (c .counted (a .program) (asked-key .first .expr) (a .setting) (asked-key .stands));
+    stand = asked-key .rest;
+    counts = asked-key .fewer;
   }
 
 module _ (nums directory ends kept : List ℕ) (reach at count : ℕ) where
@@ -103,31 +81,15 @@ module _ (nums directory ends kept : List ℕ) (reach at count : ℕ) where
   keys-counted kept₁ kept₂ one others r n c d e = record {
     low = cut-low r (one + others) e;
     counted = λ P ks s w k.
-        let v : KeyView nums ends at count ks = key-view nums ends at count ks w k n in
+        let v : FirstKey nums ends at count ks = first-key nums ends at count ks w k n in
         let p : Counted P (ceilingExpr (calleeBelow P reach) (v .first .expr)) one kept₁
         = c .counted P (v .first .expr) s (v .stands) in
         let q : Counted P (ceilingKeys (calleeBelow P reach) (v .others)) others kept₂
-        = d .counted P (v .others) (resumed s p) (v .othersStand) (v .fewer) in
+        = d .counted P (v .others) (resumed s p) (v .rest) (v .fewer) in
         rw (v .same) (record { is = cut-both one others r _ _ (p .is) (q .is) e; keeps = q .keeps });
   }
 
 pub ruleset countingKeys = (cut-low, count-falls, key-asks, keys-rest, keys-none, keys-counted)
-
--- the first of some actions
-record ActionView (nums : List ℕ) (at count : ℕ) (ns : List Numeral) : Type 0 where
-  pub first : Numeral
-  pub others : List Numeral
-  pub same : ns ≡ first ∷ others
-  pub stands : StandsNumeral nums at first
-  pub othersStand : StandsNumerals nums (at + 1) others
-  pub fewer : count - 1 ≡ length others
-
-action-view : (nums : List ℕ) (at count : ℕ) (ns : List Numeral) → StandsNumerals nums at ns → count ≡ length ns
-    → (count ≡ 0 → ⊥) → ActionView nums at count ns
-unfolding StandsNumerals
-action-view nums at count [] s e n = absurd (n e)
-action-view nums at count (k ∷ ks) s e n =
-    record { first = k; others = ks; same = refl; stands = s .0; othersStand = s .1; fewer = omega (arith, e) }
 
 pub record ActionRoom (nums : List ℕ) (at : ℕ) : Type 0 where
   pub inside : at < length nums
@@ -136,8 +98,8 @@ pub record ActionRoom (nums : List ℕ) (at : ℕ) : Type 0 where
 module _ (nums directory ends kept : List ℕ) (reach at count : ℕ)
     (a : AsksLargest nums directory ends kept reach at count)
     (n : count ≡ 0 → ⊥) where
-  first-action : ActionView nums at count (a .actions)
-  first-action = action-view nums at count (a .actions) (a .stand) (a .counts) n
+  first-action : FirstNumeral nums at count (a .actions)
+  first-action = first-numeral nums at count (a .actions) (a .stand) (a .counts) n
 
   pub action-room : ActionRoom nums at
   action-room = record { inside = first-action .stands .holds .inside; numbers = a .setting .stands .numbers }
@@ -151,7 +113,7 @@ module _ (nums directory ends kept : List ℕ) (reach at count : ℕ)
     program = a .program;
     actions = first-action .others;
     setting = resumed (a .setting) (c .counted (a .program) (a .setting));
-    stand = first-action .othersStand;
+    stand = first-action .rest;
     counts = first-action .fewer;
   }
 
@@ -175,11 +137,11 @@ module _ (nums directory ends kept : List ℕ) (reach at count : ℕ) where
     larger-others l = record {
       low = d .low;
       counted = λ P ns s w k.
-          let v : ActionView nums at count ns = action-view nums at count ns w k n in
+          let v : FirstNumeral nums at count ns = first-numeral nums at count ns w k n in
           let p : Counted P (calleeBelow P reach (v .first .number)) one kept₁ = rw (v .stands .holds .is) at
           (c .counted P s) in
           let q : Counted P (largestOf (calleeBelow P reach) (v .others)) others kept₂
-          = d .counted P (v .others) (resumed s p) (v .othersStand) (v .fewer) in
+          = d .counted P (v .others) (resumed s p) (v .rest) (v .fewer) in
           rw (v .same) (record { is = cut-larger one others _ _ (p .is) (q .is) l; keeps = q .keeps });
     }
 
@@ -188,11 +150,11 @@ module _ (nums directory ends kept : List ℕ) (reach at count : ℕ) where
     larger-one l = record {
       low = c .low;
       counted = λ P ns s w k.
-          let v : ActionView nums at count ns = action-view nums at count ns w k n in
+          let v : FirstNumeral nums at count ns = first-numeral nums at count ns w k n in
           let p : Counted P (calleeBelow P reach (v .first .number)) one kept₁ = rw (v .stands .holds .is) at
           (c .counted P s) in
           let q : Counted P (largestOf (calleeBelow P reach) (v .others)) others kept₂
-          = d .counted P (v .others) (resumed s p) (v .othersStand) (v .fewer) in
+          = d .counted P (v .others) (resumed s p) (v .rest) (v .fewer) in
           rw (v .same) (record { is = cut-not-larger one others _ _ (p .is) (q .is) l; keeps = q .keeps });
     }
 

@@ -19,12 +19,13 @@ use Rattle.form.specs.declared.Formal.the-variants.{Well, Ill}
 use Rattle.form.specs.Claims.{toldForm}
 use Rattle.form.specs.Parts.{NumeralsAt, ParametersAt, AsksExist, JudgesExist, NamesAll, names-next, AsksGiven, GivesAll, AsksListed, JudgesListed}
 use Rattle.form.proofs.OfCallables.{is-action}
-use Rattle.form.proofs.OfNumerals.{FirstNumeral, first-numeral, FirstParameter, first-parameter}
+use Rattle.program.proofs.Firsts.{FirstNumeral, first-numeral, FirstParameter, first-parameter}
+use Rattle.form.proofs.OfNumerals.{numerals-behind, parameters-behind}
 
 -- that numbers name callables
 module _ (nums : List ℕ) (at count : ℕ) (h : AsksExist nums at count) (more : count ≡ 0 → ⊥) where
   named-first : FirstNumeral nums at count (h .numerals)
-  named-first = first-numeral nums at count (h .numerals) (h .stand) more
+  named-first = first-numeral nums at count (h .numerals) (h .stand .stand) (h .stand .counted) more
 
   pub exist-inside : at < length nums
   exist-inside = named-first .stands .holds .inside
@@ -33,7 +34,7 @@ module _ (nums : List ℕ) (at count : ℕ) (h : AsksExist nums at count) (more 
   exist-small = omega (arith, named-first .stands .holds .inside, h .numbers)
 
   pub exist-left : AsksExist nums (at + 1) (count - 1)
-  exist-left = record { numerals = named-first .others; stand = named-first .rest; numbers = h .numbers }
+  exist-left = record { numerals = named-first .others; stand = numerals-behind named-first; numbers = h .numbers }
 
 -- whatever the callables are
 one-more : (x : Res (List Callable)) (c : Callable)
@@ -57,7 +58,7 @@ module _ (nums directory : List ℕ) (at count : ℕ) where
   unfolding toldForm judgeActions named _>>=_
   exist-missing more l = record {
     judged = λ ends P end ns s h.
-        let n : FirstNumeral nums at count ns = first-numeral nums at count ns h more in
+        let n : FirstNumeral nums at count ns = first-numeral nums at count ns (h .stand) (h .counted) more in
         rw (
           n .same,
           no-member (P .callables) (n .first .number) (omega (arith, l, n .stands .holds .is, s .callables .count)),
@@ -70,11 +71,11 @@ module _ (nums directory : List ℕ) (at count : ℕ) where
   unfolding judgeActions named _>>=_
   exist-next b r more l j q = record {
     judged = λ ends P end ns s h.
-        let n : FirstNumeral nums at count ns = first-numeral nums at count ns h more in
+        let n : FirstNumeral nums at count ns = first-numeral nums at count ns (h .stand) (h .counted) more in
         rw (
           n .same,
           member-at (P .callables) (n .first .number) (omega (arith, l, n .stands .holds .is, s .callables .count)) .is,
-        ) (rw q at (j .judged ends P end (n .others) s (n .rest)) ∙ one-more (judgeActions P (n .others)) _);
+        ) (rw q at (j .judged ends P end (n .others) s (numerals-behind n)) ∙ one-more (judgeActions P (n .others)) _);
   }
 
 pub ruleset existing = (exist-inside, exist-small, exist-left, exist-none, exist-missing, exist-next)
@@ -82,7 +83,7 @@ pub ruleset existing = (exist-inside, exist-small, exist-left, exist-none, exist
 -- that a table gives all parameters
 module _ (nums : List ℕ) (at count : ℕ) (h : AsksGiven nums at count) (more : count ≡ 0 → ⊥) where
   given-first : FirstParameter nums at count (h .parameters)
-  given-first = first-parameter nums at count (h .parameters) (h .stand) more
+  given-first = first-parameter nums at count (h .parameters) (h .stand .stand) (h .stand .counted) more
 
   pub given-inside : at < length nums
   given-inside = given-first .direction .inside
@@ -91,7 +92,7 @@ module _ (nums : List ℕ) (at count : ℕ) (h : AsksGiven nums at count) (more 
   given-small = omega (arith, given-first .direction .inside, h .numbers)
 
   pub given-left : AsksGiven nums (at + 2) (count - 1)
-  given-left = record { parameters = given-first .others; stand = given-first .rest; numbers = h .numbers }
+  given-left = record { parameters = given-first .others; stand = parameters-behind given-first; numbers = h .numbers }
 
 gives : (d : Direction) (n : ℕ) → n ≡ directionNumber d → n ≡ 0 → tableGives d ≡ true
 unfolding directionNumber tableGives
@@ -121,16 +122,16 @@ module _ (nums : List ℕ) (at count : ℕ) where
   unfolding tableGivesAll
   given-next r more z j = record {
     gives = λ ps h.
-        let p : FirstParameter nums at count ps = first-parameter nums at count ps h more in
+        let p : FirstParameter nums at count ps = first-parameter nums at count ps (h .stand) (h .counted) more in
         rw (p .same, gives (p .first .direction) (getD nums at 0) (p .direction .is) z)
-        (j .gives (p .others) (p .rest));
+        (j .gives (p .others) (parameters-behind p));
   }
 
   pub given-not : (count ≡ 0 → ⊥) → (getD nums at 0 ≡ 0 → ⊥) → GivesAll nums at count false
   unfolding tableGivesAll
   given-not more x = record {
     gives = λ ps h.
-        let p : FirstParameter nums at count ps = first-parameter nums at count ps h more in
+        let p : FirstParameter nums at count ps = first-parameter nums at count ps (h .stand) (h .counted) more in
         rw (p .same, gives-not (p .first .direction) (getD nums at 0) (p .direction .is) x);
   }
 
@@ -164,7 +165,7 @@ module _ (nums directory ends : List ℕ) (at count : ℕ) (more : count ≡ 0 �
   listed-first : (P : Program) (ns : List Numeral) (cs : List Callable) → NumeralsAt nums at count ns → NamesAll P ns cs
       → Listed P ns cs
   listed-first P ns cs h k =
-      let n : FirstNumeral nums at count ns = first-numeral nums at count ns h more in
+      let n : FirstNumeral nums at count ns = first-numeral nums at count ns (h .stand) (h .counted) more in
       let c : FirstNamed P (n .first) (n .others) cs = first-named (rw (n .same) at k) in
       record { numeral = n; callable = c; is = rw (n .stands .holds .is) (c .is) }
 
@@ -207,7 +208,7 @@ module _ (nums directory ends : List ℕ) (at count : ℕ) (more : count ≡ 0 �
       numerals = listed .numeral .others;
       callables = listed .callable .others;
       stands = h .stands;
-      stand = listed .numeral .rest;
+      stand = numerals-behind (listed .numeral);
       names = listed .callable .rest;
     }
 
@@ -243,7 +244,7 @@ module _ (nums directory ends : List ℕ) (at count : ℕ) (more : count ≡ 0 �
         judged = λ P end ns cs s h k.
             let l : Listed P ns cs = listed-first P ns cs h k in
             rw q at
-            (j .judged P end (l .numeral .others) (l .callable .others) s (l .numeral .rest) (l .callable .rest))
+            (j .judged P end (l .numeral .others) (l .callable .others) s (numerals-behind (l .numeral)) (l .callable .rest))
             ∙ sym (open-listed ns cs _ _ _ _ (l .numeral .same) (l .callable .same)
             ∙ rw (listable-is P end ns cs s l true e));
       }

@@ -9,8 +9,9 @@ use lib.Seq.{sets}
 use Rattle.rules.specs.Syntax.{Ty, Key, Program}
 use Rattle.rules.specs.Form.{Res, ok, fault, _>>=_, judgeExpr, widthAt, applyScope, judgeKeys, keysAreBits}
 use Rattle.rules.specs.Lists.{widthOf, keyWidth}
-use Rattle.program.specs.Codes.{tyOf, keyKindNumber}
-use Rattle.program.specs.Stands.{Holds, StandsExpr, StandsKeys, StandsProgram}
+use Rattle.program.specs.Codes.{tyOf}
+use Rattle.program.specs.Stands.{StandsProgram}
+use Rattle.program.proofs.Firsts.{FirstKey, first-key}
 use Rattle.program.proofs.Views.{expr-begins}
 use Rattle.bodies.specs.declared.Typed.{Typed}
 use Rattle.bodies.specs.declared.Typed.the-variants as typed
@@ -87,36 +88,17 @@ module _ (at t : ℕ) (rest : Keyed) where
 
 pub ruleset firsts = (bool-then-bits, bits-then-bits, bool-then-bool, bits-then-bool, then-unkeyed)
 
--- keys of which some are left have a first
-pub record FirstKey (nums ends : List ℕ) (at count : ℕ) (ks : List Key) : Type 0 where
-  pub first : Key
-  pub others : List Key
-  pub same : ks ≡ first ∷ others
-  pub index : first .at ≡ at
-  pub kind : Holds nums at (keyKindNumber (first .kind))
-  pub stands : StandsExpr nums ends 32 (at + 1) (first .expr)
-  pub rest : KeysAt nums ends (getD ends (at + 1) 0) (count - 1) others
-
-pub first-key : (nums ends : List ℕ) (at count : ℕ) (ks : List Key) → KeysAt nums ends at count ks → (count ≡ 0 → ⊥)
-    → FirstKey nums ends at count ks
-unfolding StandsKeys
-first-key nums ends at count [] h more = absurd (more (h .counted))
-first-key nums ends at count (k ∷ ks) h more = record {
-  first = k;
-  others = ks;
-  same = refl;
-  index = h .stand .0;
-  kind = h .stand .1 .0;
-  stands = h .stand .1 .1 .0;
-  rest = record { stand = h .stand .1 .1 .1; counted = omega (arith, h .counted) };
-}
+-- the keys behind the first
+pub keys-behind : {nums ends : List ℕ} {at count : ℕ} {ks : List Key} → (o : FirstKey nums ends at count ks)
+    → KeysAt nums ends (getD ends (at + 1) 0) (count - 1) (o .others)
+keys-behind o = record { stand = o .rest; counted = o .fewer }
 
 -- what the step over a key asks
 module _ (nums directory ends : List ℕ) (at count slot : ℕ) (h : AsksKeys nums directory ends at count slot)
     (more : count ≡ 0 → ⊥)
   where
     asked : FirstKey nums ends at count (h .keys)
-    asked = first-key nums ends at count (h .keys) (h .keysStand) more
+    asked = first-key nums ends at count (h .keys) (h .keysStand .stand) (h .keysStand .counted) more
 
     pub key-next : at + 1 < 2 ^ 64
     key-next = omega (arith, expr-begins (asked .stands), h .stands .numbers)
@@ -139,7 +121,7 @@ module _ (nums directory ends : List ℕ) (at count slot : ℕ) (h : AsksKeys nu
       end = h .end;
       keys = asked .others;
       stands = h .stands;
-      keysStand = asked .rest;
+      keysStand = keys-behind asked;
       slots = omega (arith, h .slots, more);
     }
 
@@ -170,7 +152,7 @@ module _ (nums directory ends : List ℕ) (at count slot : ℕ) (widths : List �
     unfolding toldKeys toldTy judgeKeys _>>=_
     keys-fault number index k = record {
       judged = λ P end ks s h.
-          let o : FirstKey nums ends at count ks = first-key nums ends at count ks h more in
+          let o : FirstKey nums ends at count ks = first-key nums ends at count ks (h .stand) (h .counted) more in
           let e : judgeExpr (applyScope P) (o .first .expr) ≡ fault number index
           = sym (j .judged P end (o .first .expr) s (o .stands)) ∙ rw k in
           rw (o .same, e);
@@ -197,15 +179,15 @@ module _ (nums directory ends : List ℕ) (at count slot : ℕ) (widths : List �
       unfolding judgeKeys keyWidths keyWidth _>>=_
       keys-judged b r widths′ l w = record {
         judged = λ P end ks s h.
-            let o : FirstKey nums ends at count ks = first-key nums ends at count ks h more in
+            let o : FirstKey nums ends at count ks = first-key nums ends at count ks (h .stand) (h .counted) more in
             w .judged
             ∙ rw (o .same, first-type P end ks s o)
             (both-judged (judgeKeys (applyScope P) (o .others)) (o .first) (o .others) (toldKeys b) (o .index)
-            (l .judged P end (o .others) s (o .rest)));
+            (l .judged P end (o .others) s (keys-behind o)));
         laid = λ q P end ks s h.
-            let o : FirstKey nums ends at count ks = first-key nums ends at count ks h more in
+            let o : FirstKey nums ends at count ks = first-key nums ends at count ks (h .stand) (h .counted) more in
             rw (o .same, first-type P end ks s o, width-of t)
-            (rw (add-one slot) at (l .laid (rest-bits (at + 1) t b r w q) P end (o .others) s (o .rest)));
+            (rw (add-one slot) at (l .laid (rest-bits (at + 1) t b r w q) P end (o .others) s (keys-behind o)));
       }
 
 pub ruleset keyed = (key-next, key-ends, key-here, keys-left, keys-none, keys-fault, keys-judged)

@@ -14,7 +14,8 @@ use Rattle.form.specs.declared.Formal.{Formal}
 use Rattle.form.specs.declared.Formal.the-variants.{Well, Ill}
 use Rattle.form.specs.Claims.{toldForm}
 use Rattle.form.specs.Parts.{KeysAt, AsksKinds, JudgesKinds}
-use Rattle.form.proofs.OfKeys.{FirstKey, first-key}
+use Rattle.program.proofs.Firsts.{FirstKey, first-key}
+use Rattle.form.proofs.OfKeys.{keys-behind}
 
 is-lpm : (k : KeyKind) (n : ℕ) → n ≡ keyKindNumber k → eqb n 1 ≡ isLpm k
 unfolding keyKindNumber isLpm
@@ -24,7 +25,7 @@ is-lpm ternary n e = rw e
 
 module _ (nums ends : List ℕ) (at count : ℕ) (h : AsksKinds nums ends at count) (more : count ≡ 0 → ⊥) where
   asked : FirstKey nums ends at count (h .keys)
-  asked = first-key nums ends at count (h .keys) (h .keysStand) more
+  asked = first-key nums ends at count (h .keys) (h .keysStand .stand) (h .keysStand .counted) more
 
   pub kind-inside : at < length nums
   kind-inside = asked .kind .inside
@@ -37,7 +38,7 @@ module _ (nums ends : List ℕ) (at count : ℕ) (h : AsksKinds nums ends at cou
 
   pub kinds-left : AsksKinds nums ends (getD ends (at + 1) 0) (count - 1)
   kinds-left =
-      record { keys = asked .others; keysStand = asked .rest; numbers = h .numbers; room = h .room }
+      record { keys = asked .others; keysStand = keys-behind asked; numbers = h .numbers; room = h .room }
 
 module _ (nums ends : List ℕ) (at count : ℕ) (seen : Bool) where
   pub kinds-none : count ≡ 0 → JudgesKinds nums ends at count seen Well
@@ -57,7 +58,7 @@ module _ (nums ends : List ℕ) (at count : ℕ) (seen : Bool) where
     unfolding toldForm oneLpm need _>>=_
     kinds-second e = record {
       judged = λ ks h.
-          let o : FirstKey nums ends at count ks = first-key nums ends at count ks h more in
+          let o : FirstKey nums ends at count ks = first-key nums ends at count ks (h .stand) (h .counted) more in
           rw (o .same, second-is ks o true e, o .index);
     }
 
@@ -67,10 +68,10 @@ module _ (nums ends : List ℕ) (at count : ℕ) (seen : Bool) where
     unfolding oneLpm need _>>=_
     kinds-next later b r e l j q = record {
       judged = λ ks h.
-          let o : FirstKey nums ends at count ks = first-key nums ends at count ks h more in
+          let o : FirstKey nums ends at count ks = first-key nums ends at count ks (h .stand) (h .counted) more in
           let m : later ≡ (seen || isLpm (o .first .kind))
           = l ∙ rw (is-lpm (o .first .kind) (getD nums at 0) (o .kind .is)) in
-          rw (o .same, second-is ks o false e) (rw (q, m) at (j .judged (o .others) (o .rest)));
+          rw (o .same, second-is ks o false e) (rw (q, m) at (j .judged (o .others) (keys-behind o)));
     }
 
 pub ruleset kinds = (kind-inside, kind-next, kind-ends, kinds-left, kinds-none, kinds-second, kinds-next)

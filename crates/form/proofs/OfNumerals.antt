@@ -1,4 +1,4 @@
--- Numbers and parameters one after the other: those of which some are left have a first. The literals of a default.
+-- Numbers and parameters one after the other. The literals of a default.
 use mathlib.Core.Bool.{Bool, true, false}
 use mathlib.Core.Path.{_≡_, refl, sym, _∙_}
 use mathlib.Core.List.{List, [], _∷_}
@@ -9,52 +9,21 @@ use lib.Dec.{ltb}
 use Rattle.rules.specs.Words.{widest, fitsWidth}
 use Rattle.rules.specs.Syntax.{Parameter, Numeral}
 use Rattle.rules.specs.Form.{_>>=_, need, fits, literalsFit}
-use Rattle.program.specs.Codes.{tyOf, directionNumber}
-use Rattle.program.specs.Stands.{Holds, HoldsTy, StandsNumeral, StandsParameters, StandsNumerals}
+use Rattle.program.specs.Codes.{tyOf}
+use Rattle.program.proofs.Firsts.{FirstNumeral, first-numeral, FirstParameter, first-parameter}
 use Rattle.form.specs.declared.Formal.{Formal}
 use Rattle.form.specs.declared.Formal.the-variants.{Well, Ill}
 use Rattle.form.specs.Claims.{toldForm}
 use Rattle.form.specs.Parts.{NumeralsAt, ParametersAt, AsksLiterals, JudgesLiterals}
 
-pub record FirstNumeral (nums : List ℕ) (at count : ℕ) (ns : List Numeral) : Type 0 where
-  pub first : Numeral
-  pub others : List Numeral
-  pub same : ns ≡ first ∷ others
-  pub stands : StandsNumeral nums at first
-  pub rest : NumeralsAt nums (at + 1) (count - 1) others
+-- the numerals and the parameters behind the first
+pub numerals-behind : {nums : List ℕ} {at count : ℕ} {ns : List Numeral} → (o : FirstNumeral nums at count ns)
+    → NumeralsAt nums (at + 1) (count - 1) (o .others)
+numerals-behind o = record { stand = o .rest; counted = o .fewer }
 
-pub first-numeral : (nums : List ℕ) (at count : ℕ) (ns : List Numeral) → NumeralsAt nums at count ns → (count ≡ 0 → ⊥)
-    → FirstNumeral nums at count ns
-unfolding StandsNumerals
-first-numeral nums at count [] h more = absurd (more (h .counted))
-first-numeral nums at count (n ∷ ns) h more = record {
-  first = n;
-  others = ns;
-  same = refl;
-  stands = h .stand .0;
-  rest = record { stand = h .stand .1; counted = omega (arith, h .counted) };
-}
-
-pub record FirstParameter (nums : List ℕ) (at count : ℕ) (ps : List Parameter) : Type 0 where
-  pub first : Parameter
-  pub others : List Parameter
-  pub same : ps ≡ first ∷ others
-  pub direction : Holds nums at (directionNumber (first .direction))
-  pub ty : HoldsTy nums (at + 1) (first .ty)
-  pub rest : ParametersAt nums (at + 2) (count - 1) others
-
-pub first-parameter : (nums : List ℕ) (at count : ℕ) (ps : List Parameter) → ParametersAt nums at count ps
-    → (count ≡ 0 → ⊥) → FirstParameter nums at count ps
-unfolding StandsParameters
-first-parameter nums at count [] h more = absurd (more (h .counted))
-first-parameter nums at count (p ∷ ps) h more = record {
-  first = p;
-  others = ps;
-  same = refl;
-  direction = h .stand .0;
-  ty = h .stand .1 .0;
-  rest = record { stand = h .stand .1 .1; counted = omega (arith, h .counted) };
-}
+pub parameters-behind : {nums : List ℕ} {at count : ℕ} {ps : List Parameter} → (o : FirstParameter nums at count ps)
+    → ParametersAt nums (at + 2) (count - 1) (o .others)
+parameters-behind o = record { stand = o .rest; counted = o .fewer }
 
 -- a number fits a type
 pub fits-bool : (ty n : ℕ) → ty ≡ 0 → ltb n 2 ≡ fits (tyOf ty) n
@@ -72,10 +41,10 @@ pub ruleset fitting = (fits-bool, fits-bits)
 module _ (nums : List ℕ) (parameter at count : ℕ) (h : AsksLiterals nums parameter at count)
     (more : count ≡ 0 → ⊥) where
   wanted : FirstParameter nums parameter count (h .parameters)
-  wanted = first-parameter nums parameter count (h .parameters) (h .parametersStand) more
+  wanted = first-parameter nums parameter count (h .parameters) (h .parametersStand .stand) (h .parametersStand .counted) more
 
   given : FirstNumeral nums at count (h .numerals)
-  given = first-numeral nums at count (h .numerals) (h .stand) more
+  given = first-numeral nums at count (h .numerals) (h .stand .stand) (h .stand .counted) more
 
   pub type-next : parameter + 1 < 2 ^ 64
   type-next = omega (arith, wanted .ty .inside, h .numbers)
@@ -99,8 +68,8 @@ module _ (nums : List ℕ) (parameter at count : ℕ) (h : AsksLiterals nums par
   literals-left = record {
     parameters = wanted .others;
     numerals = given .others;
-    parametersStand = wanted .rest;
-    stand = given .rest;
+    parametersStand = parameters-behind wanted;
+    stand = numerals-behind given;
     numbers = h .numbers;
   }
 
@@ -124,8 +93,8 @@ module _ (nums : List ℕ) (parameter at count : ℕ) where
       unfolding toldForm literalsFit need _>>=_
       literals-unfit e = record {
         judged = λ ps ns h k.
-            let p : FirstParameter nums parameter count ps = first-parameter nums parameter count ps h more in
-            let n : FirstNumeral nums at count ns = first-numeral nums at count ns k more in
+            let p : FirstParameter nums parameter count ps = first-parameter nums parameter count ps (h .stand) (h .counted) more in
+            let n : FirstNumeral nums at count ns = first-numeral nums at count ns (k .stand) (k .counted) more in
             rw (p .same, n .same, fit-is ps ns p n false e, n .stands .index);
       }
 
@@ -134,10 +103,10 @@ module _ (nums : List ℕ) (parameter at count : ℕ) where
       unfolding literalsFit need _>>=_
       literals-next b r e j q = record {
         judged = λ ps ns h k.
-            let p : FirstParameter nums parameter count ps = first-parameter nums parameter count ps h more in
-            let n : FirstNumeral nums at count ns = first-numeral nums at count ns k more in
+            let p : FirstParameter nums parameter count ps = first-parameter nums parameter count ps (h .stand) (h .counted) more in
+            let n : FirstNumeral nums at count ns = first-numeral nums at count ns (k .stand) (k .counted) more in
             rw (p .same, n .same, fit-is ps ns p n true e)
-            (rw q at (j .judged (p .others) (n .others) (p .rest) (n .rest)));
+            (rw q at (j .judged (p .others) (n .others) (parameters-behind p) (numerals-behind n)));
       }
 
 pub ruleset literals = (

@@ -17,8 +17,9 @@ use Rattle.shape.specs.declared.Scan.{Scan}
 use Rattle.shape.specs.declared.Scan.the-variants.{Past, Fault}
 use Rattle.shape.specs.Scans.{forget, scanOf}
 use Rattle.program.specs.Codes.{tyOf}
-use Rattle.program.specs.Stands.{HoldsTy, StandsParameters, StandsNumeral, StandsProgram}
+use Rattle.program.specs.Stands.{StandsNumeral, StandsProgram}
 use Rattle.program.specs.Looks.{Has, Finds, callablesOf, FoundHead}
+use Rattle.program.proofs.Firsts.{FirstParameter, first-parameter}
 use Rattle.program.proofs.Found.{At, member-at}
 use Rattle.program.proofs.Members.{numeral-at, no-member}
 use Rattle.lists.specs.Parts.{Typed, AsksArguments, JudgesArguments, argumentsOf, AsksCalled, JudgesCalled}
@@ -26,30 +27,15 @@ use Rattle.lists.specs.Parts.{readAction, ListsActions, AsksAction, Judg
 use Rattle.lists.proofs.Places.{placed-passing}
 use Rattle.lists.proofs.Steps.{then-fault, then-past, alike-made, alike-scan}
 
--- parameters of which some are left have a first
-record First (nums : List ℕ) (parameter count : ℕ) (ps : List Parameter) : Type 0 where
-  pub first : Parameter
-  pub others : List Parameter
-  pub same : ps ≡ first ∷ others
-  pub ty : HoldsTy nums (parameter + 1) (first .ty)
-  pub rest : Typed nums (parameter + 2) (count - 1) others
-
-first-parameter : (nums : List ℕ) (parameter count : ℕ) (ps : List Parameter) → Typed nums parameter count ps
-    → (count ≡ 0 → ⊥) → First nums parameter count ps
-unfolding StandsParameters
-first-parameter nums parameter count [] h more = absurd (more (h .counted))
-first-parameter nums parameter count (p ∷ ps) h more = record {
-  first = p;
-  others = ps;
-  same = refl;
-  ty = h .stands .1 .0;
-  rest = record { stands = h .stands .1 .1; counted = omega (arith, h .counted) };
-}
+-- the parameters behind the first
+typed-behind : {nums : List ℕ} {parameter count : ℕ} {ps : List Parameter} → (o : FirstParameter nums parameter count ps)
+    → Typed nums (parameter + 2) (count - 1) (o .others)
+typed-behind o = record { stands = o .rest; counted = o .fewer }
 
 -- what the step over a parameter asks
 module _ (nums : List ℕ) (parameter count : ℕ) (h : AsksArguments nums parameter count) (more : count ≡ 0 → ⊥) where
-  asked-parameter : First nums parameter count (h .parameters)
-  asked-parameter = first-parameter nums parameter count (h .parameters) (h .typed) more
+  asked-parameter : FirstParameter nums parameter count (h .parameters)
+  asked-parameter = first-parameter nums parameter count (h .parameters) (h .typed .stands) (h .typed .counted) more
 
   pub type-inside : parameter + 1 < length nums
   type-inside = asked-parameter .ty .inside
@@ -64,7 +50,7 @@ module _ (nums : List ℕ) (parameter count : ℕ) (h : AsksArguments nums param
   parameter-next = omega (arith, type-inside, h .numbers)
 
   pub parameters-left : AsksArguments nums (parameter + 2) (count - 1)
-  parameters-left = record { parameters = asked-parameter .others; typed = asked-parameter .rest; numbers = h .numbers }
+  parameters-left = record { parameters = asked-parameter .others; typed = typed-behind asked-parameter; numbers = h .numbers }
 
 -- the arguments for parameters, one after the other
 module _ (nums : List ℕ) (parameter count at : ℕ) where
@@ -85,9 +71,9 @@ module _ (nums : List ℕ) (parameter count at : ℕ) where
       unfolding readArguments asked
       arguments-past n b r p g e = record {
         judged = λ P ps h.
-            let o : First nums parameter count ps = first-parameter nums parameter count ps h more in
+            let o : FirstParameter nums parameter count ps = first-parameter nums parameter count ps (h .stands) (h .counted) more in
             let s : r ≡ scanOf (readArguments true P (o .others)) nums n
-            = sym e ∙ g .judged P (o .others) (o .rest) in
+            = sym e ∙ g .judged P (o .others) (typed-behind o) in
             rw (o .same)
             (then-past _ _ nums at n a r (placed-passing 10 (fits (o .first .ty))) (rw (o .ty .is) at q) p
             λ x. alike-scan nums n r (alike-made (readArguments true P (o .others)) _) s);
@@ -97,7 +83,7 @@ module _ (nums : List ℕ) (parameter count at : ℕ) where
       unfolding readArguments asked
       arguments-fault f i p = record {
         judged = λ P ps h.
-            let o : First nums parameter count ps = first-parameter nums parameter count ps h more in
+            let o : FirstParameter nums parameter count ps = first-parameter nums parameter count ps (h .stands) (h .counted) more in
             rw (o .same) (then-fault _ _ nums at f i a (rw (o .ty .is) at q) p);
       }
 

@@ -11,52 +11,29 @@ use Rattle.rules.specs.Syntax.{KeyKind, exact, lpm, ternary, Key}
 use Rattle.rules.specs.Form.{isLpm}
 use Rattle.rules.specs.Running.{isTernary, anyKey, longestWins}
 use Rattle.program.specs.Codes.{keyKindNumber}
-use Rattle.program.specs.Stands.{Holds, StandsKeys}
+use Rattle.program.specs.Stands.{StandsKeys}
+use Rattle.program.proofs.Firsts.{FirstKey, first-key}
 use Rattle.program.proofs.Views.{expr-begins}
 use Rattle.lookup.specs.LookingUp.{AsksKeys, ofKind, TellsAny, TellsLongest}
 
--- keys of which some are left have a first
-record First (nums ends : List ℕ) (from count : ℕ) (ks : List Key) : Type 0 where
-  pub key : Key
-  pub others : List Key
-  pub same : ks ≡ key ∷ others
-  pub kind : Holds nums from (keyKindNumber (key .kind))
-  pub begins : from + 1 < length nums
-  pub rest : StandsKeys nums ends (getD ends (from + 1) 0) others
-  pub counts : count - 1 ≡ length others
-
-first-of : (nums ends : List ℕ) (from count : ℕ) (ks : List Key) → StandsKeys nums ends from ks → count ≡ length ks
-    → (count ≡ 0 → ⊥) → First nums ends from count ks
-unfolding StandsKeys
-first-of nums ends from count [] s c more = absurd (more c)
-first-of nums ends from count (k ∷ ks) s c more = record {
-  key = k;
-  others = ks;
-  same = refl;
-  kind = s .1 .0;
-  begins = expr-begins (s .1 .1 .0) .inside;
-  rest = s .1 .1 .1;
-  counts = omega (arith, c);
-}
-
 module _ (nums ends : List ℕ) (from count : ℕ) (h : AsksKeys nums ends from count) (more : count ≡ 0 → ⊥) where
-  asked-first : First nums ends from count (h .keyList)
-  asked-first = first-of nums ends from count (h .keyList) (h .stand) (h .counts) more
+  asked-first : FirstKey nums ends from count (h .keyList)
+  asked-first = first-key nums ends from count (h .keyList) (h .stand) (h .counts) more
 
   pub kind-inside : from < length nums
   kind-inside = asked-first .kind .inside
 
   pub ends-inside : from + 1 < length ends
-  ends-inside = omega (arith, asked-first .begins, h .room)
+  ends-inside = omega (arith, expr-begins (asked-first .stands) .inside, h .room)
 
   pub from-next : from + 1 < 2 ^ 64
-  from-next = omega (arith, asked-first .begins, h .numbers)
+  from-next = omega (arith, expr-begins (asked-first .stands) .inside, h .numbers)
 
   pub others-asked : AsksKeys nums ends (getD ends (from + 1) 0) (count - 1)
   others-asked = record {
     keyList = asked-first .others;
     stand = asked-first .rest;
-    counts = asked-first .counts;
+    counts = asked-first .fewer;
     numbers = h .numbers;
     room = h .room;
   }
@@ -73,21 +50,21 @@ module _ (nums ends : List ℕ) (number from count : ℕ) where
   pub first-is : (count ≡ 0 → ⊥) → getD nums from 0 ≡ number → TellsAny nums ends number from count true
   unfolding anyKey ofKind
   first-is more e = record {
-    told = λ ks s c. go (first-of nums ends from count ks s c more);
+    told = λ ks s c. go (first-key nums ends from count ks s c more);
   }
     where
-      go : {ks : List Key} → First nums ends from count ks → true ≡ anyKey (ofKind number) ks
+      go : {ks : List Key} → FirstKey nums ends from count ks → true ≡ anyKey (ofKind number) ks
       go o = rw (o .same, eq-eqb _ number (sym (o .kind .is) ∙ e)) refl
 
   pub others-are : (r : Bool) → (count ≡ 0 → ⊥) → (getD nums from 0 ≡ number → ⊥)
       → TellsAny nums ends number (getD ends (from + 1) 0) (count - 1) r → TellsAny nums ends number from count r
   unfolding anyKey ofKind
   others-are r more n t = record {
-    told = λ ks s c. go (first-of nums ends from count ks s c more);
+    told = λ ks s c. go (first-key nums ends from count ks s c more);
   }
     where
-      go : {ks : List Key} → First nums ends from count ks → r ≡ anyKey (ofKind number) ks
-      go o = rw (o .same, ne-eqb _ number λ e. n (o .kind .is ∙ e)) (t .told (o .others) (o .rest) (o .counts))
+      go : {ks : List Key} → FirstKey nums ends from count ks → r ≡ anyKey (ofKind number) ks
+      go o = rw (o .same, ne-eqb _ number λ e. n (o .kind .is ∙ e)) (t .told (o .others) (o .rest) (o .fewer))
 
 pub ruleset any-keys = (kind-inside, ends-inside, from-next, others-asked, none-is, first-is, others-are)
 

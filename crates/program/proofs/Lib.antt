@@ -1,6 +1,7 @@
 pub mod Views
 pub mod Found
 pub mod Members
+pub mod Firsts
 mod Readings
 mod ExprsStand
 mod StmtsStand
