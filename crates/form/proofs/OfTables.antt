@@ -13,6 +13,7 @@ use Rattle.rules.specs.Form.{Res, ok, fault, _>>=_, named, need, literalsFit, a
 use Rattle.program.specs.Stands.{StandsProgram, SomeProgram}
 use Rattle.program.specs.Looks.{Has, Finds, tablesOf, FoundTable}
 use Rattle.program.proofs.Found.{At, member-at}
+use Rattle.program.proofs.Members.{drop-member}
 use Rattle.form.specs.declared.Formal.{Formal}
 use Rattle.form.specs.declared.Formal.the-variants.{Well, Ill}
 use Rattle.form.specs.declared.keys.Keyed.{Keyed}
@@ -21,7 +22,7 @@ use Rattle.form.specs.Claims.{toldForm, keyWidths, layTables}
 use Rattle.form.specs.Parts.{toldKeys, AsksKeys, JudgesKeys, TableAt, namesOf, AsksNames, JudgesNames, NamedTable, JudgesNamed, defaultIs, kindsAre, behindKeys, behindNames, AsksLays, LaysNamed, tableIs, tablesAre, LaysTable, LaysTables}
 use Rattle.form.proofs.OfNames.{TableParts, table-parts, all-named}
 use Rattle.form.proofs.Steps.{well-is, ill-is}
-use Rattle.form.proofs.Walking.{Walk, drop-member, walk-asks, walk-done, here, walk-next, walk-stop}
+use Rattle.form.proofs.Walking.{Walk, walk-asks, walk-done, here, walk-next, walk-stop}
 
 -- keys that are judged, then that each is bits, then what stands behind
 keys-then : (x : Res (List Ty)) (f : List Ty → Res (Unit {0})) (y : Res (Unit {0})) (b : Res (Res (Unit {0})))

@@ -1,16 +1,15 @@
 -- Parts of a program one after the other: the first, then those behind it.
-use mathlib.Core.Option.{some}
 use mathlib.Core.Path.{_≡_, sym, _∙_}
 use mathlib.Core.List.{List, [], _∷_}
-use Prim.Native.Nat.{ℕ, zero, suc, _+_, _≤_, _<_}
-use native.Mathlib.Omega.{arith}
+use Prim.Native.Nat.{ℕ, suc, _+_, _≤_, _<_}
 use native.Mathlib.Numerals.{add-one}
-use lib.ListN.{length, getD, getElem?, drop, drop-of-length-le}
+use lib.ListN.{length, getD, drop, drop-of-length-le}
 use Rattle.rules.specs.Syntax.{Program}
 use Rattle.rules.specs.Form.{Res, ok, _>>=_}
 use Rattle.program.specs.Stands.{StandsProgram, SomeProgram}
 use Rattle.program.specs.Looks.{Has}
 use Rattle.program.proofs.Found.{At, member-at}
+use Rattle.program.proofs.Members.{drop-member}
 use Rattle.form.specs.declared.Formal.{Formal}
 use Rattle.form.specs.declared.Formal.the-variants.{Well, Ill}
 use Rattle.form.specs.Claims.{toldForm}
@@ -24,14 +23,6 @@ pub record Walk {A : Type 0} (list : Program → List A) (one : Program → ℕ 
   pub next : (P : Program) (i : ℕ) (x : A) (xs : List A) → all P i (x ∷ xs) ≡ (one P i x >>= λ _. all P (suc i) xs)
   pub count : (nums directory ends : List ℕ) (P : Program) (end : ℕ) → StandsProgram nums directory ends P end
       → getD directory slot 0 ≡ length (list P)
-
-pub drop-member : {A : Type 0} (xs : List A) (i : ℕ) (x : A) → getElem? xs i ≡ some x
-    → drop i xs ≡ x ∷ drop (suc i) xs
-drop-member [] i x e = let z : _≡_ {A = ℕ} 0 1 = cc in absurd (omega arith)
-drop-member (y ∷ xs) zero x e =
-    let same : y ≡ x = cc in
-    rw same
-drop-member (y ∷ xs) (suc i) x e = drop-member xs i x e
 
 module _ {A : Type 0} {list : Program → List A} {one : Program → ℕ → A → Res (Unit {0})}
     {all : Program → ℕ → List A → Res (Unit {0})} {slot : ℕ} (w : Walk list one all slot)

@@ -2,7 +2,7 @@
 use mathlib.Core.Option.{some}
 use mathlib.Core.Path.{_≡_, refl, sym, _∙_}
 use mathlib.Core.List.{List, [], _∷_}
-use Prim.Native.Nat.{ℕ, zero, suc, _+_, _-_, _^_, _≤_, _<_}
+use Prim.Native.Nat.{ℕ, suc, _+_, _-_, _^_, _≤_, _<_}
 use native.Mathlib.Omega.{arith}
 use native.Mathlib.Numerals.{add-one}
 use lib.ListN.{length, getD, getElem?, set, drop, drop-of-length-le}
@@ -20,7 +20,7 @@ use Rattle.program.specs.Codes.{tyOf, headerNumber}
 use Rattle.program.specs.Stands.{StandsHeader, StandsProgram}
 use Rattle.program.specs.Looks.{Has, Finds, headersOf, globalsOf, GlobalNumber, FoundGlobal, FoundHeader}
 use Rattle.program.proofs.Found.{At, member-at}
-use Rattle.program.proofs.Members.{no-member}
+use Rattle.program.proofs.Members.{no-member, drop-member}
 use Rattle.lists.specs.Listing.{shapeSize, offsetsFrom}
 use Rattle.lists.specs.Parts.{AsksProgram, Fielded, AsksFields, JudgesFields, JudgesHeader, JudgesCell, AsksCells, layOffsets, JudgesCells}
 use Rattle.lists.proofs.Places.{placed-cell, CellAt}
@@ -159,13 +159,6 @@ module _ (nums directory ends : List ℕ) (g at ty : ℕ) where
 pub ruleset globals = (cell-asks, cell-high, cell-variable, cell-header)
 
 -- globals one after the other
-drop-member : {A : Type 0} (xs : List A) (i : ℕ) (x : A) → getElem? xs i ≡ some x → drop i xs ≡ x ∷ drop (suc i) xs
-drop-member [] i x e = let z : _≡_ {A = ℕ} 0 1 = cc in absurd (omega arith)
-drop-member (y ∷ xs) zero x e =
-    let same : y ≡ x = cc in
-    rw same
-drop-member (y ∷ xs) (suc i) x e = drop-member xs i x e
-
 module _ (nums directory ends : List ℕ) (g count store at : ℕ) where
   pub cells-slot : AsksCells nums directory ends g count store at → g < 33
   cells-slot h = omega (arith, h .counted, h .stands .globals .few)

@@ -4,7 +4,7 @@ use mathlib.Core.Path.{_≡_, refl, sym}
 use mathlib.Core.List.{List, [], _∷_}
 use Prim.Native.Nat.{ℕ, zero, suc, _+_, _*_, _≤_}
 use native.Mathlib.Omega.{arith}
-use lib.ListN.{length, getElem?}
+use lib.ListN.{length, getElem?, drop}
 use lib.Dec.{eqb}
 use borrow.Author.Tests.{ne-eqb}
 use Rattle.rules.specs.Words.{widest}
@@ -71,6 +71,14 @@ pub no-member : {A : Type 0} (xs : List A) (i : ℕ) → length xs ≤ i → get
 no-member [] i h = refl
 no-member (x ∷ xs) zero h = absurd (omega arith)
 no-member (x ∷ xs) (suc i) h = no-member xs i (omega arith)
+
+pub drop-member : {A : Type 0} (xs : List A) (i : ℕ) (x : A) → getElem? xs i ≡ some x
+    → drop i xs ≡ x ∷ drop (suc i) xs
+drop-member [] i x e = let z : _≡_ {A = ℕ} 0 1 = cc in absurd (omega arith)
+drop-member (y ∷ xs) zero x e =
+    let same : y ≡ x = cc in
+    rw same
+drop-member (y ∷ xs) (suc i) x e = drop-member xs i x e
 
 -- types are the same where their numbers are
 pub same-types : (t u : ℕ) → sameTy (tyOf t) (tyOf u) ≡ eqb t u
