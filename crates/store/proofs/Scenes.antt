@@ -7,7 +7,7 @@ use lib.ListN.{length, getD, set, length-set}
 use lib.Seq.{getD-set-other}
 use Rattle.rules.specs.Syntax.{Ty, Callable, Program}
 use Rattle.rules.specs.Form.{Scope, scopeOf, applyScope}
-use Rattle.rules.specs.Lists.{Cell}
+use Rattle.rules.specs.Lists.{Cell, slotsOf}
 use Rattle.rules.specs.Running.{State, withStore, fresh}
 use Rattle.rules.proofs.Predicates.{All2, nil, cons}
 use Rattle.rules.proofs.Fits.{Fit, FitParameter, StoreFits, zero-fits, with-store}
@@ -15,7 +15,8 @@ use Rattle.program.specs.Stands.{StandsProgram}
 use Rattle.program.specs.Scopes.{StandsScope}
 use Rattle.lists.specs.Stands.{ListsStand}
 use Rattle.store.specs.Mirrors.{counterSlot, storeSlots, MirrorsStore, OffsetsOf, Scene}
-use Rattle.store.specs.Fills.{Clears, AsksFill, Fills}
+use Rattle.store.specs.Fills.{Clears, AsksCopy, Copies}
+use Rattle.store.proofs.Filling.{copy-asks, copied-is}
 use Rattle.store.proofs.Sizes.{store-most, noughts, fresh-frame}
 
 pub counter-mirrors : (slots : List ℕ) (cells : List Cell) (n : ℕ) → MirrorsStore slots cells
@@ -86,26 +87,24 @@ module _ (nums directory ends entries offsets : List ℕ) (P : Program) (end sto
   pub start-offsets : OffsetsOf P offsets
   start-offsets = record { is = l .offset }
 
-  pub start-fills : (slots : List ℕ) → length slots ≡ storeSlots → AsksFill nums slots store size
-  start-fills slots e = record {
-    cells = l .cells;
-    stand = l .stands;
-    sized = l .sizeIs;
-    numbers = s .numbers;
-    most = omega (arith, l .sizeIs, store-most nums directory ends P end s (l .cells) f);
-    count = e;
-  }
+  pub start-copies : (slots : List ℕ) → length slots ≡ storeSlots → AsksCopy nums slots store size
+  start-copies slots e = copy-asks nums slots store size (slotsOf (l .cells)) (s .numbers) (l .stands)
+      (l .sizeIs) (omega (arith, e, l .sizeIs, store-most nums directory ends P end s (l .cells) f))
 
   pub scene-start : (scope slots slots′ frame : List ℕ) → StandsScope nums directory ends scope (applyScope P)
-      → Fills nums slots slots′ store size
+      → length slots ≡ storeSlots → Copies nums slots slots′ store size
       → Scene nums directory ends scope offsets slots′ frame (applyScope P)
       (record { store = l .cells; parameters = []; locals = [] })
   unfolding applyScope
-  scene-start scope slots slots′ frame k h = record {
+  scene-start scope slots slots′ frame k e h = record {
     scopes = k;
     offset = start-offsets;
     fits = record { store-fits = f; parameters-fit = nil; locals-fit = nil };
-    store = h .mirrors (l .cells) (l .stands) (l .sizeIs);
+    store = record {
+      count = h .same ∙ e;
+      most = store-most nums directory ends P end s (l .cells) f;
+      is = copied-is nums slots slots′ store size (slotsOf (l .cells)) h (l .stands) (l .sizeIs);
+    };
     frames = record {
       room = omega arith;
       parameter = λ i q. absurd (omega arith);
