@@ -19,7 +19,12 @@ pub fn held_local(nums: &[u64], scope: &[u64; program::SCOPE], frame: &[u64], at
 }
 
 // The parameter whose number stands behind the tag.
-pub fn held_parameter(nums: &[u64], scope: &[u64; program::SCOPE], frame: &[u64], at: usize) -> Value
+pub fn held_parameter(
+    nums: &[u64],
+    scope: &[u64; program::SCOPE],
+    frame: &[u64],
+    at: usize,
+) -> Value
     requires { ⌜ AsksFramed parameterTag (now nums) (now scope) (now frame) at ⌝ }
     ensures { λ r. ⌜ ReadsFramed (now (nums .entry)) (now (scope .entry)) (now (frame .entry)) at r ⌝ }
 {
