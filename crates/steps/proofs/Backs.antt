@@ -57,7 +57,7 @@ unfolding onlyIf
 only-some true o e = e
 only-some false o e = let z : _≡_ {A = ℕ} 0 1 = cc in absurd (omega arith)
 
-value-is : (t : Ty) (v : Value) (n : ℕ) → numberOf t v ≡ some n → v ≡ value t n
+pub value-is : (t : Ty) (v : Value) (n : ℕ) → numberOf t v ≡ some n → v ≡ value t n
 unfolding numberOf
 value-is t (value u m) n e = go (sameTy t u) refl e
   where

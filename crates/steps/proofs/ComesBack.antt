@@ -6,7 +6,7 @@ use mathlib.Core.List.{List, [], _∷_}
 use Prim.Native.Nat.{ℕ, zero, suc, _+_, _-_, _≤_, _<_, _^_}
 use native.Mathlib.Omega.{arith}
 use lib.ListN.{length, getD}
-use Rattle.rules.specs.Syntax.{Expr, Args, noArgs, arg, Parameter, placeIn, value}
+use Rattle.rules.specs.Syntax.{Value, Expr, Args, noArgs, arg, Parameter, placeIn, value}
 use Rattle.rules.specs.Form.{comesBack, Scope}
 use Rattle.rules.specs.Running.{State, Ending, onward, returned, returnedValue, exited, Out, done, M, next, _>>=_, pure, writeBack, inTurn, comeBack, afterBody, afterCall}
 use Rattle.rules.proofs.Predicates.{All2, nil, cons}
@@ -14,11 +14,12 @@ use Rattle.rules.proofs.Fits.{FitParameter}
 use Rattle.program.specs.Codes.{argCount}
 use Rattle.program.specs.Stands.{StandsExpr, StandsArgs, on-none, on-arg, StandsParameters}
 use Rattle.program.proofs.Views.{expr-begins, no-args}
+use Rattle.values.specs.Claims.{valueOf}
 use Rattle.store.specs.Mirrors.{Scene}
 use Rattle.steps.specs.declared.Ended.{Ended}
 use Rattle.steps.specs.declared.Ended.the-variants.{Onward, Returned, ReturnedValue, Exited}
-use Rattle.steps.specs.Outcomes.{Goes, counterOf, Ran, Ends, ends-onward, ends-returned, ends-value, ends-exited, Laid}
-use Rattle.steps.specs.Calls.{ownOf, oneBack, LeftOne, AsksOneBack, RanBack, BacksOne, Left, AsksBack, Backs, AsksFinish, Finishes, AfterCall}
+use Rattle.steps.specs.Outcomes.{Goes, counterOf, Ran, Gave, Ends, ends-onward, ends-returned, ends-value, ends-exited, Laid}
+use Rattle.steps.specs.Calls.{ownOf, oneBack, LeftOne, AsksOneBack, RanBack, BacksOne, Left, AsksBack, Backs, AsksFinish, Finishes, AfterCall, Returns}
 use Rattle.steps.proofs.Backs.{none-is}
 use Rattle.steps.proofs.Going.{Begun, not-nowhere, then-goes, rest-from, more-none, ran-here, ran-map, ran-then}
 
@@ -340,3 +341,45 @@ pub call-goes : (ended r : Ended) → ended ≡ r → Stays r → AfterCall ende
 call-goes ended r e w = record { goesOn = λ ending t. goes-told ended ending t (no-exit ended r e w) }
 
 pub ruleset afterCalls = (call-exits, call-goes, stays-onward, stays-returned, stays-value)
+
+-- the value of a call
+value-told : (ended : Ended) (ending : Ending) (ty number : ℕ) (v : Value) → Ends ended ending
+    → ended ≡ ReturnedValue ty number → ending ≡ returnedValue v → Gave ty number v
+value-told ended ending ty number v ends-onward e q = let z : _≡_ {A = ℕ} 0 1 = cc in absurd (omega arith)
+value-told ended ending ty number v ends-returned e q = let z : _≡_ {A = ℕ} 0 1 = cc in absurd (omega arith)
+value-told ended ending ty number v (ends-value {ty = t} {number = n} w) e q =
+    let same : t ≡ ty = cc in
+    let equal : n ≡ number = cc in
+    let made : v ≡ valueOf t n = cc in
+    record { is = rw (← same, ← equal) made; isValue = rw (same, equal) at w }
+value-told ended ending ty number v ends-exited e q = let z : _≡_ {A = ℕ} 0 1 = cc in absurd (omega arith)
+
+pub value-returned : (ended : Ended) (ty number : ℕ) → ended ≡ ReturnedValue ty number → Returns ended ty number
+value-returned ended ty number e = record { is = λ v t. value-told ended (returnedValue v) ty number v t e refl }
+
+no-value : (ended r : Ended) (ending : Ending) (v : Value) {B : Type 0} → Ends ended ending → ending ≡ returnedValue v
+    → ended ≡ r → ((ty number : ℕ) → r ≡ ReturnedValue ty number → ⊥) → B
+no-value ended r ending v ends-onward q e x = let z : _≡_ {A = ℕ} 0 1 = cc in absurd (omega arith)
+no-value ended r ending v ends-returned q e x = let z : _≡_ {A = ℕ} 0 1 = cc in absurd (omega arith)
+no-value ended r ending v (ends-value {ty = t} {number = n} w) q e x = absurd (x t n (sym e))
+no-value ended r ending v ends-exited q e x = let z : _≡_ {A = ℕ} 0 1 = cc in absurd (omega arith)
+
+pub onward-returned : (ended : Ended) → ended ≡ Onward → Returns ended 0 0
+onward-returned ended e = record {
+  is = λ v t. no-value ended Onward (returnedValue v) v t refl e λ ty number q.
+      let z : _≡_ {A = ℕ} 0 1 = cc in omega arith;
+}
+
+pub plain-returned : (ended : Ended) → ended ≡ Returned → Returns ended 0 0
+plain-returned ended e = record {
+  is = λ v t. no-value ended Returned (returnedValue v) v t refl e λ ty number q.
+      let z : _≡_ {A = ℕ} 0 1 = cc in omega arith;
+}
+
+pub exit-returned : (ended : Ended) → ended ≡ Exited → Returns ended 0 0
+exit-returned ended e = record {
+  is = λ v t. no-value ended Exited (returnedValue v) v t refl e λ ty number q.
+      let z : _≡_ {A = ℕ} 0 1 = cc in omega arith;
+}
+
+pub ruleset returning = (value-returned, onward-returned, plain-returned, exit-returned)

@@ -29,7 +29,7 @@ gone (goes q) = record { answer = _; state = _; seen = _; is = refl; steps = q }
 pub not-stuck : {S A B : Type 0} {counted : ℕ} → Goes {S = S} {A = A} counted stuck → B
 not-stuck g = let w = gone g in let e = w .is in let z : _≡_ {A = ℕ} 0 1 = cc in absurd (omega arith)
 
-not-full : {S A B : Type 0} {counted : ℕ} → Goes {S = S} {A = A} counted full → B
+pub not-full : {S A B : Type 0} {counted : ℕ} → Goes {S = S} {A = A} counted full → B
 not-full g = let w = gone g in let e = w .is in let z : _≡_ {A = ℕ} 0 1 = cc in absurd (omega arith)
 
 pub not-nowhere : {S A B : Type 0} {counted : ℕ} (s : S) → Goes {A = A} counted (nowhere s) → B

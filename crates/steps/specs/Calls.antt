@@ -4,10 +4,10 @@ use mathlib.Core.Path.{_≡_}
 use mathlib.Core.List.{List}
 use Prim.Native.Nat.{ℕ, _+_, _≤_, _<_}
 use lib.ListN.{length, getD, set}
-use Rattle.rules.specs.Syntax.{value, Expr, Args, Parameter, placeIn}
+use Rattle.rules.specs.Syntax.{Value, value, Expr, Args, Parameter, placeIn}
 use Rattle.rules.specs.Reading.{mostParameters, mostLocals}
 use Rattle.rules.specs.Form.{comesBack, Scope}
-use Rattle.rules.specs.Running.{State, Ending, Out, M, pure, writeBack, comeBack, afterBody, afterCall}
+use Rattle.rules.specs.Running.{State, Ending, returnedValue, Out, M, pure, writeBack, comeBack, afterBody, afterCall}
 use Rattle.rules.proofs.Predicates.{All2}
 use Rattle.rules.proofs.Fits.{FitParameter}
 use Rattle.program.specs.Codes.{directionNumber, argCount}
@@ -16,7 +16,7 @@ use Rattle.program.specs.Scopes.{StandsScope}
 use Rattle.store.specs.Mirrors.{Scene}
 use Rattle.store.specs.Changes.{KeepsFree}
 use Rattle.steps.specs.declared.Ended.{Ended}
-use Rattle.steps.specs.Outcomes.{Goes, counterOf, Ran, Ends, Laid}
+use Rattle.steps.specs.Outcomes.{Goes, counterOf, Ran, Gave, Ends, Laid}
 
 -- the slots of a body's own
 abbrev pub ownOf : Scope → ℕ
@@ -143,3 +143,7 @@ pub record Finishes (nums ends scope offsets slots slots′ frame frame′ : Lis
 -- how a call statement goes on
 pub record AfterCall (ended r : Ended) : Type 0 where
   pub goesOn : (ending : Ending) → Ends ended ending → Ends r (afterCall ending)
+
+-- the value that a body returned
+pub record Returns (ended : Ended) (ty number : ℕ) : Type 0 where
+  pub is : (v : Value) → Ends ended (returnedValue v) → Gave ty number v

@@ -1,8 +1,9 @@
 // Around a call: where its arguments go, and what comes back.
-ghost use Rattle.steps.specs.Calls.{AsksOwn, Owns, AsksKeep, Keeps, AsksOneBack, BacksOne, AsksBack, Backs, AsksFinish, Finishes, AfterCall};
+ghost use Rattle.steps.specs.Calls.{AsksOwn, Owns, AsksKeep, Keeps, AsksOneBack, BacksOne, AsksBack, Backs, AsksFinish, Finishes, AfterCall, Returns};
 use crate::Ended;
 use store::STORE;
 use store::write_place;
+use values::Value;
 
 // The direction from which on a number comes back.
 const OUT: u64 = 2;
@@ -153,5 +154,17 @@ pub fn after_call(ended: Ended) -> Ended
         Ended::Returned => Ended::Onward,
         Ended::ReturnedValue { ty, number } => Ended::Onward,
         Ended::Exited => Ended::Exited,
+    }
+}
+
+// The value that a body returned; one that returned none has no use for it.
+pub fn returned(ended: Ended) -> Value
+    ensures { λ r. ⌜ Returns ended (r .ty) (r .number) ⌝ }
+{
+    match ended {
+        Ended::Onward => Value { ty: 0, number: 0 },
+        Ended::Returned => Value { ty: 0, number: 0 },
+        Ended::ReturnedValue { ty, number } => Value { ty, number },
+        Ended::Exited => Value { ty: 0, number: 0 },
     }
 }

@@ -1,0 +1,7 @@
+mod Rank
+mod Stages
+mod Forming
+mod Exprs
+mod Parts
+mod Args
+mod Callees
