@@ -63,7 +63,8 @@ below-out : (P : Program) (n f : ℕ) → ltb f n ≡ false → callableBelow P 
 unfolding callableBelow onlyIf
 below-out P n f e = rw e
 
-ceilings-length : (P : Program) (n : ℕ) → length (ceilingsBelow P n) ≡ n
+-- as many ceilings as callables below a number
+pub ceilings-length : (P : Program) (n : ℕ) → length (ceilingsBelow P n) ≡ n
 unfolding ceilingsBelow
 ceilings-length P zero = refl
 ceilings-length P (suc n) = length-append (ceilingsBelow P n) _ ∙ (add-one (length (ceilingsBelow P n)) ∙ ap suc
