@@ -10,16 +10,17 @@ use lib.ListN.{length, getD}
 use lib.Dec.{leb}
 use Rattle.rules.specs.Numbers.{mostBytes}
 use Rattle.rules.specs.Words.{widest}
-use Rattle.rules.specs.Syntax.{Ty, GlobalTy, variable, header, Program, local, parameter, global, field}
+use Rattle.rules.specs.Syntax.{Ty, GlobalTy, variable, header, Program}
 use Rattle.rules.specs.Syntax.{Direction, byNone, byIn, byOut, byInout}
 use Rattle.rules.specs.Form.{fault, _>>=_, named, need, andLook, aVariable, shapeIn, globalAt, calleeMayWrite, Scope, seesGlobals, writableAs, writable}
 use Rattle.rules.specs.Form.{judgeField, judgePlace}
+use Rattle.rules.proofs.Predicates.{no-member}
 use Rattle.program.specs.Codes.{tyOf, headerNumber, directionNumber}
 use Rattle.program.specs.Stands.{Holds, HoldsWithin, HoldsTy, StandsWidths, StandsHeader, StandsProgram}
 use Rattle.program.specs.Scopes.{bodyNumbered, StandsScope}
 use Rattle.program.specs.Looks.{Has, Finds, headersOf, globalsOf, GlobalNumber, FoundGlobal, FoundHeader}
 use Rattle.program.proofs.Found.{At, member-at}
-use Rattle.program.proofs.Members.{StandsParameter, parameter-at, type-at, width-at, no-member, bits-of}
+use Rattle.program.proofs.Members.{StandsParameter, parameter-at, type-at, width-at, bits-of}
 use Rattle.bodies.specs.declared.Typed.{Typed}
 use Rattle.bodies.specs.declared.Typed.the-variants as typed
 use Rattle.bodies.specs.declared.Found.{Found}

@@ -12,6 +12,7 @@ use Rattle.rules.specs.Syntax.{bool, GlobalTy, variable, header, Global, Progra
 use Rattle.rules.specs.Reading.{Got, got, bad, andThen, _>>=_, pure}
 use Rattle.rules.specs.Form.{andLook, fits, shapeIn}
 use Rattle.rules.specs.Lists.{Cell, variableCell, headerCell, passing, readFields, readShape, readCell, readCells}
+use Rattle.rules.proofs.Predicates.{no-member}
 use Rattle.shape.specs.declared.Scan.{Scan}
 use Rattle.shape.specs.declared.Scan.the-variants.{Past, Fault}
 use Rattle.shape.specs.Scans.{forget, scanOf}
@@ -20,7 +21,7 @@ use Rattle.program.specs.Codes.{tyOf, headerNumber}
 use Rattle.program.specs.Stands.{StandsHeader, StandsProgram}
 use Rattle.program.specs.Looks.{Has, Finds, headersOf, globalsOf, GlobalNumber, FoundGlobal, FoundHeader}
 use Rattle.program.proofs.Found.{At, member-at}
-use Rattle.program.proofs.Members.{no-member, drop-member}
+use Rattle.program.proofs.Members.{drop-member}
 use Rattle.lists.specs.Listing.{shapeSize, offsetsFrom}
 use Rattle.lists.specs.Parts.{AsksProgram, Fielded, AsksFields, JudgesFields, JudgesHeader, JudgesCell, AsksCells, layOffsets, JudgesCells}
 use Rattle.lists.proofs.Places.{placed-cell, CellAt}
