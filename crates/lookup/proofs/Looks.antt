@@ -1,6 +1,5 @@
 -- What an entry adds to a look-up, and the entries one after the other.
 use mathlib.Core.Bool.{Bool, true, false}
-use mathlib.Core.Option.{some}
 use mathlib.Core.Path.{_≡_, refl, sym, _∙_}
 use mathlib.Core.List.{List, [], _∷_}
 use Prim.Native.Nat.{ℕ, _+_, _-_, _*_, _^_, _<_}
@@ -13,6 +12,7 @@ use Rattle.rules.specs.Lists as Lists
 use Rattle.rules.specs.Lists.{Pattern, actionAt}
 use Rattle.rules.specs.Running.{Worked, patternsFit, argumentsGiven, matchesAll, prefixOf, longestWins, better, lookUp, entriesOf, entriesFit}
 use Rattle.rules.specs.Running as rules
+use Rattle.rules.proofs.Callables.{some-same}
 use Rattle.rules.proofs.Predicates.{and-both}
 use Rattle.lists.specs.Listing.{patternsSize}
 use Rattle.lookup.specs.Matching.{widthsOf, KeyPatterns, AsksMatch, Matched, matched, unmatched, TellsMatch}
@@ -66,9 +66,6 @@ own-fits P T widths e es h =
     let a : (patternsFit widths (e .patterns) ≡ true) × _ = and-both (patternsFit widths (e .patterns)) _ h in
     (a .0, and-both (argumentsGiven (actionAt P T (e .position)) (e .arguments)) _ (a .1))
 
-same-some : {T U : Table} → some T ≡ some U → T ≡ U
-same-some q = cc
-
 module _ (nums ends widths keys : List ℕ) (t table at : ℕ) where
   -- an entry of the table asks of its keys
   own-patterns : {P : Program} {T : Table} {ws : List Worked} {e : Lists.Entry}
@@ -77,7 +74,7 @@ module _ (nums ends widths keys : List ℕ) (t table at : ℕ) where
   own-patterns {P = P} {T = T} {ws = ws} {e = e} h q =
       let own : e .table ≡ t = sym (h .entryStands .number .is) ∙ q in
       let same : h .entryStands .table ≡ T
-      = same-some (sym (h .entryStands .tableIs) ∙ (rw own (h .tableIs))) in
+      = some-same (sym (h .entryStands .tableIs) ∙ (rw own (h .tableIs))) in
       record {
         keysStand = h .stands .keys;
         counts = h .stands .keyCount .holds .is;

@@ -25,7 +25,7 @@ AllJudged P n cs = (i : ℕ) (c : Callable) → getElem? cs i ≡ some c → jud
 none-some : {A : Type 0} {a : A} → none ≡ some a → ⊥
 none-some e = let z : _≡_ {A = ℕ} 0 1 = cc in omega arith
 
-some-same : {A : Type 0} {a b : A} → some a ≡ some b → a ≡ b
+pub some-same : {A : Type 0} {a b : A} → some a ≡ some b → a ≡ b
 some-same e = cc
 
 judged-nil : (P : Program) (n : ℕ) → AllJudged P n []
