@@ -3,11 +3,10 @@ ghost use Rattle.lookup.specs.LookingUp.{AsksKeys, TellsAny, TellsLonges
 use super::matching::match_from;
 use crate::Best;
 use crate::Match;
-
-// The kinds of keys that decide whether the longest prefix wins.
-const LPM: u64 = 1;
-
-const TERNARY: u64 = 2;
+use program::LPM;
+use program::MOST_KEYS;
+use program::TERNARY;
+use program::WIDTHS;
 
 // Whether one of so many keys, the first of which stands at `from`, is of a kind.
 fn any_key(nums: &[u64], ends: &[u64], kind: u64, from: usize, count: u64) -> bool
@@ -72,8 +71,8 @@ fn better(longest: bool, best: Best, action: usize, prefix: u64) -> Best
 fn step(
     nums: &[u64],
     ends: &[u64],
-    widths: &[u64; lists::WIDTHS],
-    keys: &[u64; super::MOST_KEYS],
+    widths: &[u64; WIDTHS],
+    keys: &[u64; MOST_KEYS],
     t: u64,
     table: usize,
     longest: bool,
@@ -84,7 +83,7 @@ fn step(
     ensures { λ r. ⌜ TellsStep (now (nums .entry)) (now (ends .entry)) (now (widths .entry)) (now (keys .entry)) t table longest at best r ⌝ }
 {
     if nums[at] == t {
-        let slot = super::MOST_KEYS * t as usize;
+        let slot = MOST_KEYS * t as usize;
         let keyed = match_from(
             nums,
             ends,
@@ -110,8 +109,8 @@ pub(crate) fn look_from(
     nums: &[u64],
     ends: &[u64],
     entries: &[u64; lists::ENTRIES],
-    widths: &[u64; lists::WIDTHS],
-    keys: &[u64; super::MOST_KEYS],
+    widths: &[u64; WIDTHS],
+    keys: &[u64; MOST_KEYS],
     t: u64,
     table: usize,
     longest: bool,
