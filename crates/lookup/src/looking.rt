@@ -1,5 +1,6 @@
 // The look-up among the entries of a table.
-ghost use Rattle.lookup.specs.LookingUp.{AsksKeys, TellsAny, TellsLongest, TellsBetter, AsksStep, TellsStep, AsksLook, TellsLook};
+ghost use mathlib.Core.Path.{_≡_};
+ghost use Rattle.lookup.specs.LookingUp.{AsksKeys, TellsAny, TellsLongest, TellsBetter, AsksStep, TellsStep, settledAs, AsksLook, TellsLook};
 use super::matching::match_from;
 use crate::Best;
 use crate::Match;
@@ -104,6 +105,19 @@ fn step(
     }
 }
 
+// Whether no later entry changes what is found: where the earliest wins, an entry does not give way.
+fn settled(longest: bool, found: Best) -> bool
+    ensures { λ r. ⌜ r ≡ settledAs longest found ⌝ }
+{
+    match found {
+        Best::Entry {
+            action: _,
+            prefix: _,
+        } => !longest,
+        Best::Nothing => false,
+    }
+}
+
 // What is found once so many entries are looked at, whose places stand from slot `i` on.
 pub(crate) fn look_from(
     nums: &[u64],
@@ -126,18 +140,26 @@ pub(crate) fn look_from(
     } else {
         let at = entries[i] as usize;
         let found = step(nums, ends, widths, keys, t, table, longest, at, best);
-        look_from(
-            nums,
-            ends,
-            entries,
-            widths,
-            keys,
-            t,
-            table,
-            longest,
-            i + 1,
-            left - 1,
-            found,
-        )
+        if settled(longest, found) {
+            found
+        } else {
+            let rest = look_from(
+                nums,
+                ends,
+                entries,
+                widths,
+                keys,
+                t,
+                table,
+                longest,
+                i + 1,
+                left - 1,
+                found,
+            );
+            match rest {
+                Best::Entry { action, prefix } => Best::Entry { action, prefix },
+                Best::Nothing => Best::Nothing,
+            }
+        }
     }
 }
