@@ -10,11 +10,12 @@ use lib.Dec.{leb, eqb}
 use borrow.Author.Tests.{ne-eqb, le-leb}
 use Rattle.rules.specs.Syntax.{Ty}
 use Rattle.rules.specs.Form.{Res, ok, fault, _>>=_, named, need, writable, judgeHeaderAt, needTy, mayCall, judgeReturned, isApply, isFunction}
+use Rattle.rules.proofs.Predicates.{no-member}
 use Rattle.program.specs.Codes.{tyOf}
 use Rattle.program.specs.Scopes.{bodyNumbered}
 use Rattle.program.specs.Looks.{returnsOf}
 use Rattle.program.proofs.Found.{At, member-at}
-use Rattle.program.proofs.Members.{no-member, same-types}
+use Rattle.program.proofs.Members.{same-types}
 use Rattle.bodies.specs.declared.Typed.{Typed}
 use Rattle.bodies.specs.declared.Typed.the-variants as typed
 use Rattle.bodies.specs.declared.Formed.{Formed}

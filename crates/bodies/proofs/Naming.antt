@@ -10,16 +10,17 @@ use lib.ListN.{length, getD}
 use lib.Dec.{leb}
 use Rattle.rules.specs.Numbers.{mostBytes}
 use Rattle.rules.specs.Words.{widest}
-use Rattle.rules.specs.Syntax.{Ty, GlobalTy, variable, header, Program, local, parameter, global, field}
+use Rattle.rules.specs.Syntax.{Ty, GlobalTy, variable, header, Program}
 use Rattle.rules.specs.Syntax.{Direction, byNone, byIn, byOut, byInout}
 use Rattle.rules.specs.Form.{fault, _>>=_, named, need, andLook, aVariable, shapeIn, globalAt, calleeMayWrite, Scope, seesGlobals, writableAs, writable}
 use Rattle.rules.specs.Form.{judgeField, judgePlace}
+use Rattle.rules.proofs.Predicates.{no-member}
 use Rattle.program.specs.Codes.{tyOf, headerNumber, directionNumber}
 use Rattle.program.specs.Stands.{Holds, HoldsWithin, HoldsTy, StandsWidths, StandsHeader, StandsProgram}
 use Rattle.program.specs.Scopes.{bodyNumbered, StandsScope}
 use Rattle.program.specs.Looks.{Has, Finds, headersOf, globalsOf, GlobalNumber, FoundGlobal, FoundHeader}
 use Rattle.program.proofs.Found.{At, member-at}
-use Rattle.program.proofs.Members.{StandsParameter, parameter-at, type-at, width-at, no-member, bits-of}
+use Rattle.program.proofs.Members.{StandsParameter, parameter-at, type-at, width-at, bits-of, header-high}
 use Rattle.bodies.specs.declared.Typed.{Typed}
 use Rattle.bodies.specs.declared.Typed.the-variants as typed
 use Rattle.bodies.specs.declared.Found.{Found}
@@ -57,11 +58,6 @@ variable-shape : (P : Program) (n : ℕ) (t : GlobalTy) → n ≤ widest → Glo
 unfolding shapeIn GlobalNumber headerNumber
 variable-shape P n (variable t) h g = rw (g .1)
 variable-shape P n (header i) h g = absurd (omega (arith, g .0))
-
-numbered-high : (n : ℕ) (t : GlobalTy) → widest < n → GlobalNumber n t → 128 ≤ n
-unfolding GlobalNumber headerNumber
-numbered-high n (variable t) h g = absurd (omega (arith, g .0))
-numbered-high n (header i) h g = omega (arith, g .0)
 
 header-shape : (P : Program) (n : ℕ) (t : GlobalTy) → widest < n → GlobalNumber n t
     → shapeIn P t ≡ shapeIn P (header (n - 128))
@@ -255,7 +251,7 @@ module _ (nums directory ends : List ℕ) (i : ℕ) where
     pub header-number : AsksProgram nums directory ends → widest < n → 128 ≤ n
     header-number asks high =
         let g : NumberedGlobal (asks .program) i n = global-of (asks .program) (asks .end) (asks .stands) in
-        numbered-high n (g .member .member .ty) high (g .numbered)
+        header-high n (g .member .member .ty) high (g .numbered)
 
     pub global-header : (r : Found) → widest < n → FindsHeader nums directory ends (n - 128) r
         → FindsGlobal nums directory ends i r

@@ -8,7 +8,7 @@ use native.Mathlib.Omega.{arith}
 use lib.ListN.{length, getD}
 use lib.Dec.{eqb}
 use Rattle.rules.specs.Numbers.{mostBytes}
-use Rattle.rules.specs.Syntax.{bool, Expr, Stmt, ifElse, block, Stmts, stmt}
+use Rattle.rules.specs.Syntax.{bool, Expr, Stmt, ifElse, Stmts, stmt}
 use Rattle.rules.specs.Form.{Res, ok, fault, _>>=_, need, sameTy, needTy, Scope, judgeExpr, judgeStmt, judgeStmts, returnsOn, someReturns}
 use Rattle.program.specs.Codes.{tyOf, memberCount}
 use Rattle.program.specs.Stands.{StandsStmt, StandsStmts}

@@ -12,6 +12,7 @@ use program::LOCAL_COUNT;
 use program::LOCALS;
 use program::PARAMETER_COUNT;
 use program::PARAMETERS;
+use shape::limits::FIRST_HEADER_TYPE;
 use words::widths::WIDEST;
 
 // The type of the local whose number stands behind the tag.
@@ -68,7 +69,7 @@ fn global_at(nums: &[u64], ends: &[u64], directory: &[u64; shape::SLOTS], g: usi
         if ty <= WIDEST {
             Found::Variable(ty)
         } else {
-            header_at(nums, ends, directory, ty as usize - 128)
+            header_at(nums, ends, directory, (ty - FIRST_HEADER_TYPE) as usize)
         }
     } else {
         Found::Nothing

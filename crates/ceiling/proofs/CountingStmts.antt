@@ -7,10 +7,10 @@ use lib.ListN.{length, getD}
 use borrow.Author.Tests.{eq-eqb, ne-eqb}
 use Rattle.rules.specs.Syntax.{Expr, Stmt, ifElse, block, Stmts, noStmts, stmt, Program}
 use Rattle.rules.specs.Ceiling.{mostSteps, ceilingArgs, ceilingStmt, ceilingStmts, ceilingTable}
+use Rattle.rules.proofs.Predicates.{no-member}
 use Rattle.program.specs.Codes.{memberCount}
 use Rattle.program.specs.Stands.{StandsStmt, StandsStmts}
 use Rattle.program.proofs.Views.{stmt-begins, MemberView, member-view, no-members}
-use Rattle.program.proofs.Members.{no-member}
 use Rattle.ceiling.specs.Cut.{cut}
 use Rattle.ceiling.specs.declared.operands.Runs.{Runs}
 use Rattle.ceiling.specs.declared.operands.Runs.the-variants.{Branches, Members, Body, Applied, Nothing}

@@ -2,14 +2,16 @@
 use mathlib.Core.Bool.{Bool, true, false}
 use mathlib.Core.Option.{some}
 use mathlib.Core.Path.{_≡_, refl, _∙_}
-use mathlib.Core.List.{List, [], _∷_, _++_}
+use mathlib.Core.List.{[]}
 use Prim.Native.Nat.{ℕ, zero, suc, _+_, _≤_, _<_, max}
 use native.Mathlib.Omega.{arith}
 use lib.Dec.{eqb, ltb}
-use lib.ListN.{length, getD, getElem?, length-append, List·getD-append, List·getD-eq-default}
+use lib.ListN.{length, getD, getElem?, List·getD-append, List·getD-eq-default}
+use lib.Seq.{getD-at}
 use borrow.Author.Tests.{ne-eqb, eqb-true, eqb-false, ltb-true, ltb-false}
 use Rattle.rules.specs.Syntax.{Expr, boolLiteral, bitsLiteral, readOf, validOf, negation, complement, binary, cast, slice, concatenation, callExpr, Stmt, empty, assign, ifElse, block, callStmt, apply, returnValue, return, exit, setValid, setInvalid, Callable, Program}
 use Rattle.rules.specs.Ceiling.{mostSteps, ceilingExpr, ceilingArgs, ceilingStmt, calleeIn, noTable, ceilingAt, ceilingsBelow}
+use Rattle.rules.proofs.Callables.{ceilings-length}
 use Rattle.ceiling.specs.Cut.{cut}
 use Rattle.ceiling.specs.Claims.{calleeBelow, ceilingNumber, appliedIn, operandsIn, calledBy, operandsOf, runBy}
 
@@ -88,27 +90,14 @@ ceil-stmt callee table (setValid at g) = refl
 ceil-stmt callee table (setInvalid at g) = refl
 
 -- the ceilings of the callables below a number, by position
-pub below-length : (P : Program) (n : ℕ) → length (ceilingsBelow P n) ≡ n
-unfolding ceilingsBelow
-below-length P zero = refl
-below-length P (suc n) =
-    length-append (ceilingsBelow P n) (ceilingAt (ceilingsBelow P n) (getElem? (P .callables) n) ∷ [])
-    ∙ rw (below-length P n) (omega arith)
-
-last-at : (xs : List ℕ) (n v : ℕ) → length xs ≡ n → getD (xs ++ (v ∷ [])) n 0 ≡ v
-last-at [] zero v e = refl
-last-at [] (suc n) v e = absurd (omega (arith, e))
-last-at (x ∷ xs) zero v e = absurd (omega (arith, e))
-last-at (x ∷ xs) (suc n) v e = last-at xs n v (omega (arith, e))
-
 earlier-at : (P : Program) (n f : ℕ) → f < n
     → getD (ceilingsBelow P (suc n)) f 0 ≡ getD (ceilingsBelow P n) f 0
 unfolding ceilingsBelow
-earlier-at P n f h = List·getD-append (ceilingsBelow P n) _ 0 f (rw (below-length P n) h)
+earlier-at P n f h = List·getD-append (ceilingsBelow P n) _ 0 f (rw (ceilings-length P n) h)
 
 latest-at : (P : Program) (n : ℕ) → getD (ceilingsBelow P (suc n)) n 0 ≡ ceilingNumber P n
 unfolding ceilingsBelow ceilingNumber
-latest-at P n = last-at (ceilingsBelow P n) n _ (below-length P n)
+latest-at P n = getD-at (ceilingsBelow P n) _ [] 0 n (ceilings-length P n)
 
 pub below : (f n : ℕ) → f < suc n → (f ≡ n → ⊥) → f < n
 below f n h other = by (ltb f n) refl
@@ -132,7 +121,7 @@ callee-at P (suc n) f h = go (eqb f n) refl (callee-at P n f)
 
 pub callee-none : (P : Program) (n f : ℕ) → n ≤ f → calleeBelow P n f ≡ 0
 unfolding calleeIn
-callee-none P n f h = List·getD-eq-default (ceilingsBelow P n) 0 (rw (below-length P n) h)
+callee-none P n f h = List·getD-eq-default (ceilingsBelow P n) 0 (rw (ceilings-length P n) h)
 
 -- no apply in a callable
 pub applied-none : (P : Program) (f : ℕ) → f < length (P .callables) → appliedIn P f ≡ noTable

@@ -6,9 +6,7 @@ ghost use lib.ListN.{length, getD};
 ghost use Rattle.ceiling.specs.Claims.{AsksExpr, CountsExpr, AsksExprs, CountsExprs, AsksCall, CountsCall, AsksStmt, CountsStmt, CountsRun, AsksBranches, CountsBranches, AsksStmts, CountsStmts, AsksApplied, CountsApplied};
 use crate::operands;
 use crate::operands::Runs;
-
-// The deepest level: bodies and keys begin there.
-pub(crate) const DEEPEST: usize = 32;
+use shape::limits::DEEPEST;
 
 // Where the construct behind the one at `at` begins.
 fn behind(ends: &[u64], at: usize) -> usize

@@ -31,7 +31,7 @@ pub fn ceiling_of(nums: &[u64], ends: &[u64], directory: &[u64; shape::SLOTS]) -
         &mut kept,
         &mut tables,
     );
-    let depth = count::DEEPEST;
+    let depth = shape::limits::DEEPEST;
     count::count_stmt(
         nums,
         ends,

@@ -21,7 +21,7 @@ fn count_keys(
     if count == 0 {
         0
     } else {
-        let depth = count::DEEPEST;
+        let depth = shape::limits::DEEPEST;
         let one = count::count_expr(nums, ends, directory, tables, reach, depth, at + 1, kept);
         let next = ends[at + 1] as usize;
         let others = count_keys(nums, ends, directory, tables, reach, next, count - 1, kept);

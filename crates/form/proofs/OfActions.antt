@@ -9,11 +9,11 @@ use lib.ListN.{length, getD, getElem?}
 use lib.Dec.{eqb}
 use Rattle.rules.specs.Syntax.{Direction, byNone, byIn, byOut, byInout, Parameter, Callable, Numeral, Program}
 use Rattle.rules.specs.Form.{Res, ok, fault, _>>=_, named, need, tableGives, judgeActions, tableGivesAll, listable, judgeListed}
+use Rattle.rules.proofs.Predicates.{no-member}
 use Rattle.program.specs.Codes.{directionNumber}
 use Rattle.program.specs.Stands.{StandsProgram}
 use Rattle.program.specs.Looks.{Has, Finds, callablesOf, FoundHead}
 use Rattle.program.proofs.Found.{member-at, member-in}
-use Rattle.program.proofs.Members.{no-member}
 use Rattle.form.specs.declared.Formal.{Formal}
 use Rattle.form.specs.declared.Formal.the-variants.{Well, Ill}
 use Rattle.form.specs.Claims.{toldForm}

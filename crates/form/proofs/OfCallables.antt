@@ -8,7 +8,7 @@ use native.Mathlib.Omega.{arith}
 use lib.ListN.{getD, getElem?}
 use lib.Dec.{eqb}
 use Rattle.rules.specs.Syntax.{Ty, Callable, Program}
-use Rattle.rules.specs.Form.{ok, _>>=_, need, isFunction, judgeStmt, returnsOn, bodyOf, scopeOf, judgeCallable, judgeCallables}
+use Rattle.rules.specs.Form.{_>>=_, need, isFunction, judgeStmt, returnsOn, bodyOf, scopeOf, judgeCallable, judgeCallables}
 use Rattle.program.specs.Codes.{callableKindNumber}
 use Rattle.program.specs.Stands.{StandsProgram, SomeProgram}
 use Rattle.program.specs.Looks.{Has, Finds, callablesOf, FoundHead, FoundFrame}
@@ -16,13 +16,13 @@ use Rattle.program.specs.Scopes.{StandsScope}
 use Rattle.program.proofs.Found.{At, member-at}
 use Rattle.bodies.specs.declared.Formed.{Formed}
 use Rattle.bodies.specs.declared.Formed.the-variants.{Fine, Faulty}
-use Rattle.bodies.specs.Claims.{toldStmt, AsksStmt, JudgesStmt}
+use Rattle.bodies.specs.Claims.{AsksStmt, JudgesStmt}
+use Rattle.bodies.proofs.Stating.{FineOf, fine-is, faulty-is}
 use Rattle.form.specs.declared.Formal.{Formal}
 use Rattle.form.specs.declared.Formal.the-variants.{Well, Ill}
 use Rattle.form.specs.Claims.{toldForm}
 use Rattle.form.specs.Parts.{Says, JudgesPart, JudgesParts}
-use Rattle.form.proofs.Seen.{callableScope, callable-scope}
-use Rattle.form.proofs.Steps.{FineOf, fine-of, fault-of}
+use Rattle.program.proofs.Seen.{callableScope, callable-scope}
 use Rattle.form.proofs.Walking.{Walk, walk-asks, walk-done, walk-next, walk-stop}
 
 pub is-action : (kind : ℕ) (x : Option Ty) → kind ≡ callableKindNumber x → not (isFunction (bodyOf x)) ≡ eqb kind 0
@@ -61,30 +61,23 @@ module _ (nums directory ends : List ℕ) (n : ℕ) where
           }
 
       module _ (a : Formed) (j : JudgesStmt nums directory ends scope 32 body a) where
-        told : (P : Program) (end : ℕ) (c : Callable) → StandsProgram nums directory ends P end
-            → getElem? (P .callables) n ≡ some c
-            → toldStmt a ≡ (judgeStmt (scopeOf P n c) (c .body) >>= λ _. ok (returnsOn (c .body)))
-        unfolding callablesOf
-        told P end c s e =
-            j .judged (scopeOf P n c) (c .body) (seen P end c s e) (f .finds P end c s e .bodyStands)
-
         pub callable-fault : (number index : ℕ) → a ≡ Faulty number index
             → JudgesPart callablesOf judgeCallable nums directory ends n (Ill number index)
-        unfolding callablesOf judgeCallable toldStmt toldForm _>>=_
+        unfolding callablesOf judgeCallable toldForm _>>=_
         callable-fault number index k = record {
           judged = λ P end c s e.
-              rw (fault-of (judgeStmt (scopeOf P n c) (c .body)) number index (returnsOn (c .body))
-              (rw k at (told P end c s e)));
+              rw (faulty-is j (scopeOf P n c) (c .body) (seen P end c s e) (f .finds P end c s e .bodyStands)
+              number index k);
         }
 
         pub callable-judged : (b e : Bool) (r : Formal) → a ≡ Fine b → e ≡ (eqb kind 0 || b)
             → Says r (need 8 (getD directory (43 + n) 0) e)
             → JudgesPart callablesOf judgeCallable nums directory ends n r
-        unfolding callablesOf judgeCallable toldStmt _>>=_
+        unfolding callablesOf judgeCallable _>>=_
         callable-judged b e r k q w = record {
           judged = λ P end c s i.
               let g : FineOf (judgeStmt (scopeOf P n c) (c .body)) b (returnsOn (c .body))
-              = fine-of (judgeStmt (scopeOf P n c) (c .body)) b (returnsOn (c .body)) (rw k at (told P end c s i)) in
+              = fine-is j (scopeOf P n c) (c .body) (seen P end c s i) (f .finds P end c s i .bodyStands) b k in
               w .judged
               ∙ rw (
                 g .is,

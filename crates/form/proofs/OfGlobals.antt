@@ -9,11 +9,11 @@ use lib.Dec.{ltb}
 use borrow.Author.Tests.{lt-ltb, ltb-true, ltb-false}
 use Rattle.rules.specs.Syntax.{GlobalTy, variable, header, Program}
 use Rattle.rules.specs.Form.{ok, _>>=_, named, need, andLook, shapeIn, judgeGlobals}
+use Rattle.rules.proofs.Predicates.{no-member}
 use Rattle.program.specs.Codes.{headerNumber}
 use Rattle.program.specs.Stands.{StandsProgram, SomeProgram}
 use Rattle.program.specs.Looks.{Has, Finds, globalsOf, GlobalNumber, FoundGlobal}
 use Rattle.program.proofs.Found.{member-at, global-slot}
-use Rattle.program.proofs.Members.{no-member}
 use Rattle.form.specs.declared.Formal.{Formal}
 use Rattle.form.specs.declared.Formal.the-variants.{Well, Ill}
 use Rattle.form.specs.Parts.{Says, JudgesPart, JudgesParts, globalIs, globalsAre}

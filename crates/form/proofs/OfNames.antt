@@ -10,10 +10,10 @@ use lib.Dec.{ltb}
 use borrow.Author.Tests.{ltb-true, ltb-false}
 use Rattle.rules.specs.Syntax.{Callable, Numeral, Table, Program}
 use Rattle.rules.specs.Form.{Res, ok, fault, _>>=_, named, need, judgeActions}
+use Rattle.rules.proofs.Predicates.{no-member}
 use Rattle.program.specs.Stands.{StandsNumeral, StandsNumerals}
 use Rattle.program.specs.Looks.{FoundTable}
 use Rattle.program.proofs.Found.{member-at}
-use Rattle.program.proofs.Members.{no-member}
 use Rattle.form.specs.declared.Formal.{Formal}
 use Rattle.form.specs.declared.Formal.the-variants.{Well, Ill}
 use Rattle.form.specs.Claims.{toldForm}

@@ -2,7 +2,6 @@
 use mathlib.Core.Bool.{Bool, true, false}
 use mathlib.Core.Path.{_≡_, refl, sym, _∙_}
 use Prim.Native.Nat.{ℕ}
-use native.Mathlib.Omega.{arith}
 use Rattle.rules.specs.Form.{Res, ok, fault, _>>=_, need}
 use Rattle.form.specs.declared.Formal.{Formal}
 use Rattle.form.specs.declared.Formal.the-variants.{Well, Ill}
@@ -17,25 +16,6 @@ pub ill-is : (a : Formal) (x : Res (Unit {0})) (number index : ℕ) → toldForm
     → x ≡ fault number index
 unfolding toldForm
 ill-is a x number index e k = sym e ∙ rw k
-
--- the same of a body's answer, which tells besides whether a value is returned
-pub record FineOf (x : Res (Unit {0})) (b c : Bool) : Type 0 where
-  pub is : x ≡ ok tt
-  pub same : b ≡ c
-
-pub fine-of : (x : Res (Unit {0})) (b c : Bool) → ok b ≡ (x >>= λ _. ok c) → FineOf x b c
-unfolding _>>=_
-fine-of (ok u) b c e = record { is = refl; same = cc }
-fine-of (fault number index) b c e = let z : _≡_ {A = ℕ} 0 1 = cc in absurd (omega arith)
-
-pub fault-of : (x : Res (Unit {0})) (number index : ℕ) (c : Bool) → fault number index ≡ (x >>= λ _. ok c)
-    → x ≡ fault number index
-unfolding _>>=_
-fault-of (ok u) number index c e = let z : _≡_ {A = ℕ} 0 1 = cc in absurd (omega arith)
-fault-of (fault m i) number index c e =
-    let f : m ≡ number = cc in
-    let g : i ≡ index = cc in
-    rw (f, g)
 
 -- what is known may be forgotten before the next
 pub forgotten : {A : Type 0} (x : Res A) (y : Res (Unit {0})) → (x >>= λ _. y) ≡ ((x >>= λ _. ok (tt {0})) >>= λ _. y)

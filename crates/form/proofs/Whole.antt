@@ -5,18 +5,19 @@ use mathlib.Core.List.{List}
 use Prim.Native.Nat.{ℕ}
 use lib.ListN.{getD}
 use Rattle.rules.specs.Syntax.{Program}
-use Rattle.rules.specs.Form.{ok, _>>=_, judgeStmt, returnsOn, judgeGlobals, judgeCallables, applyScope, judgeTables, judgeProgram}
+use Rattle.rules.specs.Form.{ok, _>>=_, judgeGlobals, judgeCallables, applyScope, judgeTables, judgeProgram}
 use Rattle.program.specs.Stands.{StandsProgram, SomeProgram}
 use Rattle.program.specs.Looks.{globalsOf, callablesOf, tablesOf}
 use Rattle.bodies.specs.declared.Formed.{Formed}
 use Rattle.bodies.specs.declared.Formed.the-variants.{Fine, Faulty}
-use Rattle.bodies.specs.Claims.{toldStmt, AsksStmt, JudgesStmt}
+use Rattle.bodies.specs.Claims.{AsksStmt, JudgesStmt}
+use Rattle.bodies.proofs.Stating.{fine-is, faulty-is}
 use Rattle.form.specs.declared.Formal.{Formal}
 use Rattle.form.specs.declared.Formal.the-variants.{Well, Ill}
 use Rattle.form.specs.Claims.{toldForm, widthsLeft, JudgesForm}
 use Rattle.form.specs.Parts.{JudgesParts, globalsAre, JudgesApply, tablesAre, LaysTables, restIs, LaysRest}
-use Rattle.form.proofs.Seen.{applySlots, apply-scope}
-use Rattle.form.proofs.Steps.{well-is, ill-is, fine-of, fault-of}
+use Rattle.program.proofs.Seen.{applySlots, apply-scope}
+use Rattle.form.proofs.Steps.{well-is, ill-is}
 
 -- the apply body
 module _ (nums directory ends : List ℕ) where
@@ -30,20 +31,18 @@ module _ (nums directory ends : List ℕ) where
   }
 
   module _ (a : Formed) (j : JudgesStmt nums directory ends (applySlots directory) 32 (getD directory 68 0) a) where
-    told : (P : Program) (end : ℕ) → StandsProgram nums directory ends P end
-        → toldStmt a ≡ (judgeStmt (applyScope P) (P .body) >>= λ _. ok (returnsOn (P .body)))
-    told P end s = j .judged (applyScope P) (P .body) (apply-scope nums directory ends P end s) (s .body)
-
     pub apply-fine : (b : Bool) → a ≡ Fine b → JudgesApply nums directory ends Well
-    unfolding toldStmt toldForm
+    unfolding toldForm
     apply-fine b k = record {
-      judged = λ P end s. sym (fine-of (judgeStmt (applyScope P) (P .body)) b _ (rw k at (told P end s)) .is);
+      judged = λ P end s.
+          sym (fine-is j (applyScope P) (P .body) (apply-scope nums directory ends P end s) (s .body) b k .is);
     }
 
     pub apply-fault : (number index : ℕ) → a ≡ Faulty number index → JudgesApply nums directory ends (Ill number index)
-    unfolding toldStmt toldForm
+    unfolding toldForm
     apply-fault number index k = record {
-      judged = λ P end s. sym (fault-of (judgeStmt (applyScope P) (P .body)) number index _ (rw k at (told P end s)));
+      judged = λ P end s.
+          sym (faulty-is j (applyScope P) (P .body) (apply-scope nums directory ends P end s) (s .body) number index k);
     }
 
 pub ruleset applying = (apply-asks, apply-fine, apply-fault)

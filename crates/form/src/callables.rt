@@ -3,13 +3,13 @@ ghost use Rattle.rules.specs.Form.{judgeCallable, judgeCallables};
 ghost use Rattle.program.specs.Stands.{SomeProgram};
 ghost use Rattle.program.specs.Looks.{Has, callablesOf};
 ghost use Rattle.form.specs.Parts.{JudgesPart, JudgesParts};
-use super::DEEPEST;
 use super::Formal;
 use super::rule;
 use bodies::Formed;
 use bodies::stmts::judge_stmt;
 use bodies::types::either;
 use program::ACTION;
+use shape::limits::DEEPEST;
 
 // Callable number n, which sees those below it.
 fn judge_callable(nums: &[u64], ends: &[u64], directory: &[u64; shape::SLOTS], n: usize) -> Formal

@@ -4,9 +4,7 @@ ghost use Rattle.program.specs.Looks.{Has, globalsOf};
 ghost use Rattle.form.specs.Parts.{JudgesPart, JudgesParts, globalIs, globalsAre};
 use super::Formal;
 use super::rule;
-
-// The first header type among the types of globals.
-const FIRST_HEADER_TYPE: u64 = 128;
+use shape::limits::FIRST_HEADER_TYPE;
 
 // A global.
 fn judge_global(nums: &[u64], ends: &[u64], directory: &[u64; shape::SLOTS], g: usize) -> Formal

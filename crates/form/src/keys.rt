@@ -1,15 +1,13 @@
 // The keys of a table: the expression of each in the scope of the apply body, that each is bits, and their kinds.
 ghost use Rattle.form.specs.Parts.{AsksKey, JudgesKey, WithFirst, AsksKeys, JudgesKeys, AsksKinds, JudgesKinds};
-use super::DEEPEST;
 use super::Formal;
-use super::WIDTHS;
 use bodies::Typed;
 use bodies::exprs::judge_expr;
 use bodies::types::both;
 use bodies::types::either;
-
-// The kind of a key that is matched by a prefix.
-const LPM: u64 = 1;
+use program::LPM;
+use program::WIDTHS;
+use shape::limits::DEEPEST;
 
 // The keys are all bits; or the first that is a bool; or, before that, the first fault and its index.
 pub enum Keyed {

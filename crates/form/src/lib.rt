@@ -15,13 +15,9 @@ use bodies::Formed;
 use bodies::stmts::judge_stmt;
 use callables::judge_callables;
 use globals::judge_globals;
+use program::WIDTHS;
+use shape::limits::DEEPEST;
 use tables::judge_tables;
-
-// How many slots the widths of keys have, four a table.
-pub const WIDTHS: usize = 32;
-
-// How many levels a body or a key may have.
-const DEEPEST: usize = 32;
 
 // A program is well formed, or has a fault, 6, 7 or 8, at an index.
 pub enum Formal {

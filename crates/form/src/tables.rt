@@ -3,7 +3,6 @@ ghost use Rattle.program.specs.Stands.{SomeProgram};
 ghost use Rattle.program.specs.Looks.{Has, tablesOf};
 ghost use Rattle.form.specs.Parts.{AsksNames, JudgesNames, AsksNamed, JudgesNamed, defaultIs, kindsAre, behindKeys, AsksLays, LaysNamed, LaysTable, LaysTables};
 use super::Formal;
-use super::WIDTHS;
 use super::actions::actions_exist;
 use super::actions::judge_listed;
 use super::actions::literals_fit;
@@ -11,10 +10,9 @@ use super::keys::Keyed;
 use super::keys::judge_keys;
 use super::keys::one_lpm;
 use super::rule;
+use program::MOST_KEYS;
 use program::Parts;
-
-// The most keys of a table, which is the slots that its widths have.
-const MOST_KEYS: usize = 4;
+use program::WIDTHS;
 
 // The listed actions, then the default's position among them.
 fn judge_names(nums: &[u64], directory: &[u64; shape::SLOTS], parts: Parts) -> Formal

@@ -27,7 +27,7 @@ fn judge_bounded(
     nums: &[u64],
     ends: &[u64],
     directory: &[u64; shape::SLOTS],
-    widths: &[u64; lists::WIDTHS],
+    widths: &[u64; program::WIDTHS],
     entries: &mut [u64; lists::ENTRIES],
     offsets: &mut [u64; lists::OFFSETS],
 ) -> Verdict
@@ -58,7 +58,7 @@ fn judge_program(
     nums: &[u64],
     ends: &[u64],
     directory: &[u64; shape::SLOTS],
-    widths: &mut [u64; lists::WIDTHS],
+    widths: &mut [u64; program::WIDTHS],
     entries: &mut [u64; lists::ENTRIES],
     offsets: &mut [u64; lists::OFFSETS],
 ) -> Verdict
@@ -78,7 +78,7 @@ pub fn judge(
     nums: &[u64],
     directory: &mut [u64; shape::SLOTS],
     ends: &mut [u64; shape::NUMBERS],
-    widths: &mut [u64; lists::WIDTHS],
+    widths: &mut [u64; program::WIDTHS],
     entries: &mut [u64; lists::ENTRIES],
     offsets: &mut [u64; lists::OFFSETS],
 ) -> Verdict

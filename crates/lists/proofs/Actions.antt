@@ -12,6 +12,7 @@ use Rattle.rules.specs.Syntax.{Parameter, Callable, Table, Program}
 use Rattle.rules.specs.Reading.{andThen, _>>=_, pure, meaning}
 use Rattle.rules.specs.Form.{andLook, fits}
 use Rattle.rules.specs.Lists.{passing, asked, actionAt, numbered, readArguments}
+use Rattle.rules.proofs.Predicates.{no-member}
 use Rattle.rules.proofs.Readers.{looked-in, looked-out}
 use Rattle.shape.specs.declared.Scan.{Scan}
 use Rattle.shape.specs.declared.Scan.the-variants.{Past, Fault}
@@ -21,7 +22,7 @@ use Rattle.program.specs.Stands.{StandsNumeral, StandsProgram}
 use Rattle.program.specs.Looks.{Has, Finds, callablesOf, FoundHead}
 use Rattle.program.proofs.Firsts.{FirstParameter, first-parameter}
 use Rattle.program.proofs.Found.{At, member-at}
-use Rattle.program.proofs.Members.{numeral-at, no-member}
+use Rattle.program.proofs.Members.{numeral-at}
 use Rattle.lists.specs.Parts.{Typed, AsksArguments, JudgesArguments, argumentsOf, AsksCalled, JudgesCalled}
 use Rattle.lists.specs.Parts.{readAction, ListsActions, AsksAction, JudgesAction}
 use Rattle.lists.proofs.Places.{placed-passing}

@@ -12,6 +12,7 @@ use Rattle.rules.specs.Syntax.{bool, GlobalTy, variable, header, Global, Progra
 use Rattle.rules.specs.Reading.{Got, got, bad, andThen, _>>=_, pure}
 use Rattle.rules.specs.Form.{andLook, fits, shapeIn}
 use Rattle.rules.specs.Lists.{Cell, variableCell, headerCell, passing, readFields, readShape, readCell, readCells}
+use Rattle.rules.proofs.Predicates.{no-member}
 use Rattle.shape.specs.declared.Scan.{Scan}
 use Rattle.shape.specs.declared.Scan.the-variants.{Past, Fault}
 use Rattle.shape.specs.Scans.{forget, scanOf}
@@ -20,7 +21,7 @@ use Rattle.program.specs.Codes.{tyOf, headerNumber}
 use Rattle.program.specs.Stands.{StandsHeader, StandsProgram}
 use Rattle.program.specs.Looks.{Has, Finds, headersOf, globalsOf, GlobalNumber, FoundGlobal, FoundHeader}
 use Rattle.program.proofs.Found.{At, member-at}
-use Rattle.program.proofs.Members.{no-member, drop-member}
+use Rattle.program.proofs.Members.{drop-member, header-high}
 use Rattle.lists.specs.Listing.{shapeSize, offsetsFrom}
 use Rattle.lists.specs.Parts.{AsksProgram, Fielded, AsksFields, JudgesFields, JudgesHeader, JudgesCell, AsksCells, layOffsets, JudgesCells}
 use Rattle.lists.proofs.Places.{placed-cell, CellAt}
@@ -123,16 +124,11 @@ module _ (nums directory ends : List ℕ) (g at ty : ℕ) where
     unfolding globalsOf FoundGlobal
     type-is P end x s e = found .finds P end x s e
 
-    header-high : (x : GlobalTy) → GlobalNumber ty x → 64 < ty → 128 ≤ ty
-    unfolding GlobalNumber headerNumber
-    header-high (variable t) k l = absurd (omega (arith, k .0))
-    header-high (header n) k l = omega (arith, k .0)
-
     pub cell-high : Has globalsOf nums directory ends g → 64 < ty → 128 ≤ ty
     unfolding globalsOf
     cell-high h l =
         let m : At (h .program .globals) g = member-at (h .program .globals) g (h .inside) in
-        header-high (m .member .ty) (type-is (h .program) (h .end) (m .member) (h .stands) (m .is)) l
+        header-high ty (m .member .ty) l (type-is (h .program) (h .end) (m .member) (h .stands) (m .is))
 
     pub cell-variable : (r : Scan) → ty ≤ 64 → r ≡ scanOf (passing 11 (fits (tyOf ty))) nums at
         → JudgesCell nums directory ends g at r

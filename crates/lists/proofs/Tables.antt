@@ -11,6 +11,7 @@ use Rattle.rules.specs.Syntax.{Key, Table, Program}
 use Rattle.rules.specs.Reading.{andThen, _>>=_, pure, meaning, lookedUp}
 use Rattle.rules.specs.Form.{andLook}
 use Rattle.rules.specs.Lists.{Entry, actionAt, numbered, readPatterns, readArguments, readEntry}
+use Rattle.rules.proofs.Predicates.{no-member}
 use Rattle.rules.proofs.Readers.{looked-in, looked-out}
 use Rattle.shape.specs.declared.Scan.{Scan}
 use Rattle.shape.specs.declared.Scan.the-variants.{Past, Fault}
@@ -18,7 +19,6 @@ use Rattle.shape.specs.Scans.{forget, scanOf}
 use Rattle.program.specs.Stands.{StandsTable, StandsProgram}
 use Rattle.program.specs.Looks.{Has, Finds, tablesOf, FoundTable}
 use Rattle.program.proofs.Found.{At, member-at}
-use Rattle.program.proofs.Members.{no-member}
 use Rattle.program.specs.Keys.{WidthsOf}
 use Rattle.lists.specs.Listing.{AsksLists}
 use Rattle.lists.specs.Parts.{WidthsFrom, Keyed, AsksPatterns, JudgesPatterns}

@@ -6,14 +6,14 @@ ghost use Rattle.lists.specs.Listing.{AsksLists};
 ghost use Rattle.lists.specs.Parts.{AsksArguments, JudgesArguments, AsksCalled, JudgesCalled, AsksAction, JudgesAction, AsksTable, JudgesOfTable, JudgesEntry, JudgesEntries, JudgesEntryList};
 use super::patterns::patterns_at;
 use super::values::typed_at;
+use program::MOST_KEYS;
+use program::WIDTHS;
 use shape::Scan;
 
 // The refusal of a bad or missing number of the entries.
 pub const ENTRY: u64 = 10;
 // The most entries.
 const MOST_ENTRIES: u64 = 64;
-// The most keys of a table, which is the slots that its widths have.
-const MOST_KEYS: usize = 4;
 
 // The arguments for so many parameters, the first of which stands at `parameter`.
 fn arguments_at(nums: &[u64], parameter: usize, count: u64, at: usize) -> Scan
@@ -93,7 +93,7 @@ fn of_table_at(
     nums: &[u64],
     ends: &[u64],
     directory: &[u64; shape::SLOTS],
-    widths: &[u64; super::WIDTHS],
+    widths: &[u64; WIDTHS],
     t: usize,
     at: usize,
 ) -> Scan
@@ -122,7 +122,7 @@ fn entry_at(
     nums: &[u64],
     ends: &[u64],
     directory: &[u64; shape::SLOTS],
-    widths: &[u64; super::WIDTHS],
+    widths: &[u64; WIDTHS],
     at: usize,
 ) -> Scan
     requires { ⌜ AsksLists (now nums) (now directory) (now ends) (now widths) ⌝ }
@@ -151,7 +151,7 @@ fn entries_at(
     nums: &[u64],
     ends: &[u64],
     directory: &[u64; shape::SLOTS],
-    widths: &[u64; super::WIDTHS],
+    widths: &[u64; WIDTHS],
     count: u64,
     at: usize,
     slot: usize,
@@ -193,7 +193,7 @@ pub fn entry_list_at(
     nums: &[u64],
     ends: &[u64],
     directory: &[u64; shape::SLOTS],
-    widths: &[u64; super::WIDTHS],
+    widths: &[u64; WIDTHS],
     at: usize,
     entries: &mut [u64; super::ENTRIES],
 ) -> Scan

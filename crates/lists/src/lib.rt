@@ -8,6 +8,7 @@ mod store;
 mod values;
 
 use entries::entry_list_at;
+use program::WIDTHS;
 use shape::Scan;
 use store::cells_at;
 
@@ -15,8 +16,6 @@ use store::cells_at;
 pub const ENTRIES: usize = 65;
 // How many slots the offsets have: one for each global that a program may have, and one for the store's length.
 pub const OFFSETS: usize = 33;
-// How many slots the widths of keys have, four a table.
-pub const WIDTHS: usize = 32;
 
 // The refusal of numbers left over.
 const LEFT_OVER: u64 = 12;

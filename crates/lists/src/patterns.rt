@@ -8,12 +8,10 @@ ghost use Rattle.shape.specs.Scans.{scanOf};
 ghost use Rattle.lists.specs.Parts.{JudgesLimit, JudgesPattern, AsksPatterns, JudgesPatterns};
 use super::entries::ENTRY;
 use super::values::value_at;
+use program::EXACT;
+use program::LPM;
+use program::WIDTHS;
 use shape::Scan;
-
-// The kinds of keys; any other is ternary.
-const EXACT: u64 = 0;
-
-const LPM: u64 = 1;
 
 // A prefix length within the width, outside which the value is 0.
 fn prefix_at(nums: &[u64], width: u64, value: u64, at: usize) -> Scan
@@ -59,7 +57,7 @@ fn mask_at(nums: &[u64], width: u64, value: u64, at: usize) -> Scan
     }
 }
 
-// What stands behind the value of a key of a kind.
+// What stands behind the value of a key of a kind: one that is neither exact nor lpm is ternary.
 fn limit_at(nums: &[u64], kind: u64, width: u64, value: u64, at: usize) -> Scan
     requires { ⌜ width ≤ widest ⌝ }
     ensures { λ r. ⌜ JudgesLimit (now (nums .entry)) kind width value at r ⌝ }
@@ -89,7 +87,7 @@ fn pattern_at(nums: &[u64], kind: u64, width: u64, at: usize) -> Scan
 pub fn patterns_at(
     nums: &[u64],
     ends: &[u64],
-    widths: &[u64; super::WIDTHS],
+    widths: &[u64; WIDTHS],
     key: usize,
     count: u64,
     slot: usize,

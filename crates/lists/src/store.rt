@@ -6,13 +6,11 @@ use super::values::BOOL;
 use super::values::typed_at;
 use super::values::value_at;
 use shape::Scan;
+use shape::limits::FIRST_HEADER_TYPE;
+use words::widths::WIDEST;
 
 // The refusal of a bad or missing number of the store.
 const STORE: u64 = 11;
-// The widest bit string.
-const WIDEST: u64 = 64;
-// The first header type among the types of globals.
-const FIRST_HEADER_TYPE: u64 = 128;
 
 // The width that a field of a header may fill: 0 is all that fits no bits.
 fn width_under(mark: u64, width: u64) -> u64

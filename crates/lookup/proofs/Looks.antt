@@ -1,6 +1,5 @@
 -- What an entry adds to a look-up, and the entries one after the other.
-use mathlib.Core.Bool.{Bool, true, false}
-use mathlib.Core.Option.{some}
+use mathlib.Core.Bool.{Bool, true, false, false≢true}
 use mathlib.Core.Path.{_≡_, refl, sym, _∙_}
 use mathlib.Core.List.{List, [], _∷_}
 use Prim.Native.Nat.{ℕ, _+_, _-_, _*_, _^_, _<_}
@@ -11,12 +10,13 @@ use borrow.Author.Tests.{eq-eqb, ne-eqb}
 use Rattle.rules.specs.Syntax.{Table, Program}
 use Rattle.rules.specs.Lists as Lists
 use Rattle.rules.specs.Lists.{Pattern, actionAt}
-use Rattle.rules.specs.Running.{Worked, patternsFit, argumentsGiven, matchesAll, prefixOf, longestWins, better, lookUp, entriesOf, entriesFit}
+use Rattle.rules.specs.Running.{Worked, patternsFit, argumentsGiven, matchesAll, prefixOf, longestWins, beats, better, lookUp, entriesOf, entriesFit}
 use Rattle.rules.specs.Running as rules
+use Rattle.rules.proofs.Callables.{some-same}
 use Rattle.rules.proofs.Predicates.{and-both}
 use Rattle.lists.specs.Listing.{patternsSize}
 use Rattle.lookup.specs.Matching.{widthsOf, KeyPatterns, AsksMatch, Matched, matched, unmatched, TellsMatch}
-use Rattle.lookup.specs.LookingUp.{AsksKeys, TellsLongest, BestStands, entry, none, TellsBetter, Sought, AsksStep, TellsStep, StandsEntries, SoughtIn, AsksLook, TellsLook, Looked, entry-found, nothing-found, TellsLookUp}
+use Rattle.lookup.specs.LookingUp.{AsksKeys, TellsLongest, BestStands, entry, none, TellsBetter, Sought, AsksStep, TellsStep, settledAs, StandsEntries, SoughtIn, AsksLook, TellsLook, Looked, entry-found, nothing-found, TellsLookUp}
 use Rattle.lookup.specs.declared.Match.{Match}
 use Rattle.lookup.specs.declared.Match.the-variants.{Yes, No}
 use Rattle.lookup.specs.declared.Best.{Best}
@@ -66,9 +66,6 @@ own-fits P T widths e es h =
     let a : (patternsFit widths (e .patterns) ≡ true) × _ = and-both (patternsFit widths (e .patterns)) _ h in
     (a .0, and-both (argumentsGiven (actionAt P T (e .position)) (e .arguments)) _ (a .1))
 
-same-some : {T U : Table} → some T ≡ some U → T ≡ U
-same-some q = cc
-
 module _ (nums ends widths keys : List ℕ) (t table at : ℕ) where
   -- an entry of the table asks of its keys
   own-patterns : {P : Program} {T : Table} {ws : List Worked} {e : Lists.Entry}
@@ -77,7 +74,7 @@ module _ (nums ends widths keys : List ℕ) (t table at : ℕ) where
   own-patterns {P = P} {T = T} {ws = ws} {e = e} h q =
       let own : e .table ≡ t = sym (h .entryStands .number .is) ∙ q in
       let same : h .entryStands .table ≡ T
-      = same-some (sym (h .entryStands .tableIs) ∙ (rw own (h .tableIs))) in
+      = some-same (sym (h .entryStands .tableIs) ∙ (rw own (h .tableIs))) in
       record {
         keysStand = h .stands .keys;
         counts = h .stands .keyCount .holds .is;
@@ -227,6 +224,26 @@ first-of nums ends entries widths keys t table i left P T ws (e ∷ es) h more =
       };
     }
 
+-- where the earliest wins, an entry that is found does not give way
+earliest-stays : (ws : List Worked) (b : Lists.Entry) (es : List Lists.Entry)
+    → lookUp false ws (rules.found b) es ≡ rules.found b
+unfolding lookUp better beats
+earliest-stays ws b [] = refl
+earliest-stays ws b (e ∷ es) = go (matchesAll ws (e .patterns)) (earliest-stays ws b es)
+  where
+    go : (m : Bool) → lookUp false ws (rules.found b) es ≡ rules.found b
+        → elim m [ true ↦ lookUp false ws (better false (rules.found b) e) es | false ↦ lookUp false ws (rules.found b) es ]
+        ≡ rules.found b
+    go true h = h
+    go false h = h
+
+settled-stays : {nums : List ℕ} {f : rules.Found} (longest : Bool) (a : Best) (ws : List Worked)
+    (es : List Lists.Entry) → BestStands nums f a → settledAs longest a ≡ true → lookUp longest ws f es ≡ f
+unfolding settledAs
+settled-stays true a ws es (entry p g k) q = absurd (false≢true q)
+settled-stays false a ws es (entry {e = b} p g k) q = earliest-stays ws b es
+settled-stays longest a ws es none q = absurd (false≢true q)
+
 -- a look-up goes on from what its first entry gives
 look-on : (longest : Bool) (ws : List Worked) (f : rules.Found) (t : ℕ) (e : Lists.Entry) (es : List Lists.Entry)
     → lookUp longest ws f (entriesOf t (e ∷ es))
@@ -294,22 +311,41 @@ module _ (nums ends entries widths keys : List ℕ) (t table i left : ℕ) where
         go ws [] c f s = s
         go ws (x ∷ es) c f s = absurd (omega (arith, e, c))
 
-    pub look-further : (a r : Best) → (left ≡ 0 → ⊥)
-        → TellsStep nums ends widths keys t table longest (getD entries i 0) best a
-        → TellsLook nums ends entries widths keys t table longest (i + 1) (left - 1) a r
-        → TellsLook nums ends entries widths keys t table longest i left best r
-    look-further a r more u v =
+    pub look-settled : (a : Best) (b : Bool) → (left ≡ 0 → ⊥)
+        → TellsStep nums ends widths keys t table longest (getD entries i 0) best a → b ≡ settledAs longest a
+        → b ≡ true → TellsLook nums ends entries widths keys t table longest i left best a
+    look-settled a b more u q k =
         record { told = λ P T ws es h f s. go (first-of _ _ _ _ _ _ _ _ _ P T ws es h more) f s }
       where
         go : {P : Program} {T : Table} {ws : List Worked} {es : List Lists.Entry}
             → First nums ends entries widths keys t table i left P T ws es → (f : rules.Found)
-            → BestStands nums f best → BestStands nums (lookUp longest ws f (entriesOf t es)) r
+            → BestStands nums f best → BestStands nums (lookUp longest ws f (entriesOf t es)) a
+        go {P = P} {T = T} {ws = ws} o f s =
+            let here : BestStands nums (lookUp longest ws f (entriesOf t (o .entry ∷ []))) a
+            = u .told P T ws (o .entry) (o .first) f s in
+            rw (
+              o .same,
+              look-on longest ws f t (o .entry) (o .others),
+              settled-stays longest a ws (entriesOf t (o .others)) here (sym q ∙ k),
+            )
+            here
+
+    pub look-further : (a b r : Best) → (left ≡ 0 → ⊥)
+        → TellsStep nums ends widths keys t table longest (getD entries i 0) best a
+        → TellsLook nums ends entries widths keys t table longest (i + 1) (left - 1) a b → b ≡ r
+        → TellsLook nums ends entries widths keys t table longest i left best r
+    look-further a b r more u v q =
+        record { told = λ P T ws es h f s. rw (← q) (go (first-of _ _ _ _ _ _ _ _ _ P T ws es h more) f s) }
+      where
+        go : {P : Program} {T : Table} {ws : List Worked} {es : List Lists.Entry}
+            → First nums ends entries widths keys t table i left P T ws es → (f : rules.Found)
+            → BestStands nums f best → BestStands nums (lookUp longest ws f (entriesOf t es)) b
         go {P = P} {T = T} {ws = ws} o f s =
             rw (o .same, look-on longest ws f t (o .entry) (o .others))
             (v .told P T ws (o .others) (o .rest) (lookUp longest ws f (entriesOf t (o .entry ∷ [])))
             (u .told P T ws (o .entry) (o .first) f s))
 
-pub ruleset looks = (slot-inside, slot-next, step-asked, look-asked, look-ended, look-further)
+pub ruleset looks = (slot-inside, slot-next, step-asked, look-asked, look-ended, look-settled, look-further)
 
 -- the whole look-up
 module _ (nums ends entries widths keys : List ℕ) (t table : ℕ) where

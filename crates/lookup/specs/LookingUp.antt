@@ -1,5 +1,5 @@
 -- The look-up of a table: whether the longest prefix wins, and the entry that is found, as the rules say.
-use mathlib.Core.Bool.{Bool, true}
+use mathlib.Core.Bool.{Bool, true, false, not}
 use mathlib.Core.Option.{some}
 use mathlib.Core.Path.{_≡_}
 use mathlib.Core.List.{List, [], _∷_}
@@ -75,6 +75,11 @@ pub record TellsStep (nums ends widths keys : List ℕ) (t table : ℕ) (longest
   pub told : (P : Program) (T : Table) (ws : List Worked) (e : Lists.Entry)
       → Sought nums ends widths keys t table at P T ws e → (f : rules.Found) → BestStands nums f best
       → BestStands nums (lookUp longest ws f (entriesOf t (e ∷ []))) r
+
+-- no later entry changes what is found
+unfoldable pub settledAs : Bool → Best → Bool
+settledAs longest (Entry action prefix) = not longest
+settledAs longest Nothing = false
 
 -- entries whose places stand in slots one after the other
 unfoldable pub StandsEntries : Program → List ℕ → List ℕ → ℕ → List Lists.Entry → Type 0

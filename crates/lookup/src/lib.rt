@@ -4,12 +4,11 @@ ghost use lib.ListN.{getD};
 ghost use Rattle.lookup.specs.LookingUp.{AsksLook, TellsLookUp};
 use looking::longest_wins;
 use looking::look_from;
+use program::MOST_KEYS;
+use program::WIDTHS;
 
 mod looking;
 mod matching;
-
-// The most keys of a table: as many slots have their widths, and as many their numbers.
-pub const MOST_KEYS: usize = 4;
 
 // Whether all keys match an entry's patterns: the prefix length of its lpm key, or 0 where it has none, and the index
 // behind the patterns.
@@ -35,7 +34,7 @@ pub fn look_up(
     nums: &[u64],
     ends: &[u64],
     entries: &[u64; lists::ENTRIES],
-    widths: &[u64; lists::WIDTHS],
+    widths: &[u64; WIDTHS],
     keys: &[u64; MOST_KEYS],
     t: u64,
     table: usize,

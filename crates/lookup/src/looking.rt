@@ -1,13 +1,13 @@
 // The look-up among the entries of a table.
-ghost use Rattle.lookup.specs.LookingUp.{AsksKeys, TellsAny, TellsLongest, TellsBetter, AsksStep, TellsStep, AsksLook, TellsLook};
+ghost use mathlib.Core.Path.{_≡_};
+ghost use Rattle.lookup.specs.LookingUp.{AsksKeys, TellsAny, TellsLongest, TellsBetter, AsksStep, TellsStep, settledAs, AsksLook, TellsLook};
 use super::matching::match_from;
 use crate::Best;
 use crate::Match;
-
-// The kinds of keys that decide whether the longest prefix wins.
-const LPM: u64 = 1;
-
-const TERNARY: u64 = 2;
+use program::LPM;
+use program::MOST_KEYS;
+use program::TERNARY;
+use program::WIDTHS;
 
 // Whether one of so many keys, the first of which stands at `from`, is of a kind.
 fn any_key(nums: &[u64], ends: &[u64], kind: u64, from: usize, count: u64) -> bool
@@ -72,8 +72,8 @@ fn better(longest: bool, best: Best, action: usize, prefix: u64) -> Best
 fn step(
     nums: &[u64],
     ends: &[u64],
-    widths: &[u64; lists::WIDTHS],
-    keys: &[u64; super::MOST_KEYS],
+    widths: &[u64; WIDTHS],
+    keys: &[u64; MOST_KEYS],
     t: u64,
     table: usize,
     longest: bool,
@@ -84,7 +84,7 @@ fn step(
     ensures { λ r. ⌜ TellsStep (now (nums .entry)) (now (ends .entry)) (now (widths .entry)) (now (keys .entry)) t table longest at best r ⌝ }
 {
     if nums[at] == t {
-        let slot = super::MOST_KEYS * t as usize;
+        let slot = MOST_KEYS * t as usize;
         let keyed = match_from(
             nums,
             ends,
@@ -105,13 +105,26 @@ fn step(
     }
 }
 
+// Whether no later entry changes what is found: where the earliest wins, an entry does not give way.
+fn settled(longest: bool, found: Best) -> bool
+    ensures { λ r. ⌜ r ≡ settledAs longest found ⌝ }
+{
+    match found {
+        Best::Entry {
+            action: _,
+            prefix: _,
+        } => !longest,
+        Best::Nothing => false,
+    }
+}
+
 // What is found once so many entries are looked at, whose places stand from slot `i` on.
 pub(crate) fn look_from(
     nums: &[u64],
     ends: &[u64],
     entries: &[u64; lists::ENTRIES],
-    widths: &[u64; lists::WIDTHS],
-    keys: &[u64; super::MOST_KEYS],
+    widths: &[u64; WIDTHS],
+    keys: &[u64; MOST_KEYS],
     t: u64,
     table: usize,
     longest: bool,
@@ -127,18 +140,26 @@ pub(crate) fn look_from(
     } else {
         let at = entries[i] as usize;
         let found = step(nums, ends, widths, keys, t, table, longest, at, best);
-        look_from(
-            nums,
-            ends,
-            entries,
-            widths,
-            keys,
-            t,
-            table,
-            longest,
-            i + 1,
-            left - 1,
-            found,
-        )
+        if settled(longest, found) {
+            found
+        } else {
+            let rest = look_from(
+                nums,
+                ends,
+                entries,
+                widths,
+                keys,
+                t,
+                table,
+                longest,
+                i + 1,
+                left - 1,
+                found,
+            );
+            match rest {
+                Best::Entry { action, prefix } => Best::Entry { action, prefix },
+                Best::Nothing => Best::Nothing,
+            }
+        }
     }
 }

@@ -1,11 +1,10 @@
 // The keys of a table against the patterns of an entry.
 ghost use Rattle.lookup.specs.Matching.{AsksOne, TellsOne, AsksMatch, TellsMatch};
 use crate::Match;
-
-// The kinds of keys.
-const EXACT: u64 = 0;
-
-const LPM: u64 = 1;
+use program::EXACT;
+use program::LPM;
+use program::MOST_KEYS;
+use program::WIDTHS;
 
 // Whether a key matches, where the next pattern stands, and the prefix length where the key is lpm.
 struct One {
@@ -18,8 +17,8 @@ struct One {
 // One key against one pattern.
 fn match_one(
     nums: &[u64],
-    widths: &[u64; lists::WIDTHS],
-    keys: &[u64; super::MOST_KEYS],
+    widths: &[u64; WIDTHS],
+    keys: &[u64; MOST_KEYS],
     from: usize,
     slot: usize,
     j: usize,
@@ -60,8 +59,8 @@ fn match_one(
 pub(crate) fn match_from(
     nums: &[u64],
     ends: &[u64],
-    widths: &[u64; lists::WIDTHS],
-    keys: &[u64; super::MOST_KEYS],
+    widths: &[u64; WIDTHS],
+    keys: &[u64; MOST_KEYS],
     from: usize,
     count: u64,
     slot: usize,

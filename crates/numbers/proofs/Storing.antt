@@ -69,7 +69,7 @@ unfolding writeLeaves
 storing-start ns bytes h =
     record { inside = omega arith; room = omega arith; same = refl; leads = filled-stored (bytesOf ns) bytes h }
 
-sets-append : (us vs l : List ℕ) (i : ℕ) → sets l i (us ++ vs) ≡ sets (sets l i us) (i + length us) vs
+pub sets-append : (us vs l : List ℕ) (i : ℕ) → sets l i (us ++ vs) ≡ sets (sets l i us) (i + length us) vs
 sets-append [] vs l i = rw (add-zero i)
 sets-append (u ∷ us) vs l i =
     let e : suc i + length us ≡ i + suc (length us) = omega arith in

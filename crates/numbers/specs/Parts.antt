@@ -32,6 +32,10 @@ pub record NumberAt (bytes : List ℕ) (place : ℕ) (r : Number) : Type 0 where
 pub data Readable (bytes : List ℕ) (room : ℕ) : Type 0 where
   readable : (ns : List ℕ) → streamOf bytes ≡ numbers ns → length ns ≤ room → Readable bytes room
 
+-- slots for all numbers that the bytes may hold
+pub record Roomy (bytes : List ℕ) (lent : ℕ) : Type 0 where
+  pub holds : (ns : List ℕ) → streamOf bytes ≡ numbers ns → length ns ≤ lent
+
 -- a number stored from a place on, and the place behind it
 pub record Stored (number place : ℕ) (bytes : List ℕ) (next : ℕ) (left : List ℕ) : Type 0 where
   pub behind : next ≡ place + length (bytesOfNumber number)

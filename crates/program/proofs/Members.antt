@@ -1,17 +1,18 @@
 -- The members of lists of numbers, by position; types as numbers.
-use mathlib.Core.Option.{none, some}
+use mathlib.Core.Option.{some}
 use mathlib.Core.Path.{_≡_, refl, sym}
 use mathlib.Core.List.{List, [], _∷_}
-use Prim.Native.Nat.{ℕ, zero, suc, _+_, _*_, _≤_}
+use Prim.Native.Nat.{ℕ, zero, suc, _+_, _*_, _≤_, _<_}
 use native.Mathlib.Omega.{arith}
-use lib.ListN.{length, getElem?, drop}
+use lib.ListN.{getElem?, drop}
 use lib.Dec.{eqb}
 use borrow.Author.Tests.{ne-eqb}
 use Rattle.rules.specs.Words.{widest}
-use Rattle.rules.specs.Syntax.{Ty, bits, Parameter, Numeral}
+use Rattle.rules.specs.Syntax.{Ty, bits, Parameter, Numeral, GlobalTy, variable, header}
 use Rattle.rules.specs.Form.{sameTy}
-use Rattle.program.specs.Codes.{tyOf, directionNumber}
+use Rattle.program.specs.Codes.{tyOf, headerNumber, directionNumber}
 use Rattle.program.specs.Stands.{Holds, HoldsWithin, HoldsTy, StandsWidths, StandsTypes, StandsParameters, StandsNumeral, StandsNumerals}
+use Rattle.program.specs.Looks.{GlobalNumber}
 
 -- a parameter where it stands
 pub record StandsParameter (nums : List ℕ) (at : ℕ) (p : Parameter) : Type 0 where
@@ -66,12 +67,7 @@ numeral-at nums at (m ∷ ns) s (suc i) n e =
     let next : at + suc i ≡ at + 1 + i = omega arith in
     rw next (numeral-at nums (at + 1) ns (s .1) i n e)
 
--- no member where the list is too short
-pub no-member : {A : Type 0} (xs : List A) (i : ℕ) → length xs ≤ i → getElem? xs i ≡ none
-no-member [] i h = refl
-no-member (x ∷ xs) zero h = absurd (omega arith)
-no-member (x ∷ xs) (suc i) h = no-member xs i (omega arith)
-
+-- from a member on
 pub drop-member : {A : Type 0} (xs : List A) (i : ℕ) (x : A) → getElem? xs i ≡ some x
     → drop i xs ≡ x ∷ drop (suc i) xs
 drop-member [] i x e = let z : _≡_ {A = ℕ} 0 1 = cc in absurd (omega arith)
@@ -92,3 +88,9 @@ pub bits-of : (width : ℕ) → 1 ≤ width → tyOf width ≡ bits width
 unfolding tyOf
 bits-of zero h = absurd (omega arith)
 bits-of (suc width) h = refl
+
+-- a number above every width is a header type's
+pub header-high : (n : ℕ) (t : GlobalTy) → widest < n → GlobalNumber n t → 128 ≤ n
+unfolding GlobalNumber headerNumber
+header-high n (variable t) h g = absurd (omega (arith, g .0))
+header-high n (header i) h g = omega (arith, g .0)

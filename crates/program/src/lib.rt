@@ -30,6 +30,18 @@ pub const FUNCTION: u64 = 1;
 
 pub const APPLY: u64 = 2;
 
+// The kinds of keys.
+pub const EXACT: u64 = 0;
+
+pub const LPM: u64 = 1;
+
+pub const TERNARY: u64 = 2;
+
+// The most keys of a table: as many slots have their widths, and as many their numbers.
+pub const MOST_KEYS: usize = shape::limits::MOST_KEYS as usize;
+// How many slots the widths of keys have, four a table.
+pub const WIDTHS: usize = 32;
+
 // A callable's kind, the type that a function returns, where its parameters begin and how many they are.
 pub struct Head {
     pub kind: u64,

@@ -25,7 +25,7 @@ AllJudged P n cs = (i : ℕ) (c : Callable) → getElem? cs i ≡ some c → jud
 none-some : {A : Type 0} {a : A} → none ≡ some a → ⊥
 none-some e = let z : _≡_ {A = ℕ} 0 1 = cc in omega arith
 
-some-same : {A : Type 0} {a b : A} → some a ≡ some b → a ≡ b
+pub some-same : {A : Type 0} {a b : A} → some a ≡ some b → a ≡ b
 some-same e = cc
 
 judged-nil : (P : Program) (n : ℕ) → AllJudged P n []
@@ -63,7 +63,8 @@ below-out : (P : Program) (n f : ℕ) → ltb f n ≡ false → callableBelow P 
 unfolding callableBelow onlyIf
 below-out P n f e = rw e
 
-ceilings-length : (P : Program) (n : ℕ) → length (ceilingsBelow P n) ≡ n
+-- as many ceilings as callables below a number
+pub ceilings-length : (P : Program) (n : ℕ) → length (ceilingsBelow P n) ≡ n
 unfolding ceilingsBelow
 ceilings-length P zero = refl
 ceilings-length P (suc n) = length-append (ceilingsBelow P n) _ ∙ (add-one (length (ceilingsBelow P n)) ∙ ap suc

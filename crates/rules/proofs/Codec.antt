@@ -22,7 +22,7 @@ equal-or-not n m = go (eqb n m) refl
     go true e = inl (eqb-true n m e)
     go false e = inr (eqb-false n m e)
 
-below-or-not : (n m : ℕ) → (n < m) ⊎ (m ≤ n)
+pub below-or-not : (n m : ℕ) → (n < m) ⊎ (m ≤ n)
 below-or-not n m = go (ltb n m) refl
   where
     go : (b : Bool) → ltb n m ≡ b → (n < m) ⊎ (m ≤ n)

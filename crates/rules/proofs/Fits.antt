@@ -343,8 +343,8 @@ pub bool-ok : {v : Value} → HasTy bool v → SomeOf (HasTy bool) (aBool v)
 unfolding aBool
 bool-ok (has h) = isSome (has h)
 
--- stores that fit one program have as many numbers
-all2-length : {A B : Type 0} {R : A → B → Type 0} {xs : List A} {ys : List B} → All2 R xs ys → length ys ≡ length xs
+-- lists that fit one another are as long
+pub all2-length : {A B : Type 0} {R : A → B → Type 0} {xs : List A} {ys : List B} → All2 R xs ys → length ys ≡ length xs
 all2-length nil = refl
 all2-length (cons r rs) = ap suc (all2-length rs)
 
@@ -367,6 +367,7 @@ global-length (globalFits {shape = x} e h) (globalFits {shape = y} q k) = cell-l
     same : {o : Option Shape} → o ≡ some x → o ≡ some y → x ≡ y
     same e q = cc
 
+-- stores that fit one program have as many numbers
 cells-length : {P : Program} {gs : List Global} {cs ds : List Cell} → All2 (GlobalFits P) gs cs
     → All2 (GlobalFits P) gs ds → length (slotsOf cs) ≡ length (slotsOf ds)
 unfolding slotsOf

@@ -10,7 +10,6 @@ pub mod Limits
 pub mod Accepted
 pub mod Alike
 pub mod Room
-pub mod Saturating
 pub mod Codec
 pub mod Same
 pub mod Promises

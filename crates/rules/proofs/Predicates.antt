@@ -23,6 +23,12 @@ and-both false b e = absurd (false≢true e)
 pub both-true : (a b : Bool) → a ≡ true → b ≡ true → (a && b) ≡ true
 both-true a b e q = rw (e, q)
 
+-- no member where the list is too short
+pub no-member : {A : Type 0} (xs : List A) (i : ℕ) → length xs ≤ i → getElem? xs i ≡ none
+no-member [] i h = refl
+no-member (x ∷ xs) zero h = absurd (omega arith)
+no-member (x ∷ xs) (suc i) h = no-member xs i (omega arith)
+
 -- pointwise
 pub data All2 {A B : Type 0} (R : A → B → Type 0) : List A → List B → Type 0 where
   nil : All2 R [] []

@@ -2,7 +2,6 @@
 use mathlib.Core.Path.{_≡_, sym, _∙_}
 use Prim.Native.Nat.{ℕ, _<_, _≤_, _^_}
 use mathlib.Core.List.{List, [], _∷_}
-use lib.Dec.{leb}
 use lib.ListN.{length}
 use Rattle.rules.specs.declared.ReadAnswer.{ReadAnswer}
 use Rattle.rules.specs.declared.WriteAnswer.{WriteAnswer}
@@ -10,7 +9,7 @@ use Rattle.rules.specs.declared.JudgeAnswer.{JudgeAnswer}
 use Rattle.rules.specs.declared.RunAnswer.{RunAnswer}
 use Rattle.rules.specs.Numbers.{mostBytes, numbers, streamOf, bytesOf}
 use Rattle.rules.specs.Syntax.{Program}
-use Rattle.rules.specs.Ceiling.{mostSteps, calleeIn, ceilingsBelow, ceilingOf}
+use Rattle.rules.specs.Ceiling.{calleeIn, ceilingsBelow, ceilingOf}
 use Rattle.rules.specs.Lists.{Cell, slotsOf}
 use Rattle.rules.specs.Running.{full, callsBelow, runProgram}
 use Rattle.rules.specs.Answers.{ofRead, ofWrite, ofJudge, ofRun, readSays, writeSays, judgeSays, runSays, Bench, judged, accepted, workingSlots, marked}
@@ -20,7 +19,6 @@ use Rattle.rules.proofs.Callables.{AllJudged, calls-below}
 use Rattle.rules.proofs.Accepted.{Ends, accepted-ends, never-stuck, Answered, judge-answers}
 use Rattle.rules.proofs.Limits.{mostSlots}
 use Rattle.rules.proofs.Room.{accepted-same, accepted-not-full}
-use Rattle.rules.proofs.Saturating.{countOf, same-refusal, exact-below}
 use Rattle.rules.proofs.Codec.{Below, read-write, write-one-form, write-below}
 use Rattle.rules.proofs.Same.{read-same, write-same, judge-same, run-same}
 
@@ -63,13 +61,6 @@ calls-sound = calls-below
 -- The ceiling is a function of the program alone: no entry and no store occurs in its type.
 pub ceiling : Program → ℕ
 ceiling = ceilingOf
-
--- Counted with sums that are cut at 1,000,001 it gives the same refusals 9, and where 9 is not given the same ceiling.
-pub ceiling-cut : (P : Program) → leb (countOf P) mostSteps ≡ leb (ceilingOf P) mostSteps
-ceiling-cut = same-refusal
-
-pub ceiling-exact : (P : Program) → ceilingOf P ≤ mostSteps → countOf P ≡ ceilingOf P
-ceiling-exact = exact-below
 
 -- Demand 2, numbers: what is written reads back; a list has one byte form; written bytes are bytes.
 pub written-reads : (ns : List ℕ) → Below (2 ^ 64) ns → 0 < length (bytesOf ns) → length (bytesOf ns) ≤ mostBytes

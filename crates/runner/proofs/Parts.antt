@@ -9,8 +9,8 @@ use borrow.Rule.Slice.PartAt.{part-to-end}
 use borrow.Rule.Slice.PartMut.{putMid, postOf, take-put, same-len-mid}
 use Rattle.rules.specs.Form.{Scope}
 use Rattle.rules.specs.Running.{State}
+use Rattle.rules.proofs.Fits.{all2-length}
 use Rattle.store.specs.Mirrors.{MirrorsFrame, Scene}
-use Rattle.store.proofs.Flat.{same-length}
 use Rattle.steps.specs.Outcomes.{Laid}
 use Rattle.steps.specs.Calls.{ownOf}
 
@@ -66,7 +66,7 @@ pub scene-kept : {nums directory ends scope offsets slots frame : List ℕ} {Γ 
     → Scene nums directory ends scope offsets slots (set frame slot n) Γ s
 scene-kept {frame = frame} {Γ = Γ} {s = s} slot n h own =
     let few : length (s .parameters) + length (s .locals) ≡ ownOf Γ
-    = omega (arith, same-length (h .fits .parameters-fit), same-length (h .fits .locals-fit)) in
+    = omega (arith, all2-length (h .fits .parameters-fit), all2-length (h .fits .locals-fit)) in
     record {
       scopes = h .scopes;
       offset = h .offset;

@@ -11,14 +11,12 @@ use steps::calls::own_slots;
 use steps::calls::returned;
 use steps::operands;
 use steps::operands::count_step;
+use shape::limits::DEEPEST;
 use store::STORE;
 use store::fill::clear;
 use store::fill::copy;
 use store::write_place;
 use values::Value;
-
-// The most levels of a body or a key.
-pub(crate) const DEEPEST: usize = 32;
 
 // The direction of a parameter that takes nothing in.
 const OUT: u64 = 2;
@@ -44,7 +42,7 @@ fn run_expr(
     scope: &[u64; program::SCOPE],
     offsets: &[u64; lists::OFFSETS],
     entries: &[u64; lists::ENTRIES],
-    widths: &[u64; lists::WIDTHS],
+    widths: &[u64; program::WIDTHS],
     depth: usize,
     at: usize,
     slots: &mut [u64; STORE],
@@ -176,7 +174,7 @@ fn run_leaf(
     scope: &[u64; program::SCOPE],
     offsets: &[u64; lists::OFFSETS],
     entries: &[u64; lists::ENTRIES],
-    widths: &[u64; lists::WIDTHS],
+    widths: &[u64; program::WIDTHS],
     depth: usize,
     at: usize,
     slots: &mut [u64; STORE],
@@ -197,7 +195,7 @@ fn run_one(
     scope: &[u64; program::SCOPE],
     offsets: &[u64; lists::OFFSETS],
     entries: &[u64; lists::ENTRIES],
-    widths: &[u64; lists::WIDTHS],
+    widths: &[u64; program::WIDTHS],
     depth: usize,
     at: usize,
     first: usize,
@@ -232,7 +230,7 @@ fn run_two(
     scope: &[u64; program::SCOPE],
     offsets: &[u64; lists::OFFSETS],
     entries: &[u64; lists::ENTRIES],
-    widths: &[u64; lists::WIDTHS],
+    widths: &[u64; program::WIDTHS],
     depth: usize,
     at: usize,
     first: usize,
@@ -285,7 +283,7 @@ fn run_value(
     scope: &[u64; program::SCOPE],
     offsets: &[u64; lists::OFFSETS],
     entries: &[u64; lists::ENTRIES],
-    widths: &[u64; lists::WIDTHS],
+    widths: &[u64; program::WIDTHS],
     depth: usize,
     at: usize,
     slots: &mut [u64; STORE],
@@ -319,7 +317,7 @@ fn run_call(
     scope: &[u64; program::SCOPE],
     offsets: &[u64; lists::OFFSETS],
     entries: &[u64; lists::ENTRIES],
-    widths: &[u64; lists::WIDTHS],
+    widths: &[u64; program::WIDTHS],
     depth: usize,
     at: usize,
     slots: &mut [u64; STORE],
@@ -383,7 +381,7 @@ fn run_args(
     scope: &[u64; program::SCOPE],
     offsets: &[u64; lists::OFFSETS],
     entries: &[u64; lists::ENTRIES],
-    widths: &[u64; lists::WIDTHS],
+    widths: &[u64; program::WIDTHS],
     depth: usize,
     at: usize,
     parameters: usize,
@@ -439,7 +437,7 @@ fn run_arg(
     scope: &[u64; program::SCOPE],
     offsets: &[u64; lists::OFFSETS],
     entries: &[u64; lists::ENTRIES],
-    widths: &[u64; lists::WIDTHS],
+    widths: &[u64; program::WIDTHS],
     depth: usize,
     at: usize,
     parameters: usize,
@@ -477,7 +475,7 @@ fn run_body(
     directory: &[u64; shape::SLOTS],
     offsets: &[u64; lists::OFFSETS],
     entries: &[u64; lists::ENTRIES],
-    widths: &[u64; lists::WIDTHS],
+    widths: &[u64; program::WIDTHS],
     f: usize,
     slots: &mut [u64; STORE],
     frame: &mut [u64],
@@ -522,7 +520,7 @@ pub(crate) fn run_stmt(
     scope: &[u64; program::SCOPE],
     offsets: &[u64; lists::OFFSETS],
     entries: &[u64; lists::ENTRIES],
-    widths: &[u64; lists::WIDTHS],
+    widths: &[u64; program::WIDTHS],
     depth: usize,
     at: usize,
     slots: &mut [u64; STORE],
@@ -635,7 +633,7 @@ fn run_single(
     scope: &[u64; program::SCOPE],
     offsets: &[u64; lists::OFFSETS],
     entries: &[u64; lists::ENTRIES],
-    widths: &[u64; lists::WIDTHS],
+    widths: &[u64; program::WIDTHS],
     depth: usize,
     at: usize,
     slots: &mut [u64; STORE],
@@ -656,7 +654,7 @@ fn run_assign(
     scope: &[u64; program::SCOPE],
     offsets: &[u64; lists::OFFSETS],
     entries: &[u64; lists::ENTRIES],
-    widths: &[u64; lists::WIDTHS],
+    widths: &[u64; program::WIDTHS],
     depth: usize,
     at: usize,
     slots: &mut [u64; STORE],
@@ -692,7 +690,7 @@ fn run_if(
     scope: &[u64; program::SCOPE],
     offsets: &[u64; lists::OFFSETS],
     entries: &[u64; lists::ENTRIES],
-    widths: &[u64; lists::WIDTHS],
+    widths: &[u64; program::WIDTHS],
     depth: usize,
     at: usize,
     slots: &mut [u64; STORE],
@@ -756,7 +754,7 @@ fn run_block(
     scope: &[u64; program::SCOPE],
     offsets: &[u64; lists::OFFSETS],
     entries: &[u64; lists::ENTRIES],
-    widths: &[u64; lists::WIDTHS],
+    widths: &[u64; program::WIDTHS],
     depth: usize,
     at: usize,
     slots: &mut [u64; STORE],
@@ -791,7 +789,7 @@ fn run_stmts(
     scope: &[u64; program::SCOPE],
     offsets: &[u64; lists::OFFSETS],
     entries: &[u64; lists::ENTRIES],
-    widths: &[u64; lists::WIDTHS],
+    widths: &[u64; program::WIDTHS],
     depth: usize,
     at: usize,
     count: u64,
@@ -838,7 +836,7 @@ fn run_call_stmt(
     scope: &[u64; program::SCOPE],
     offsets: &[u64; lists::OFFSETS],
     entries: &[u64; lists::ENTRIES],
-    widths: &[u64; lists::WIDTHS],
+    widths: &[u64; program::WIDTHS],
     depth: usize,
     at: usize,
     slots: &mut [u64; STORE],
@@ -872,7 +870,7 @@ fn run_return(
     scope: &[u64; program::SCOPE],
     offsets: &[u64; lists::OFFSETS],
     entries: &[u64; lists::ENTRIES],
-    widths: &[u64; lists::WIDTHS],
+    widths: &[u64; program::WIDTHS],
     depth: usize,
     at: usize,
     slots: &mut [u64; STORE],
@@ -909,7 +907,7 @@ fn run_apply(
     scope: &[u64; program::SCOPE],
     offsets: &[u64; lists::OFFSETS],
     entries: &[u64; lists::ENTRIES],
-    widths: &[u64; lists::WIDTHS],
+    widths: &[u64; program::WIDTHS],
     depth: usize,
     at: usize,
     slots: &mut [u64; STORE],
@@ -942,7 +940,7 @@ fn run_table(
     scope: &[u64; program::SCOPE],
     offsets: &[u64; lists::OFFSETS],
     entries: &[u64; lists::ENTRIES],
-    widths: &[u64; lists::WIDTHS],
+    widths: &[u64; program::WIDTHS],
     t: u64,
     slots: &mut [u64; STORE],
     frame: &mut [u64],
@@ -954,8 +952,8 @@ fn run_table(
     let table = parts.at;
     let actions = parts.actions;
     let default = parts.default;
-    let mut keys = [0u64; lookup::MOST_KEYS];
-    let slot = lookup::MOST_KEYS * t as usize;
+    let mut keys = [0u64; program::MOST_KEYS];
+    let slot = program::MOST_KEYS * t as usize;
     run_keys(
         nums,
         ends,
@@ -1012,14 +1010,14 @@ fn run_keys(
     scope: &[u64; program::SCOPE],
     offsets: &[u64; lists::OFFSETS],
     entries: &[u64; lists::ENTRIES],
-    widths: &[u64; lists::WIDTHS],
+    widths: &[u64; program::WIDTHS],
     slot: usize,
     j: usize,
     from: usize,
     count: u64,
     slots: &mut [u64; STORE],
     frame: &mut [u64],
-    keys: &mut [u64; lookup::MOST_KEYS],
+    keys: &mut [u64; program::MOST_KEYS],
 )
     requires { ⌜ AsksKeys (now nums) (now directory) (now ends) (now scope) (now offsets) (now entries) (now widths) (now slots) (now frame) (now keys) slot j from count ⌝ }
     ensures { λ r. ⌜ RunsKeys (now (nums .entry)) (now (directory .entry)) (now (ends .entry)) (now (scope .entry)) (now (offsets .entry)) (now (entries .entry)) (now (widths .entry)) (now (slots .entry)) (now (slots .exit)) (now (frame .entry)) (now (frame .exit)) (now (keys .entry)) (now (keys .exit)) slot j from count ⌝ }
@@ -1067,7 +1065,7 @@ fn run_action(
     scope: &[u64; program::SCOPE],
     offsets: &[u64; lists::OFFSETS],
     entries: &[u64; lists::ENTRIES],
-    widths: &[u64; lists::WIDTHS],
+    widths: &[u64; program::WIDTHS],
     actions: usize,
     position: u64,
     from: usize,

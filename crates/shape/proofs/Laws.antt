@@ -3,7 +3,7 @@ use mathlib.Core.Bool.{Bool, true, false, _&&_}
 use mathlib.Core.Option.{Option, none, some}
 use mathlib.Core.Path.{_≡_, refl, sym, _∙_}
 use mathlib.Core.List.{List, [], _∷_}
-use Prim.Native.Nat.{ℕ, zero, suc, _+_, _-_, _≤_, _<_}
+use Prim.Native.Nat.{ℕ, zero, suc, _+_, _≤_, _<_}
 use native.Mathlib.Omega.{arith}
 use native.Mathlib.Numerals.{add-one}
 use lib.ListN.{length, getD, drop, getElem?}
@@ -269,11 +269,6 @@ unfolding isSome
 some-at [] n = sym (le-ltb n 0 (omega arith))
 some-at (a ∷ l) zero = sym (lt-ltb 0 (suc (length l)) (omega arith))
 some-at (a ∷ l) (suc n) = some-at l n ∙ sym (leb·suc-suc (suc n) (length l))
-
-pub none-past : {A : Type 0} (l : List A) (n : ℕ) → length l ≤ n → getElem? l n ≡ none
-none-past [] n h = refl
-none-past (a ∷ l) zero h = absurd (omega arith)
-none-past (a ∷ l) (suc n) h = none-past l n (omega arith)
 
 pub spans-list : {A : Type 0} (l : List A) (last : ℕ) → length l ≡ suc last → Spans (getElem? l) 0 last
 spans-list l last e = record { span = λ n. some-at l n ∙ rw (e, leb·suc-suc n last, leb·zero n) }

@@ -1,7 +1,7 @@
 -- A program: what follows the version, part after part, and the version.
 use mathlib.Core.Path.{_≡_, refl, sym, _∙_}
 use mathlib.Core.List.{List}
-use Prim.Native.Nat.{ℕ, _-_}
+use Prim.Native.Nat.{ℕ}
 use native.Mathlib.Omega.{arith}
 use lib.ListN.{drop, replicate}
 use Rattle.rules.specs.Syntax.{Stmt, HeaderTy, Global, Callable, Table, Program}

@@ -2,13 +2,14 @@
 use mathlib.Core.Option.{none}
 use mathlib.Core.Path.{_≡_, refl, sym, _∙_}
 use mathlib.Core.List.{List}
-use Prim.Native.Nat.{ℕ, suc, _+_, _-_, _≤_}
+use Prim.Native.Nat.{ℕ, suc, _+_, _≤_}
 use native.Mathlib.Omega.{arith}
 use lib.ListN.{getElem?}
 use Rattle.rules.specs.Words.{widest}
 use Rattle.rules.specs.Reading.{mostArguments, highestBound}
 use Rattle.rules.specs.Reading.{number, standsFor, between, repeat}
 use Rattle.rules.specs.Reading.{operators, exprTags}
+use Rattle.rules.proofs.Predicates.{no-member}
 use Rattle.rules.proofs.Readers.{keeps-number, keeps-between}
 use Rattle.shape.specs.Scans.{scanOf}
 use Rattle.shape.specs.Leads.{onScan, readLiteral, valueOf, leadBy, onLead, argumentsLead, callLead, formOf, exprForm, exprLead}
@@ -21,7 +22,7 @@ use Rattle.shape.specs.declared.expressions.Lead.the-variants.{On, Off}
 use Rattle.shape.specs.declared.expressions.ExprForm.{ExprForm}
 use Rattle.shape.specs.declared.expressions.ExprForm.the-variants.{Number, Field, Literal, Operand, Binary, Cast, Slice, Operands, Call, Unlisted}
 use Rattle.shape.proofs.Laws.{on-past, on-fault, Scans, scans-self, scans-then}
-use Rattle.shape.proofs.Laws.{none-past, scans-two, spans-scan, spans-list}
+use Rattle.shape.proofs.Laws.{scans-two, spans-scan, spans-list}
 
 -- the numbers behind a tag
 module _ (nums : List ℕ) (at n number₁ index : ℕ) (a r : Scan) where
@@ -123,7 +124,7 @@ form-none version n a b c d e f g h i j k l m o =
     let p : 4 ≤ n = above n 3 (above n 2 (above n 1 (above n 0 (omega arith) a) b) c) d in
     let q : 9 ≤ n = above n 8 (above n 7 (above n 6 (above n 5 (above n 4 p e) f) g) h) i in
     let r : 14 ≤ n = above n 13 (above n 12 (above n 11 (above n 10 (above n 9 q j) k) l) m) o in
-    rw (none-past (exprTags version) n r)
+    rw (no-member (exprTags version) n r)
 
 pub ruleset forms = (form-of, form-none)
 

@@ -13,6 +13,7 @@ use Rattle.rules.specs.Syntax.{Place}
 use Rattle.rules.specs.Reading.{Reader, _>>=_, pure, number, standsFor, repeat, tooDeep, mostMembers}
 use Rattle.rules.specs.Reading.{PlaceTag, tagLocal, tagParameter, tagGlobal, tagField}
 use Rattle.rules.specs.Reading.{exprTags, placeTagOf, stmtTags, readPlace, readTarget}
+use Rattle.rules.proofs.Predicates.{no-member}
 use Rattle.rules.proofs.Readers.{keeps-place}
 use Rattle.shape.specs.Scans.{scanOf}
 use Rattle.shape.specs.Ends.{mostNumbers}
@@ -28,7 +29,7 @@ use Rattle.shape.specs.declared.statements.PlaceForm.the-variants.{OneNu
 use Rattle.shape.specs.declared.statements.StmtForm.{StmtForm}
 use Rattle.shape.specs.declared.statements.StmtForm.the-variants.{Bare, Assign, If, Block, CallStmt, Named, Returned, NoStmt}
 use Rattle.shape.proofs.Laws.{scans-pure, scans-last, scan-here, stands-is, stands-none, stands-out}
-use Rattle.shape.proofs.Laws.{none-past, deep-missing, deep-same}
+use Rattle.shape.proofs.Laws.{deep-missing, deep-same}
 use Rattle.shape.proofs.Exprs.{one-less, scans-field, scans-place}
 use Rattle.shape.proofs.Tags.{above}
 
@@ -188,7 +189,7 @@ unfolding stmtForm stmtFormOf
 stmt-none version n a b c d e f g h i j k =
     let p : 4 ≤ n = above n 3 (above n 2 (above n 1 (above n 0 (omega arith) a) b) c) d in
     let q : 9 ≤ n = above n 8 (above n 7 (above n 6 (above n 5 (above n 4 p e) f) g) h) i in
-    rw (none-past (stmtTags version) n (above n 10 (above n 9 q j) k))
+    rw (no-member (stmtTags version) n (above n 10 (above n 9 q j) k))
 
 pub ruleset stmtForms = (stmt-of, stmt-none)
 

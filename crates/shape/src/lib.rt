@@ -4,7 +4,7 @@ mod callables;
 mod declarations;
 mod expressions;
 mod items;
-mod limits;
+pub mod limits;
 mod looks;
 mod program;
 mod statements;

@@ -3,7 +3,7 @@
 // The latest version, which is also the first.
 pub(crate) const LATEST: u64 = 1;
 // The deepest level; bodies and keys are level 1.
-pub(crate) const DEEPEST: usize = 32;
+pub const DEEPEST: usize = 32;
 // The widest bit string.
 pub(crate) const WIDEST: u64 = 64;
 // The highest bound of a slice.
@@ -17,7 +17,7 @@ pub(crate) const LAST_CALLABLE_KIND: u64 = 1;
 // The last kind of key.
 pub(crate) const LAST_KEY_KIND: u64 = 2;
 // The first header type among the types of globals.
-pub(crate) const FIRST_HEADER_TYPE: u64 = 128;
+pub const FIRST_HEADER_TYPE: u64 = 128;
 // The last header type among the types of globals.
 pub(crate) const LAST_HEADER_TYPE: u64 = 135;
 // The most header types.
@@ -35,7 +35,7 @@ pub(crate) const MOST_LOCALS: u64 = 8;
 // The most tables.
 pub(crate) const MOST_TABLES: u64 = 8;
 // The most keys of a table.
-pub(crate) const MOST_KEYS: u64 = 4;
+pub const MOST_KEYS: u64 = 4;
 // The most actions of a table.
 pub(crate) const MOST_ACTIONS: u64 = 8;
 // The most arguments of a call or of a default.

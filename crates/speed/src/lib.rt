@@ -51,7 +51,7 @@ pub extern "C" fn nentuvar_judge(nums: &[u64], answer: &mut [u64; 3])
 {
     let mut directory = [0u64; shape::SLOTS];
     let mut ends = [0u64; shape::NUMBERS];
-    let mut widths = [0u64; lists::WIDTHS];
+    let mut widths = [0u64; program::WIDTHS];
     let mut entries = [0u64; lists::ENTRIES];
     let mut offsets = [0u64; lists::OFFSETS];
     let verdict = judge::judge(

@@ -10,14 +10,13 @@ use Rattle.rules.specs.Syntax.{Ty, Value, value, Direction, byNone, byIn, byOut
 use Rattle.rules.specs.Form.{onlyIf, sameTy, comesBack, writable, Scope}
 use Rattle.rules.specs.Running.{State, Ending, onward, returned, returnedValue, exited, Out, done, M, _>>=_, pure, puts, numberOf, declared, put, writeAt, writeBack, inTurn, comeBack, afterBody, afterCall}
 use Rattle.rules.proofs.Predicates.{All2, nil, cons}
-use Rattle.rules.proofs.Fits.{Fit, FitParameter, sameTy-true}
+use Rattle.rules.proofs.Fits.{Fit, FitParameter, sameTy-true, all2-length}
 use Rattle.program.specs.Codes.{placeTag, directionNumber, argCount}
 use Rattle.program.specs.Stands.{Holds, HoldsTag, StandsPlace, StandsExpr, on-bool, on-bits, on-place, on-valid, on-not, on-complement, on-binary, on-cast, on-slice, on-concatenation, on-call, StandsArgs, StandsParameters}
 use Rattle.program.proofs.Views.{expr-begins, ArgView, arg-view, no-args}
 use Rattle.store.specs.Mirrors.{Scene}
 use Rattle.store.specs.Places.{NamesPlace, AsksPlace}
 use Rattle.store.specs.Changes.{KeepsFree, Becomes, AsksWrite, Writes}
-use Rattle.store.proofs.Flat.{same-length}
 use Rattle.steps.specs.declared.Ended.{Ended}
 use Rattle.steps.specs.declared.Ended.the-variants.{Onward, Returned, ReturnedValue, Exited}
 use Rattle.steps.specs.Outcomes.{Goes, counterOf, Ran, Ends, ends-onward, ends-returned, ends-value, ends-exited, Laid}
@@ -192,7 +191,7 @@ module _ (nums scope offsets slots frame : List ℕ) (at parameters slot : ℕ) 
           → RanBack nums directory ends scope offsets slots slots′ frame frame′ Γ (oneBack Γ p e n s)
       back-ran directory ends Γ s e p n slots′ frame′ b d k made h =
           let own : length (s .parameters) + length (s .locals) ≡ ownOf Γ
-          = omega (arith, same-length (h .fits .parameters-fit), same-length (h .fits .locals-fit)) in
+          = omega (arith, all2-length (h .fits .parameters-fit), all2-length (h .fits .locals-fit)) in
           record {
             ran = rw (one-is Γ p e n s b d, ← k) (ran-becomes (put (b .place) (getD frame slot 0)) s made);
             keeps = rw own at (made .keeps);

@@ -11,10 +11,10 @@ use Rattle.rules.specs.Syntax.{Global, Program}
 use Rattle.rules.specs.Form.{Shape, shapeIn}
 use Rattle.rules.specs.Lists.{Cell, slotsOfCell, slotsOf}
 use Rattle.rules.proofs.Predicates.{All2, nil, cons}
-use Rattle.rules.proofs.Fits.{CellFits, variableFits, validFits, invalidFits, GlobalFits, globalFits}
+use Rattle.rules.proofs.Fits.{CellFits, variableFits, validFits, invalidFits, GlobalFits, globalFits, all2-length}
 use Rattle.lists.specs.Listing.{shapeSize, offsetsFrom}
 use Rattle.store.specs.Mirrors.{mostStored, MirrorsStore}
-use Rattle.store.proofs.Flat.{same-length, Order, under, beyond, order}
+use Rattle.store.proofs.Flat.{Order, under, beyond, order}
 
 -- how many numbers stand before a cell
 unfoldable pub startOf : List Cell → ℕ → ℕ
@@ -25,8 +25,8 @@ startOf (c ∷ cs) (suc g) = length (slotsOfCell c) + startOf cs g
 pub cell-size : {shape : Shape} {c : Cell} → CellFits shape c → length (slotsOfCell c) ≡ shapeSize (some shape)
 unfolding slotsOfCell shapeSize
 cell-size (variableFits h) = refl
-cell-size (validFits h) = ap suc (same-length h)
-cell-size (invalidFits h) = ap suc (same-length h)
+cell-size (validFits h) = ap suc (all2-length h)
+cell-size (invalidFits h) = ap suc (all2-length h)
 
 pub global-size : {P : Program} {g : Global} {c : Cell} → GlobalFits P g c
     → length (slotsOfCell c) ≡ shapeSize (shapeIn P (g .ty))

@@ -1,14 +1,13 @@
--- Lists by position: a member read, a member changed, and lists that fit one another.
+-- Lists by position: a member read, a member changed; what is behind a look.
 use mathlib.Core.Bool.{Bool, true, false}
 use mathlib.Core.Option.{Option, none, some}
-use mathlib.Core.Path.{_≡_, refl, ap}
+use mathlib.Core.Path.{_≡_, refl}
 use mathlib.Core.List.{List, [], _∷_}
 use Prim.Native.Nat.{ℕ, zero, suc, _≤_, _<_}
 use native.Mathlib.Omega.{arith}
 use lib.ListN.{length, getD, getElem?, set}
 use Rattle.rules.specs.Form.{andLook, onlyIf}
 use Rattle.rules.specs.Running.{change}
-use Rattle.rules.proofs.Predicates.{All2, nil, cons}
 
 pub look-at : (xs : List ℕ) (i : ℕ) → i < length xs → getElem? xs i ≡ some (getD xs i 0)
 look-at [] i h = absurd (omega arith)
@@ -23,10 +22,6 @@ change-is f (w ∷ xs) zero x y e q =
     let same : w ≡ x = cc in
     rw (same, q)
 change-is f (w ∷ xs) (suc i) x y e q = rw (change-is f xs i x y e q)
-
-pub same-length : {A B : Type 0} {R : A → B → Type 0} {xs : List A} {ys : List B} → All2 R xs ys → length ys ≡ length xs
-same-length nil = refl
-same-length (cons r rs) = ap suc (same-length rs)
 
 -- what is behind a look
 pub record Behind {A B : Type 0} (o : Option A) (k : A → Option B) (b : B) : Type 0 where

@@ -9,12 +9,13 @@ use Rattle.rules.specs.Numbers.{mostBytes}
 use Rattle.rules.specs.Syntax.{Ty, local, parameter}
 use Rattle.rules.specs.Form.{Scope}
 use Rattle.rules.specs.Running.{State, declared, held}
+use Rattle.rules.proofs.Fits.{all2-length}
 use Rattle.program.specs.Stands.{HoldsTy}
 use Rattle.program.proofs.Found.{member-in}
 use Rattle.program.proofs.Members.{parameter-at, type-at}
 use Rattle.store.specs.Mirrors.{Scene}
 use Rattle.store.specs.Places.{localTag, parameterTag, AsksFramed, ReadsFramed}
-use Rattle.store.proofs.Flat.{look-at, same-length, Behind, behind}
+use Rattle.store.proofs.Flat.{look-at, Behind, behind}
 use Rattle.store.proofs.Spots.{firstNumber, named-local, named-parameter, Spot, asked, spot-reads}
 
 -- what a place's indices ask: where its number stands, its type, and what it holds
@@ -47,8 +48,8 @@ module _ (nums scope frame : List ℕ) (at : ℕ) where
     local-spot : declared Γ (local i) ≡ some t → Spot frame (local i) s t (getD nums localTyAt 0) localSlot
     unfolding declared held
     local-spot d =
-        let ls : length (s .locals) ≡ length (Γ .locals) = same-length (h .fits .locals-fit) in
-        let ps : length (s .parameters) ≡ length (Γ .parameters) = same-length (h .fits .parameters-fit) in
+        let ls : length (s .locals) ≡ length (Γ .locals) = all2-length (h .fits .locals-fit) in
+        let ps : length (s .parameters) ≡ length (Γ .parameters) = all2-length (h .fits .parameters-fit) in
         let k : i < length (s .locals) = omega (arith, member-in (Γ .locals) i t d) in
         let e : localSlot ≡ length (s .parameters) + i = omega (arith, h .scopes .parameterCount) in
         let ty : HoldsTy nums localTyAt t = local-typed d in
@@ -72,7 +73,7 @@ module _ (nums scope frame : List ℕ) (at : ℕ) where
     parameter-spot d =
         let m : Behind (getElem? (Γ .parameters) i) (λ p. some (p .ty)) t
         = behind (getElem? (Γ .parameters) i) (λ p. some (p .ty)) t d in
-        let ps : length (s .parameters) ≡ length (Γ .parameters) = same-length (h .fits .parameters-fit) in
+        let ps : length (s .parameters) ≡ length (Γ .parameters) = all2-length (h .fits .parameters-fit) in
         let k : i < length (s .parameters) = omega (arith, member-in (Γ .parameters) i (m .found) (m .is)) in
         let ty : HoldsTy nums parameterTyAt t = parameter-typed d in
         record {

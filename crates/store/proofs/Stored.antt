@@ -13,7 +13,7 @@ use Rattle.rules.specs.Form.{andLook, Shape, aVariable, aHeader, shapeIn, globa
 use Rattle.rules.specs.Lists.{Cell, variableCell, headerCell, slotsOfCell}
 use Rattle.rules.specs.Running.{State, declared, variableIn, fieldIn, held}
 use Rattle.rules.proofs.Predicates.{SomeOf, isSome, from-some}
-use Rattle.rules.proofs.Fits.{CellFits, variableFits, validFits, invalidFits, store-look}
+use Rattle.rules.proofs.Fits.{CellFits, variableFits, validFits, invalidFits, store-look, all2-length}
 use Rattle.program.specs.Codes.{tyOf}
 use Rattle.program.specs.Stands.{HoldsWithin}
 use Rattle.program.specs.Looks.{Has, Finds, globalsOf, FoundGlobal}
@@ -22,7 +22,7 @@ use Rattle.program.proofs.Members.{width-at, bits-of}
 use Rattle.lists.specs.Listing.{shapeSize}
 use Rattle.store.specs.Mirrors.{storeSlots, Scene}
 use Rattle.store.specs.Places.{fieldTag, variableTag, AsksStored, ReadsStored, AsksHeaderTy, FindsHeaderTy}
-use Rattle.store.proofs.Flat.{look-at, same-length, behind}
+use Rattle.store.proofs.Flat.{look-at, behind}
 use Rattle.store.proofs.Declaring.{declared-variable, declared-field}
 use Rattle.store.proofs.Spots.{firstNumber, secondNumber, named-global, named-field, Spot, Asked, asked, spot-reads}
 use Rattle.store.proofs.Cells.{startOf, cell-size, start-next, offset-is, cell-inside, cell-reads}
@@ -85,8 +85,8 @@ fields-in h = cell-size h
 field-in : {widths : List ℕ} {c : Cell} (f : ℕ) → CellFits (aHeader widths) c → f < length widths
     → fieldIn f c ≡ some (getD (slotsOfCell c) (suc f) 0)
 unfolding fieldIn slotsOfCell
-field-in f (validFits {ns = ns} h) i = look-at ns f (omega (arith, same-length h))
-field-in f (invalidFits {ns = ns} h) i = look-at ns f (omega (arith, same-length h))
+field-in f (validFits {ns = ns} h) i = look-at ns f (omega (arith, all2-length h))
+field-in f (invalidFits {ns = ns} h) i = look-at ns f (omega (arith, all2-length h))
 
 -- what the indices of a place of the store ask
 pub record StoreRoom (nums : List ℕ) (last g slot : ℕ) : Type 0 where

@@ -10,12 +10,12 @@ use Rattle.rules.specs.Syntax.{Ty, local, parameter, global, field}
 use Rattle.rules.specs.Form.{andLook, Shape, aVariable, aHeader, globalAt, Scope}
 use Rattle.rules.specs.Lists.{Cell, variableCell, headerCell, markOf, slotsOfCell}
 use Rattle.rules.specs.Running.{State, change, declared, setVariable, setField, withLocals, withParameters, put}
-use Rattle.rules.proofs.Fits.{Fit, CellFits, variableFits, validFits, invalidFits}
+use Rattle.rules.proofs.Fits.{Fit, CellFits, variableFits, validFits, invalidFits, all2-length}
 use Rattle.program.proofs.Found.{member-in}
 use Rattle.store.specs.Mirrors.{Scene}
 use Rattle.store.specs.Places.{fieldTag, localTag, parameterTag, variableTag, AsksFramed}
 use Rattle.store.specs.Changes.{Becomes, WritesFramed, AsksCell, WritesCell}
-use Rattle.store.proofs.Flat.{look-at, change-is, same-length, behind}
+use Rattle.store.proofs.Flat.{look-at, change-is, behind}
 use Rattle.store.proofs.Spots.{firstNumber, secondNumber, named-local, named-parameter, named-global, named-field}
 use Rattle.store.proofs.Cells.{startOf, cell-inside, cell-reads, Replaced}
 use Rattle.store.proofs.Declaring.{declared-variable, declared-field}
@@ -44,9 +44,9 @@ module _ (nums scope frame : List ℕ) (at number : ℕ) where
         (put (local i) number s)
     unfolding declared put withLocals andLook
     local-becomes d fit =
-        let k : i < length ls = omega (arith, same-length (h .fits .locals-fit), member-in (Γ .locals) i t d) in
+        let k : i < length ls = omega (arith, all2-length (h .fits .locals-fit), member-in (Γ .locals) i t d) in
         let e : getD scope 2 0 + i ≡ length ps + i
-        = omega (arith, same-length (h .fits .parameters-fit), h .scopes .parameterCount) in
+        = omega (arith, all2-length (h .fits .parameters-fit), h .scopes .parameterCount) in
         let made : put (local i) number s ≡ some (withLocals s (set ls i number)) = rw (put-in number ls i k) in
         let r : Replaced frame (set frame (length ps + i) number) (length ps) (set ls i number)
         = set-replaced frame ls (length ps) i number (h .frames .room) k (h .frames .local) in
@@ -75,7 +75,7 @@ module _ (nums scope frame : List ℕ) (at number : ℕ) where
     parameter-becomes d fit =
         let m = behind (getElem? (Γ .parameters) i) (λ p. some (p .ty)) t d in
         let k : i < length ps
-        = omega (arith, same-length (h .fits .parameters-fit), member-in (Γ .parameters) i (m .found) (m .is)) in
+        = omega (arith, all2-length (h .fits .parameters-fit), member-in (Γ .parameters) i (m .found) (m .is)) in
         let made : put (parameter i) number s ≡ some (withParameters s (set ps i number)) = rw (put-in number ps i k) in
         let first : (j : ℕ) → 0 + j ≡ j = λ j. omega arith in
         let r : Replaced frame (set frame (0 + i) number) 0 (set ps i number)
@@ -132,7 +132,7 @@ field-set : {widths : List ℕ} {c : Cell} (f n : ℕ) → CellFits (aHeader wid
 unfolding setField slotsOfCell markOf andLook
 field-set f n (validFits {ns = ns} h) i e = record {
   cell = headerCell true (set ns f n);
-  is = rw (put-in n ns f (omega (arith, same-length h)));
+  is = rw (put-in n ns f (omega (arith, all2-length h)));
   slots = refl;
 }
 field-set f n (invalidFits h) i e = absurd (omega arith)

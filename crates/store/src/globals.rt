@@ -3,10 +3,8 @@ ghost use Rattle.store.specs.Places.{variableTag, fieldTag, AsksStored, 
 ghost use Rattle.store.specs.Changes.{AsksCell, WritesCell};
 use super::STORE;
 use super::headers::VALID;
+use shape::limits::FIRST_HEADER_TYPE;
 use values::Value;
-
-// The first header type among the types of globals.
-const FIRST_HEADER_TYPE: usize = 128;
 
 // The variable whose number stands behind the tag.
 pub fn held_variable(
@@ -32,8 +30,8 @@ fn header_type(nums: &[u64], ends: &[u64], directory: &[u64; shape::SLOTS], g: u
     requires { ⌜ AsksHeaderTy (now nums) (now directory) (now ends) g ⌝ }
     ensures { λ r. ⌜ FindsHeaderTy (now (nums .entry)) (now (directory .entry)) (now (ends .entry)) g r ⌝ }
 {
-    let ty = program::global_of(nums, ends, directory, g) as usize;
-    program::header_of(nums, ends, directory, ty - FIRST_HEADER_TYPE)
+    let ty = program::global_of(nums, ends, directory, g);
+    program::header_of(nums, ends, directory, (ty - FIRST_HEADER_TYPE) as usize)
 }
 
 // The field whose global and number stand behind the tag.

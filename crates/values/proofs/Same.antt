@@ -4,7 +4,6 @@ use mathlib.Core.Option.{Option, some}
 use mathlib.Core.Path.{_≡_, sym, _∙_}
 use Prim.Native.Nat.{ℕ}
 use borrow.Author.Tests.{eqb-true}
-use Rattle.rules.specs.Syntax.{value}
 use Rattle.rules.specs.Syntax as syntax
 use Rattle.rules.specs.Form.{sameTy}
 use Rattle.rules.proofs.Fits.{sameTy-refl}

@@ -1,25 +1,16 @@
--- What is counted lies within the slots or bytes that were lent: the numbers that were read, the bytes that were written.
+-- What was written lies within the bytes that were lent, and a part of the slots within them.
 use mathlib.Core.List.{List, [], _∷_, _++_}
 use mathlib.Core.Path.{_≡_, sym, ap, _∙_}
 use Prim.Native.Nat.{ℕ, _≤_}
 use native.Mathlib.Omega.{arith}
 use lib.ListN.{length, take, drop, length-take, length-drop, length-append}
-use Rattle.rules.specs.declared.ReadAnswer.{ReadAnswer}
-use Rattle.rules.specs.declared.ReadAnswer.the-variants.{Count}
 use Rattle.rules.specs.declared.WriteAnswer.{WriteAnswer}
 use Rattle.rules.specs.declared.WriteAnswer.the-variants.{Length}
 use Rattle.rules.specs.Numbers.{bytesOf}
 use Rattle.rules.specs.Answers.{withRoom, ofWrite, writeSays, writeLeaves}
 use Rattle.shape.specs.Ends.{mostNumbers}
-use Rattle.numbers.specs.Promises.{Reads, Writes}
+use Rattle.numbers.specs.Promises.{Writes}
 use Rattle.numbers.proofs.Room.{room-told, room-there, filled-there}
-use Rattle.numbers.proofs.Outcomes.{Numbered, read-numbered}
-
-pub numbers-within : (bytes slots : List ℕ) (r : ReadAnswer) (left : List ℕ) (count : ℕ) → Reads bytes slots r left →
-    r ≡ Count count → count ≤ length left
-numbers-within bytes slots r left count p e =
-    let n : Numbered bytes slots count left = read-numbered bytes slots r left count p e in
-    omega (arith, simp length-take at (ap length (n .first)), n .counts)
 
 pub bytes-within : (ns bytes : List ℕ) (r : WriteAnswer) (left : List ℕ) (taken : ℕ) → Writes ns bytes r left →
     r ≡ Length taken → taken ≤ length left

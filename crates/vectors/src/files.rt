@@ -88,7 +88,7 @@ fn verdict(name: &[u8], bytes: &[u8], list: &[u64])
 {
     let mut directory = [0u64; shape::SLOTS];
     let mut ends = [0u64; shape::NUMBERS];
-    let mut widths = [0u64; lists::WIDTHS];
+    let mut widths = [0u64; program::WIDTHS];
     let mut entries = [0u64; lists::ENTRIES];
     let mut offsets = [0u64; lists::OFFSETS];
     let answer = judge::judge(

@@ -1,5 +1,6 @@
 -- `vectors::files::check` is safe and ends: the numbers that are counted lie within the slots.
-use Rattle.vectors.proofs.Within.{numbers-within, part-fits}
+use Rattle.numbers.proofs.Outcomes.{numbers-within}
+use Rattle.vectors.proofs.Within.{part-fits}
 use borrow.Author.Needs.{needs}
 use Rattle.vectors.proofs.files.check.Statement.{statement}
 use Rattle.vectors.proofs.files.check.Tie as tie
