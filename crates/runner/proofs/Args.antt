@@ -134,10 +134,10 @@ arg-fall scope depth t e = rank-lower t (getD scope 0 0) (32 * depth + 21) (32 *
 pub ruleset argRuns = (arg-inside, arg-count, arg-expr, arg-out, arg-in, arg-fall)
 
 -- one, then the others
-abbrev thenOthers : Scope → ℕ → Args → List Parameter → ℕ → M State (List ℕ)
+abbrev pub thenOthers : Scope → ℕ → Args → List Parameter → ℕ → M State (List ℕ)
 thenOthers Γ used xs ps n = argsIn Γ used xs ps >>= λ ns. pure (n ∷ ns)
 
-args-split : (Γ : Scope) (used : ℕ) (s : State) (e : Expr) (xs : Args) (p : Parameter) (ps : List Parameter)
+pub args-split : (Γ : Scope) (used : ℕ) (s : State) (e : Expr) (xs : Args) (p : Parameter) (ps : List Parameter)
     → argsIn Γ used (arg e xs) (p ∷ ps) s ≡ (argIn Γ used e p >>= thenOthers Γ used xs ps) s
 unfolding argsIn runArgs argIn exprIn
 args-split Γ used s e xs p ps = refl
@@ -218,18 +218,18 @@ module _ {nums directory ends scope offsets entries widths slots frame : List �
       unfolding pure
       args-ran = rw (args-split Γ used s e xs p ps) (ran-then (argIn Γ used e p) (thenOthers Γ used xs ps) s h
           (ran-then (argsIn Γ used xs ps) (λ ns. pure (h .answer ∷ ns)) (h .state) k (record {
-        answer = h .answer ∷ k .answer;
-        state = k .state;
-        seen = [];
-        is = refl;
-        scene = scene-kept slot n (k .scene) (at-args .own);
-        counted = omega arith;
-        same = length-set frame₂ slot n;
-        answers = record {
-          laid = record { is = kept-laid };
-          fit = cons (h .answers .fit) (k .answers .fit);
-        };
-      })))
+            answer = h .answer ∷ k .answer;
+            state = k .state;
+            seen = [];
+            is = refl;
+            scene = scene-kept slot n (k .scene) (at-args .own);
+            counted = omega arith;
+            same = length-set frame₂ slot n;
+            answers = record {
+              laid = record { is = kept-laid };
+              fit = cons (h .answers .fit) (k .answers .fit);
+            };
+          })))
 
 -- arguments that are not none: the first apart
 pub record Apart (nums ends frame : List ℕ) (depth at parameters count slot : ℕ) (Γ : Scope) (used : ℕ) (s : State)
@@ -254,107 +254,113 @@ apart used s counted (arg e xs) (p ∷ ps) x w g =
     record { expr = e; others = xs; parameter = p; list = ps; given = w; going = g; args = refl; params = refl }
 
 module _ (nums directory ends scope offsets entries widths slots frame : List ℕ) (depth at parameters count slot : ℕ)
-    where
-  module _ (a : AsksArgs nums directory ends scope offsets entries widths slots frame depth at parameters count slot)
-      (x : count ≡ 0 → ⊥) where
-    parts : Apart nums ends frame depth at parameters count slot (a .scopeOf) (a .used) (a .state) (counterOf slots)
-        (a .args) (a .list)
-    parts = apart (a .used) (a .state) (counterOf slots) (a .args) (a .list) x (a .given) (a .going)
+  where
+    module _ (a : AsksArgs nums directory ends scope offsets entries widths slots frame depth at parameters count slot)
+        (x : count ≡ 0 → ⊥) where
+      parts : Apart nums ends frame depth at parameters count slot (a .scopeOf) (a .used) (a .state) (counterOf slots)
+          (a .args) (a .list)
+      parts = apart (a .used) (a .state) (counterOf slots) (a .args) (a .list) x (a .given) (a .going)
 
-    pub args-first : AsksArg nums directory ends scope offsets entries widths slots frame depth at parameters
-    args-first = record {
-      scopeOf = a .scopeOf;
-      used = a .used;
-      entryList = a .entryList;
-      state = a .state;
-      expr = parts .expr;
-      parameter = parts .parameter;
-      stage = a .stage;
-      stands = first-stands (a .stage) (parts .given) (parts .going);
-      direction = first-direction (a .stage) (parts .given) (parts .going);
-      deep = a .deep;
-      going = args-begun (a .stage) (parts .given) (parts .going) .first;
-    }
+      pub args-first : AsksArg nums directory ends scope offsets entries widths slots frame depth at parameters
+      args-first = record {
+        scopeOf = a .scopeOf;
+        used = a .used;
+        entryList = a .entryList;
+        state = a .state;
+        expr = parts .expr;
+        parameter = parts .parameter;
+        stage = a .stage;
+        stands = first-stands (a .stage) (parts .given) (parts .going);
+        direction = first-direction (a .stage) (parts .given) (parts .going);
+        deep = a .deep;
+        going = args-begun (a .stage) (parts .given) (parts .going) .first;
+      }
 
-    pub args-next : at < length ends
-    args-next = omega (arith, expr-begins (first-stands (a .stage) (parts .given) (parts .going)) .inside,
-        a .stage .scene .scopes .program .room)
+      pub args-next : at < length ends
+      args-next = omega (
+        arith,
+        expr-begins (first-stands (a .stage) (parts .given) (parts .going)) .inside,
+        a .stage .scene .scopes .program .room,
+      )
 
-    pub args-list : parameters + 2 < 2 ^ 64
-    args-list = omega (arith, first-direction (a .stage) (parts .given) (parts .going) .inside,
-        a .stage .scene .scopes .program .numbers)
+      pub args-list : parameters + 2 < 2 ^ 64
+      args-list = omega (
+        arith,
+        first-direction (a .stage) (parts .given) (parts .going) .inside,
+        a .stage .scene .scopes .program .numbers,
+      )
 
-    pub args-slot : slot < length frame
-    args-slot = omega (arith, a .given .inside, x)
+      pub args-slot : slot < length frame
+      args-slot = omega (arith, a .given .inside, x)
 
-    pub args-fall : (t : ℕ) → rank (getD scope 0 0) (32 * depth + 22 + count) ≡ t
-        → rank (getD scope 0 0) (32 * depth + 22 + (count - 1)) < t
-    args-fall t e = rank-lower t (getD scope 0 0) (32 * depth + 22 + count) (32 * depth + 22 + (count - 1)) e
-        (omega (arith, x))
+      pub args-fall : (t : ℕ) → rank (getD scope 0 0) (32 * depth + 22 + count) ≡ t
+          → rank (getD scope 0 0) (32 * depth + 22 + (count - 1)) < t
+      args-fall t e = rank-lower t (getD scope 0 0) (32 * depth + 22 + count) (32 * depth + 22 + (count - 1)) e
+          (omega (arith, x))
 
-    pub args-rest : (slots₁ frame₁ : List ℕ) (n next : ℕ)
-        → RunsArg nums directory ends scope offsets entries widths slots slots₁ frame frame₁ depth at parameters n
-        → next ≡ getD ends at 0
-        → AsksArgs nums directory ends scope offsets entries widths slots₁ frame₁ depth next (parameters + 2)
-        (count - 1) (slot + 1)
-    args-rest slots₁ frame₁ n next r same =
-        let h = first-runs (a .stage) (parts .given) (parts .going) r in
-        rw same (record {
-          scopeOf = a .scopeOf;
-          used = a .used;
-          entryList = a .entryList;
-          state = h .state;
-          args = parts .others;
-          list = parts .list;
-          stage = stage-ran (a .stage) h;
-          given = others-at (a .stage) (parts .given) (parts .going) h;
-          few = omega (arith, a .few);
-          deep = a .deep;
-          going = others-begun (a .stage) (parts .given) (parts .going) h .first;
-        })
+      pub args-rest : (slots₁ frame₁ : List ℕ) (n next : ℕ)
+          → RunsArg nums directory ends scope offsets entries widths slots slots₁ frame frame₁ depth at parameters n
+          → next ≡ getD ends at 0
+          → AsksArgs nums directory ends scope offsets entries widths slots₁ frame₁ depth next (parameters + 2)
+          (count - 1) (slot + 1)
+      args-rest slots₁ frame₁ n next r same =
+          let h = first-runs (a .stage) (parts .given) (parts .going) r in
+          rw same (record {
+            scopeOf = a .scopeOf;
+            used = a .used;
+            entryList = a .entryList;
+            state = h .state;
+            args = parts .others;
+            list = parts .list;
+            stage = stage-ran (a .stage) h;
+            given = others-at (a .stage) (parts .given) (parts .going) h;
+            few = omega (arith, a .few);
+            deep = a .deep;
+            going = others-begun (a .stage) (parts .given) (parts .going) h .first;
+          })
 
-    pub args-keep : (slots₁ slots₂ frame₁ frame₂ : List ℕ) (n next : ℕ)
+      pub args-keep : (slots₁ slots₂ frame₁ frame₂ : List ℕ) (n next : ℕ)
+          → RunsArg nums directory ends scope offsets entries widths slots slots₁ frame frame₁ depth at parameters n
+          → next ≡ getD ends at 0
+          → RunsArgs nums directory ends scope offsets entries widths slots₁ slots₂ frame₁ frame₂ depth next
+          (parameters + 2) (count - 1) (slot + 1)
+          → AsksKeep frame₂ slot
+      args-keep slots₁ slots₂ frame₁ frame₂ n next r same q =
+          let h = first-runs (a .stage) (parts .given) (parts .going) r in
+          let k = others-run (a .stage) (parts .given) (parts .going) h (rw same at q) in
+          record { inside = slot-inside (a .stage) (parts .given) (parts .going) h k }
+
+    pub args-runs : (slots₁ slots₂ frame₁ frame₂ frame₃ : List ℕ) (n next : ℕ) → (count ≡ 0 → ⊥)
         → RunsArg nums directory ends scope offsets entries widths slots slots₁ frame frame₁ depth at parameters n
         → next ≡ getD ends at 0
         → RunsArgs nums directory ends scope offsets entries widths slots₁ slots₂ frame₁ frame₂ depth next
         (parameters + 2) (count - 1) (slot + 1)
-        → AsksKeep frame₂ slot
-    args-keep slots₁ slots₂ frame₁ frame₂ n next r same q =
-        let h = first-runs (a .stage) (parts .given) (parts .going) r in
-        let k = others-run (a .stage) (parts .given) (parts .going) h (rw same at q) in
-        record { inside = slot-inside (a .stage) (parts .given) (parts .going) h k }
+        → Keeps frame₂ frame₃ slot n
+        → RunsArgs nums directory ends scope offsets entries widths slots slots₂ frame frame₃ depth at parameters count slot
+    args-runs slots₁ slots₂ frame₁ frame₂ frame₃ n next x r same q m = record {
+      runs = λ Γ used es s xs ps st w g. whole Γ used es s xs ps st (apart used s (counterOf slots) xs ps x w g);
+    }
+      where
+        whole : (Γ : Scope) (used : ℕ) (es : List Entry) (s : State) (xs : Args) (ps : List Parameter)
+            → Stage nums directory ends scope offsets entries widths slots frame Γ used es s
+            → Apart nums ends frame depth at parameters count slot Γ used s (counterOf slots) xs ps
+            → Ran nums directory ends scope offsets slots slots₂ frame frame₃ Γ (argsIn Γ used xs ps s)
+            (Laying frame₃ slot ps)
+        whole Γ used es s xs ps st p =
+            let h = first-runs st (p .given) (p .going) r in
+            let k = others-run st (p .given) (p .going) h (rw same at q) in
+            rw (m .is, p .args, p .params) (args-ran st (p .given) (p .going) h k)
 
-  pub args-runs : (slots₁ slots₂ frame₁ frame₂ frame₃ : List ℕ) (n next : ℕ) → (count ≡ 0 → ⊥)
-      → RunsArg nums directory ends scope offsets entries widths slots slots₁ frame frame₁ depth at parameters n
-      → next ≡ getD ends at 0
-      → RunsArgs nums directory ends scope offsets entries widths slots₁ slots₂ frame₁ frame₂ depth next
-      (parameters + 2) (count - 1) (slot + 1)
-      → Keeps frame₂ frame₃ slot n
-      → RunsArgs nums directory ends scope offsets entries widths slots slots₂ frame frame₃ depth at parameters count slot
-  args-runs slots₁ slots₂ frame₁ frame₂ frame₃ n next x r same q m = record {
-    runs = λ Γ used es s xs ps st w g. whole Γ used es s xs ps st (apart used s (counterOf slots) xs ps x w g);
-  }
-    where
-      whole : (Γ : Scope) (used : ℕ) (es : List Entry) (s : State) (xs : Args) (ps : List Parameter)
-          → Stage nums directory ends scope offsets entries widths slots frame Γ used es s
-          → Apart nums ends frame depth at parameters count slot Γ used s (counterOf slots) xs ps
-          → Ran nums directory ends scope offsets slots slots₂ frame frame₃ Γ (argsIn Γ used xs ps s)
-          (Laying frame₃ slot ps)
-      whole Γ used es s xs ps st p =
-          let h = first-runs st (p .given) (p .going) r in
-          let k = others-run st (p .given) (p .going) h (rw same at q) in
-          rw (m .is, p .args, p .params) (args-ran st (p .given) (p .going) h k)
-
-  pub args-none : count ≡ 0
-      → RunsArgs nums directory ends scope offsets entries widths slots slots frame frame depth at parameters count slot
-  args-none e = record {
-    runs = λ Γ used es s xs ps st w g.
-        let none = no-args-is Γ used s xs ps (counterOf slots) g (sym e ∙ w .counts) in
-        ran-here s [] (st .scene) (none .0) (record {
-          laid = record { is = λ i l. absurd (omega arith) };
-          fit = rw (none .1) nil;
-        });
-  }
+    pub args-none : count ≡ 0
+        → RunsArgs nums directory ends scope offsets entries widths slots slots frame frame depth at parameters count slot
+    args-none e = record {
+      runs = λ Γ used es s xs ps st w g.
+          let none = no-args-is Γ used s xs ps (counterOf slots) g (sym e ∙ w .counts) in
+          ran-here s [] (st .scene) (none .0) (record {
+            laid = record { is = λ i l. absurd (omega arith) };
+            fit = rw (none .1) nil;
+          });
+    }
 
 pub argument-fall : (scope : List ℕ) (depth count t : ℕ) → rank (getD scope 0 0) (32 * depth + 22 + count) ≡ t
     → rank (getD scope 0 0) (32 * depth + 21) < t

@@ -143,40 +143,40 @@ module _ (nums directory ends scope offsets entries widths slots frame : List �
 
     module _ (slots₂ frame₂ : List ℕ) (v : values.Value)
         (r : RunsExpr nums directory ends scope offsets entries widths slots₁ slots₂ frame frame₂ (depth - 1) first v)
-        where
-      operand-ran : (Γ : Scope) (used : ℕ) (es : List Entry) (s : State) (e : Expr) (o : OneIn nums ends depth first e)
-          → Stage nums directory ends scope offsets entries widths slots frame Γ used es s
-          → Goes (counterOf slots) (exprIn Γ used e s)
-          → Ran nums directory ends scope offsets slots₁ slots₂ frame frame₂ Γ (exprIn Γ used (o .operand) s)
-          (Gave (v .ty) (v .number))
-      operand-ran Γ used es s e o st g =
-          r .runs Γ used es s (o .operand) (stage-counted st c) (o .stands) (one-begun o st c g .first)
+      where
+        operand-ran : (Γ : Scope) (used : ℕ) (es : List Entry) (s : State) (e : Expr) (o : OneIn nums ends depth first e)
+            → Stage nums directory ends scope offsets entries widths slots frame Γ used es s
+            → Goes (counterOf slots) (exprIn Γ used e s)
+            → Ran nums directory ends scope offsets slots₁ slots₂ frame frame₂ Γ (exprIn Γ used (o .operand) s)
+            (Gave (v .ty) (v .number))
+        operand-ran Γ used es s e o st g =
+            r .runs Γ used es s (o .operand) (stage-counted st c) (o .stands) (one-begun o st c g .first)
 
-      pub one-on : AsksOneOn nums at (v .ty) (v .number)
-      one-on =
-          let h = operand-ran (a .asks .scopeOf) (a .asks .used) (a .asks .entryList) (a .asks .state) (a .asks .expr)
-          one-form (a .asks .stage) (a .asks .going) in
-          let k = one-known one-form (a .asks .stage) c (a .asks .going) h in
-          record {
-            ends = ends;
-            depth = depth;
-            expr = a .asks .expr;
-            answer = k .member;
-            numbers = a .asks .stage .scene .scopes .program .numbers;
-            stands = a .asks .stands;
-            operand = h .answers .isValue;
-            answered = k .is;
-          }
+        pub one-on : AsksOneOn nums at (v .ty) (v .number)
+        one-on =
+            let h = operand-ran (a .asks .scopeOf) (a .asks .used) (a .asks .entryList) (a .asks .state) (a .asks .expr)
+            one-form (a .asks .stage) (a .asks .going) in
+            let k = one-known one-form (a .asks .stage) c (a .asks .going) h in
+            record {
+              ends = ends;
+              depth = depth;
+              expr = a .asks .expr;
+              answer = k .member;
+              numbers = a .asks .stage .scene .scopes .program .numbers;
+              stands = a .asks .stands;
+              operand = h .answers .isValue;
+              answered = k .is;
+            }
 
-      pub one-runs : (x : values.Value) → GivesOne nums at (v .ty) (v .number) (x .ty) (x .number)
-          → RunsExpr nums directory ends scope offsets entries widths slots slots₂ frame frame₂ depth at x
-      one-runs x y = record {
-        runs = λ Γ used es s e st w g.
-            let o : OneIn nums ends depth first e = a .one .one e w in
-            let h = operand-ran Γ used es s e o st g in
-            let k = one-known o st c g h in
-            one-ran o st c g h (y .gives ends depth e (k .member) w (k .is));
-      }
+        pub one-runs : (x : values.Value) → GivesOne nums at (v .ty) (v .number) (x .ty) (x .number)
+            → RunsExpr nums directory ends scope offsets entries widths slots slots₂ frame frame₂ depth at x
+        one-runs x y = record {
+          runs = λ Γ used es s e st w g.
+              let o : OneIn nums ends depth first e = a .one .one e w in
+              let h = operand-ran Γ used es s e o st g in
+              let k = one-known o st c g h in
+              one-ran o st c g h (y .gives ends depth e (k .member) w (k .is));
+        }
 
 pub ruleset oneRuns = (one-count, one-levels, one-fall, one-operand, one-on, one-runs)
 
@@ -394,90 +394,90 @@ module _ (nums directory ends scope offsets entries widths slots frame : List �
 
     module _ (slots₂ frame₂ : List ℕ) (v : values.Value)
         (r : RunsExpr nums directory ends scope offsets entries widths slots₁ slots₂ frame frame₂ (depth - 1) first v)
-        where
-      left-ran : (Γ : Scope) (used : ℕ) (es : List Entry) (s : State) (e : Expr) (o : TwoIn nums ends depth first e)
-          → Stage nums directory ends scope offsets entries widths slots frame Γ used es s
-          → Goes (counterOf slots) (exprIn Γ used e s)
-          → Ran nums directory ends scope offsets slots₁ slots₂ frame frame₂ Γ (exprIn Γ used (o .left) s)
-          (Gave (v .ty) (v .number))
-      left-ran Γ used es s e o st g =
-          r .runs Γ used es s (o .left) (stage-counted st c) (o .leftStands) (left-goes o st c g)
+      where
+        left-ran : (Γ : Scope) (used : ℕ) (es : List Entry) (s : State) (e : Expr) (o : TwoIn nums ends depth first e)
+            → Stage nums directory ends scope offsets entries widths slots frame Γ used es s
+            → Goes (counterOf slots) (exprIn Γ used e s)
+            → Ran nums directory ends scope offsets slots₁ slots₂ frame frame₂ Γ (exprIn Γ used (o .left) s)
+            (Gave (v .ty) (v .number))
+        left-ran Γ used es s e o st g =
+            r .runs Γ used es s (o .left) (stage-counted st c) (o .leftStands) (left-goes o st c g)
 
-      pub two-stops : (q : Bool) → TellsStop nums at (v .ty) (v .number) q → q ≡ true
-          → RunsExpr nums directory ends scope offsets entries widths slots slots₂ frame frame₂ depth at v
-      two-stops q y k = record {
-        runs = λ Γ used es s e st w g.
-            let o : TwoIn nums ends depth first e = a .two .two e w in
-            let h = left-ran Γ used es s e o st g in
-            stops-ran o st c g h (sym (y .tells ends depth e w) ∙ k);
-      }
-
-      module _ (q : Bool) (y : TellsStop nums at (v .ty) (v .number) q) (k : q ≡ false) where
-        pub two-right : (second : ℕ) → second ≡ getD ends first 0
-            → AsksExpr nums directory ends scope offsets entries widths slots₂ frame₂ (depth - 1) second
-        two-right second same =
-            let h = left-ran (a .asks .scopeOf) (a .asks .used) (a .asks .entryList) (a .asks .state) (a .asks .expr)
-            two-form (a .asks .stage) (a .asks .going) in
-            rw same (record {
-              scopeOf = a .asks .scopeOf;
-              used = a .asks .used;
-              entryList = a .asks .entryList;
-              state = h .state;
-              expr = two-form .right;
-              stage = stage-ran (stage-counted (a .asks .stage) c) h;
-              stands = two-form .rightStands;
-              deep = omega (arith, a .asks .deep);
-              going = right-begun two-form (a .asks .stage) c (a .asks .going) h
-                  (sym (y .tells ends depth (a .asks .expr) (a .asks .stands)) ∙ k) .first;
-            })
-
-        module _ (slots₃ frame₃ : List ℕ) (u : values.Value) (second : ℕ) (same : second ≡ getD ends first 0)
-            (r₂ : RunsExpr nums directory ends scope offsets entries widths slots₂ slots₃ frame₂ frame₃ (depth - 1)
-            second u) where
-          right-ran : (Γ : Scope) (used : ℕ) (es : List Entry) (s : State) (e : Expr)
-              (o : TwoIn nums ends depth first e)
-              → (w : StandsExpr nums ends depth at e)
-              → (st : Stage nums directory ends scope offsets entries widths slots frame Γ used es s)
-              → (g : Goes (counterOf slots) (exprIn Γ used e s))
-              → Ran nums directory ends scope offsets slots₂ slots₃ frame₂ frame₃ Γ
-              (exprIn Γ used (o .right) (left-ran Γ used es s e o st g .state)) (Gave (u .ty) (u .number))
-          right-ran Γ used es s e o w st g =
+        pub two-stops : (q : Bool) → TellsStop nums at (v .ty) (v .number) q → q ≡ true
+            → RunsExpr nums directory ends scope offsets entries widths slots slots₂ frame frame₂ depth at v
+        two-stops q y k = record {
+          runs = λ Γ used es s e st w g.
+              let o : TwoIn nums ends depth first e = a .two .two e w in
               let h = left-ran Γ used es s e o st g in
-              r₂ .runs Γ used es (h .state) (o .right) (stage-ran (stage-counted st c) h) (rw same (o .rightStands))
-              (right-begun o st c g h (sym (y .tells ends depth e w) ∙ k) .first)
+              stops-ran o st c g h (sym (y .tells ends depth e w) ∙ k);
+        }
 
-          pub two-on : AsksTwoOn nums at (v .ty) (v .number) (u .ty) (u .number)
-          two-on =
+        module _ (q : Bool) (y : TellsStop nums at (v .ty) (v .number) q) (k : q ≡ false) where
+          pub two-right : (second : ℕ) → second ≡ getD ends first 0
+              → AsksExpr nums directory ends scope offsets entries widths slots₂ frame₂ (depth - 1) second
+          two-right second same =
               let h = left-ran (a .asks .scopeOf) (a .asks .used) (a .asks .entryList) (a .asks .state) (a .asks .expr)
               two-form (a .asks .stage) (a .asks .going) in
-              let l = right-ran (a .asks .scopeOf) (a .asks .used) (a .asks .entryList) (a .asks .state)
-              (a .asks .expr) two-form (a .asks .stands) (a .asks .stage) (a .asks .going) in
-              let n = two-known two-form (a .asks .stage) c (a .asks .going) h
-              (sym (y .tells ends depth (a .asks .expr) (a .asks .stands)) ∙ k) l in
-              record {
-                ends = ends;
-                depth = depth;
-                expr = a .asks .expr;
-                answer = n .member;
-                numbers = a .asks .stage .scene .scopes .program .numbers;
-                stands = a .asks .stands;
-                first = h .answers .isValue;
-                second = l .answers .isValue;
-                answered = n .is;
-              }
+              rw same (record {
+                scopeOf = a .asks .scopeOf;
+                used = a .asks .used;
+                entryList = a .asks .entryList;
+                state = h .state;
+                expr = two-form .right;
+                stage = stage-ran (stage-counted (a .asks .stage) c) h;
+                stands = two-form .rightStands;
+                deep = omega (arith, a .asks .deep);
+                going = right-begun two-form (a .asks .stage) c (a .asks .going) h
+                    (sym (y .tells ends depth (a .asks .expr) (a .asks .stands)) ∙ k) .first;
+              })
 
-          pub two-runs : (x : values.Value)
-              → GivesTwo nums at (v .ty) (v .number) (u .ty) (u .number) (x .ty) (x .number)
-              → RunsExpr nums directory ends scope offsets entries widths slots slots₃ frame frame₃ depth at x
-          two-runs x z = record {
-            runs = λ Γ used es s e st w g.
-                let o : TwoIn nums ends depth first e = a .two .two e w in
+          module _ (slots₃ frame₃ : List ℕ) (u : values.Value) (second : ℕ) (same : second ≡ getD ends first 0)
+              (r₂ : RunsExpr nums directory ends scope offsets entries widths slots₂ slots₃ frame₂ frame₃ (depth - 1)
+              second u) where
+            right-ran : (Γ : Scope) (used : ℕ) (es : List Entry) (s : State) (e : Expr)
+                (o : TwoIn nums ends depth first e)
+                → (w : StandsExpr nums ends depth at e)
+                → (st : Stage nums directory ends scope offsets entries widths slots frame Γ used es s)
+                → (g : Goes (counterOf slots) (exprIn Γ used e s))
+                → Ran nums directory ends scope offsets slots₂ slots₃ frame₂ frame₃ Γ
+                (exprIn Γ used (o .right) (left-ran Γ used es s e o st g .state)) (Gave (u .ty) (u .number))
+            right-ran Γ used es s e o w st g =
                 let h = left-ran Γ used es s e o st g in
-                let l = right-ran Γ used es s e o w st g in
-                let m : stopsAt e (valueOf (v .ty) (v .number)) ≡ false = sym (y .tells ends depth e w) ∙ k in
-                let n = two-known o st c g h m l in
-                two-ran o st c g h m l (z .gives ends depth e (n .member) w (l .answers .isValue) (n .is));
-          }
+                r₂ .runs Γ used es (h .state) (o .right) (stage-ran (stage-counted st c) h) (rw same (o .rightStands))
+                (right-begun o st c g h (sym (y .tells ends depth e w) ∙ k) .first)
+
+            pub two-on : AsksTwoOn nums at (v .ty) (v .number) (u .ty) (u .number)
+            two-on =
+                let h = left-ran (a .asks .scopeOf) (a .asks .used) (a .asks .entryList) (a .asks .state) (a .asks .expr)
+                two-form (a .asks .stage) (a .asks .going) in
+                let l = right-ran (a .asks .scopeOf) (a .asks .used) (a .asks .entryList) (a .asks .state)
+                (a .asks .expr) two-form (a .asks .stands) (a .asks .stage) (a .asks .going) in
+                let n = two-known two-form (a .asks .stage) c (a .asks .going) h
+                (sym (y .tells ends depth (a .asks .expr) (a .asks .stands)) ∙ k) l in
+                record {
+                  ends = ends;
+                  depth = depth;
+                  expr = a .asks .expr;
+                  answer = n .member;
+                  numbers = a .asks .stage .scene .scopes .program .numbers;
+                  stands = a .asks .stands;
+                  first = h .answers .isValue;
+                  second = l .answers .isValue;
+                  answered = n .is;
+                }
+
+            pub two-runs : (x : values.Value)
+                → GivesTwo nums at (v .ty) (v .number) (u .ty) (u .number) (x .ty) (x .number)
+                → RunsExpr nums directory ends scope offsets entries widths slots slots₃ frame frame₃ depth at x
+            two-runs x z = record {
+              runs = λ Γ used es s e st w g.
+                  let o : TwoIn nums ends depth first e = a .two .two e w in
+                  let h = left-ran Γ used es s e o st g in
+                  let l = right-ran Γ used es s e o w st g in
+                  let m : stopsAt e (valueOf (v .ty) (v .number)) ≡ false = sym (y .tells ends depth e w) ∙ k in
+                  let n = two-known o st c g h m l in
+                  two-ran o st c g h m l (z .gives ends depth e (n .member) w (l .answers .isValue) (n .is));
+            }
 
 pub ruleset twoRuns =
     (two-count, two-levels, two-fall, two-stop, two-inside, two-left, two-stops, two-right, two-on, two-runs)

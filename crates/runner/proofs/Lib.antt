@@ -5,3 +5,12 @@ mod Exprs
 mod Parts
 mod Args
 mod Callees
+mod Calls
+mod Bodies
+mod Values
+mod Stmts
+mod Blocks
+mod Keying
+mod Actions
+mod Applying
+mod Tabling

@@ -5,18 +5,16 @@ use mathlib.Core.Path.{_≡_}
 use mathlib.Core.List.{List, [], _∷_}
 use Prim.Native.Nat.{ℕ, _+_, _-_, _*_, _≤_, _<_}
 use lib.ListN.{length, getD, getElem?}
-use Rattle.rules.specs.Words.{widest}
-use Rattle.rules.specs.Syntax.{bits, Expr, Args, Stmt, Stmts, Parameter, Callable, Key, Table, Program, placeIn}
+use Rattle.rules.specs.Syntax.{Expr, Args, Stmt, Stmts, Parameter, Callable, Key, Table, Program, placeIn}
 use Rattle.rules.specs.Reading.{deepest, mostKeys, mostArguments}
-use Rattle.rules.specs.Form.{ok, callableBelow, Scope, applyScope, judgeExpr}
+use Rattle.rules.specs.Form.{callableBelow, Scope, applyScope}
 use Rattle.rules.specs.Lists.{Entry, Cell}
-use Rattle.rules.specs.Running.{State, M, goIn}
+use Rattle.rules.specs.Running.{State, M, goIn, Worked}
 use Rattle.rules.proofs.Predicates.{All2}
 use Rattle.rules.proofs.Fits.{FitParameter}
 use Rattle.program.specs.Codes.{directionNumber, argCount, memberCount}
 use Rattle.program.specs.Stands.{Holds, HoldsWithin, StandsExpr, StandsArgs, StandsStmt, StandsStmts, StandsParameters, StandsNumerals, StandsKeys}
 use Rattle.lists.specs.Stands.{HoldsAll}
-use Rattle.lookup.specs.Matching.{StandsAllWorked}
 use Rattle.values.specs.declared.Value.{Value}
 use Rattle.steps.specs.declared.Ended.{Ended}
 use Rattle.steps.specs.Outcomes.{Goes, counterOf, Ran, Gave, Ends, Laid}
@@ -243,42 +241,37 @@ pub record RunsTable (nums directory ends scope offsets entries widths slots slo
       → Goes (counterOf slots) (tableIn P used es t s)
       → Ran nums directory ends scope offsets slots slots′ frame frame′ (applyScope P) (tableIn P used es t s) (Ends r)
 
--- its keys, each of the width that the judge found
-pub record KeyKnown (P : Program) (widths : List ℕ) (slot : ℕ) (k : Key) : Type 0 where
-  pub is : judgeExpr (applyScope P) (k .expr) ≡ ok (bits (getD widths slot 0))
-  pub most : getD widths slot 0 ≤ widest
+-- its keys: their numbers in slots one after the other
+unfoldable pub KeyNumbers : List ℕ → ℕ → List Worked → Type 0
+KeyNumbers keys j [] = Unit
+KeyNumbers keys j (w ∷ ws) = (getD keys j 0 ≡ w .number) × KeyNumbers keys (j + 1) ws
 
-unfoldable pub KeysKnown : Program → List ℕ → ℕ → List Key → Type 0
-KeysKnown P widths slot [] = Unit
-KeysKnown P widths slot (k ∷ ks) = KeyKnown P widths slot k × KeysKnown P widths (slot + 1) ks
-
-pub record KeysAt (nums ends widths keys : List ℕ) (slot j from count : ℕ) (P : Program) (ks : List Key) : Type 0 where
+pub record KeysAt (nums ends keys : List ℕ) (j from count : ℕ) (ks : List Key) : Type 0 where
   pub stand : StandsKeys nums ends from ks
   pub counts : count ≡ length ks
-  pub known : KeysKnown P widths slot ks
   pub slots : length keys ≡ mostKeys
   pub inside : j + count ≤ mostKeys
 
-pub record AsksKeys (nums directory ends scope offsets entries widths slots frame keys : List ℕ)
-    (slot j from count : ℕ) : Type 0 where
+pub record AsksKeys (nums directory ends scope offsets entries widths slots frame keys : List ℕ) (j from count : ℕ)
+    : Type 0 where
   pub program : Program
   pub used : ℕ
   pub entryList : List Entry
   pub state : State
   pub keyList : List Key
   pub stage : Stage nums directory ends scope offsets entries widths slots frame (applyScope program) used entryList state
-  pub keyed : KeysAt nums ends widths keys slot j from count program keyList
+  pub keyed : KeysAt nums ends keys j from count keyList
   pub going : Goes (counterOf slots) (keysIn program used keyList state)
 
 pub record RunsKeys (nums directory ends scope offsets entries widths slots slots′ frame frame′ keys keys′ : List ℕ)
-    (slot j from count : ℕ) : Type 0 where
+    (j from count : ℕ) : Type 0 where
   pub same : length keys′ ≡ length keys
   pub before : (i : ℕ) → i < j → getD keys′ i 0 ≡ getD keys i 0
   pub runs : (P : Program) (used : ℕ) (es : List Entry) (s : State) (ks : List Key)
       → Stage nums directory ends scope offsets entries widths slots frame (applyScope P) used es s
-      → KeysAt nums ends widths keys slot j from count P ks → Goes (counterOf slots) (keysIn P used ks s)
+      → KeysAt nums ends keys j from count ks → Goes (counterOf slots) (keysIn P used ks s)
       → Ran nums directory ends scope offsets slots slots′ frame frame′ (applyScope P) (keysIn P used ks s)
-      (StandsAllWorked widths keys′ slot j)
+      (KeyNumbers keys′ j)
 
 -- an action that a table lists, by its position, with numbers of the file as its arguments
 pub record ActionAt (nums : List ℕ) (actions position from : ℕ) (T : Table) (ns : List ℕ) : Type 0 where

@@ -3,6 +3,7 @@
 // and its arguments are put there before.
 ghost use Rattle.runner.specs.Claims.{AsksExpr, RunsExpr, AsksLeafAt, AsksOne, AsksTwo, AsksValue, AsksCall, RunsCall, AsksArg, RunsArg, AsksArgs, RunsArgs, AsksBody, RunsBody, AsksStmt, RunsStmt, AsksTagged, AsksPlain, AsksStmts, RunsStmts, AsksTable, RunsTable, AsksKeys, RunsKeys, AsksAction, RunsAction};
 use lookup::Lookup;
+use shape::limits::DEEPEST;
 use steps::Ended;
 use steps::calls::after_call;
 use steps::calls::finish_call;
@@ -11,7 +12,6 @@ use steps::calls::own_slots;
 use steps::calls::returned;
 use steps::operands;
 use steps::operands::count_step;
-use shape::limits::DEEPEST;
 use store::STORE;
 use store::fill::clear;
 use store::fill::copy;
@@ -953,7 +953,6 @@ fn run_table(
     let actions = parts.actions;
     let default = parts.default;
     let mut keys = [0u64; program::MOST_KEYS];
-    let slot = program::MOST_KEYS * t as usize;
     run_keys(
         nums,
         ends,
@@ -962,7 +961,6 @@ fn run_table(
         offsets,
         entries,
         widths,
-        slot,
         0,
         table + 1,
         nums[table],
@@ -1011,7 +1009,6 @@ fn run_keys(
     offsets: &[u64; lists::OFFSETS],
     entries: &[u64; lists::ENTRIES],
     widths: &[u64; program::WIDTHS],
-    slot: usize,
     j: usize,
     from: usize,
     count: u64,
@@ -1019,8 +1016,8 @@ fn run_keys(
     frame: &mut [u64],
     keys: &mut [u64; program::MOST_KEYS],
 )
-    requires { ⌜ AsksKeys (now nums) (now directory) (now ends) (now scope) (now offsets) (now entries) (now widths) (now slots) (now frame) (now keys) slot j from count ⌝ }
-    ensures { λ r. ⌜ RunsKeys (now (nums .entry)) (now (directory .entry)) (now (ends .entry)) (now (scope .entry)) (now (offsets .entry)) (now (entries .entry)) (now (widths .entry)) (now (slots .entry)) (now (slots .exit)) (now (frame .entry)) (now (frame .exit)) (now (keys .entry)) (now (keys .exit)) slot j from count ⌝ }
+    requires { ⌜ AsksKeys (now nums) (now directory) (now ends) (now scope) (now offsets) (now entries) (now widths) (now slots) (now frame) (now keys) j from count ⌝ }
+    ensures { λ r. ⌜ RunsKeys (now (nums .entry)) (now (directory .entry)) (now (ends .entry)) (now (scope .entry)) (now (offsets .entry)) (now (entries .entry)) (now (widths .entry)) (now (slots .entry)) (now (slots .exit)) (now (frame .entry)) (now (frame .exit)) (now (keys .entry)) (now (keys .exit)) j from count ⌝ }
 {
     if count != 0 {
         let a = run_expr(
@@ -1045,7 +1042,6 @@ fn run_keys(
             offsets,
             entries,
             widths,
-            slot + 1,
             j + 1,
             next,
             count - 1,

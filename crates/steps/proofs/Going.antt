@@ -1,8 +1,8 @@
 -- Runs that go on: what is known of the parts of one, and what the parts come to, one after the other.
 use mathlib.Core.Bool.{Bool, true, false}
 use mathlib.Core.Option.{Option, none, some}
-use mathlib.Core.Path.{_≡_, refl, _∙_, ap}
-use mathlib.Core.List.{List, [], _∷_, _++_}
+use mathlib.Core.Path.{_≡_, refl, _∙_, sym, ap}
+use mathlib.Core.List.{List, [], _∷_, _++_, append-assoc}
 use Prim.Native.Nat.{ℕ, _+_, _≤_}
 use native.Mathlib.Omega.{arith}
 use lib.ListN.{length, getD, length-append, length-set}
@@ -162,6 +162,29 @@ unfolding more
 more-none (done a s seen) = refl
 more-none stuck = refl
 more-none full = refl
+
+-- in whatever way they are put together
+pub more-more : {S A : Type 0} (seen later : Seen) (o : Out S A) → more seen (more later o) ≡ more (seen ++ later) o
+unfolding more
+more-more seen later (done a s last) = ap (λ x. done a s x) (sym (append-assoc seen later last))
+more-more seen later stuck = refl
+more-more seen later full = refl
+
+more-next : {S A B : Type 0} (seen : Seen) (o : Out S A) (k : A → M S B) → next (more seen o) k ≡ more seen (next o k)
+unfolding more next
+more-next seen (done a s later) k = sym (more-more seen later (k a s))
+more-next seen stuck k = refl
+more-next seen full k = refl
+
+pub then-assoc : {S A B C : Type 0} (m : M S A) (k : A → M S B) (j : B → M S C) (s : S)
+    → (m >>= λ a. k a >>= j) s ≡ ((m >>= k) >>= j) s
+unfolding _>>=_
+then-assoc {S} {A} m k j s = go (m s)
+  where
+    go : (o : Out S A) → next o (λ a t. next (k a t) j) ≡ next (next o k) j
+    go (done a t seen) = unfold next in sym (more-next seen (k a t) j)
+    go stuck = unfold next in refl
+    go full = unfold next in refl
 
 pub some-then-is : {S A B : Type 0} (o : Option A) (k : A → M S B) (s : S) {a : A} → o ≡ some a
     → (orStuck o >>= k) s ≡ k a s
