@@ -14,3 +14,4 @@ mod Keying
 mod Actions
 mod Applying
 mod Tabling
+mod Wholly
