@@ -16,7 +16,7 @@ use Rattle.program.proofs.Found.{member-in}
 use Rattle.form.specs.declared.Formal.the-variants.{Well}
 use Rattle.program.specs.Keys.{WidthsOf}
 use Rattle.form.specs.Claims.{toldForm, keyWidths, layTables, widthsLeft, JudgesForm}
-use Rattle.form.proofs.Seen.{applySlots, apply-scope}
+use Rattle.program.proofs.Seen.{applySlots, apply-scope}
 use Rattle.form.proofs.Widths.{expr-most, width-of-most}
 
 -- a run of stores: below it all is as found, and in it the values stand

@@ -1,6 +1,5 @@
 mod Steps
 mod Walking
-mod Seen
 mod OfGlobals
 mod OfCallables
 mod OfKeys

@@ -22,7 +22,7 @@ use Rattle.form.specs.declared.Formal.{Formal}
 use Rattle.form.specs.declared.Formal.the-variants.{Well, Ill}
 use Rattle.form.specs.Claims.{toldForm}
 use Rattle.form.specs.Parts.{Says, JudgesPart, JudgesParts}
-use Rattle.form.proofs.Seen.{callableScope, callable-scope}
+use Rattle.program.proofs.Seen.{callableScope, callable-scope}
 use Rattle.form.proofs.Walking.{Walk, walk-asks, walk-done, walk-next, walk-stop}
 
 pub is-action : (kind : ℕ) (x : Option Ty) → kind ≡ callableKindNumber x → not (isFunction (bodyOf x)) ≡ eqb kind 0

@@ -20,7 +20,7 @@ use Rattle.form.specs.declared.keys.Keyed.{Keyed}
 use Rattle.form.specs.declared.keys.Keyed.the-variants.{AllBits, Boolean, Unkeyed}
 use Rattle.form.specs.Claims.{keyWidths}
 use Rattle.form.specs.Parts.{AsksKey, JudgesKey, toldKeys, WithFirst, KeysAt, AsksKeys, JudgesKeys}
-use Rattle.form.proofs.Seen.{applySlots, apply-scope}
+use Rattle.program.proofs.Seen.{applySlots, apply-scope}
 
 -- the type of a key
 module _ (nums directory ends : List ℕ) (at : ℕ) where

@@ -16,7 +16,7 @@ use Rattle.form.specs.declared.Formal.{Formal}
 use Rattle.form.specs.declared.Formal.the-variants.{Well, Ill}
 use Rattle.form.specs.Claims.{toldForm, widthsLeft, JudgesForm}
 use Rattle.form.specs.Parts.{JudgesParts, globalsAre, JudgesApply, tablesAre, LaysTables, restIs, LaysRest}
-use Rattle.form.proofs.Seen.{applySlots, apply-scope}
+use Rattle.program.proofs.Seen.{applySlots, apply-scope}
 use Rattle.form.proofs.Steps.{well-is, ill-is}
 
 -- the apply body

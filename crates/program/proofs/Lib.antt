@@ -7,4 +7,5 @@ mod ExprsStand
 mod StmtsStand
 mod PartsStand
 mod TablesStand
+pub mod Seen
 pub mod Standing

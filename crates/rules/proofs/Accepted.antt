@@ -25,7 +25,7 @@ use Rattle.rules.proofs.Readers.{Given}
 use Rattle.rules.proofs.Limits.{Limited, gives-limited}
 use Rattle.rules.proofs.Fits.{FitWidth, CellFits, variableFits, validFits, invalidFits, GlobalFits, globalFits, StoreFits, StateFits}
 use Rattle.rules.proofs.Sound.{EndOk, CallsOk, AppliesOk, sound-stmt}
-use Rattle.rules.proofs.Callables.{judged-all, calls-below}
+use Rattle.rules.proofs.Callables.{AllJudged, judged-all, calls-below}
 use Rattle.rules.proofs.Tables.{EntryOk, table-ok}
 
 -- numbers that pass a test
@@ -209,6 +209,20 @@ tables-judged : (P : Program) (Ts : List Table) → IfOk (λ _. All (λ T. judge
 unfolding judgeTables
 tables-judged P [] = isOk none-left
 tables-judged P (T ∷ Ts) = ok-then (ok-self (judgeTable P T)) λ _ h. ok-map (tables-judged P Ts) λ _ hs. also h hs
+
+-- the callables and tables of a program that is well formed
+pub record PartsJudged (P : Program) : Type 0 where
+  pub callables : AllJudged P 0 (P .callables)
+  pub tables : All (λ T. judgeTable P T ≡ ok tt) (P .tables)
+
+parts-judged-if : (P : Program) → IfOk (λ _. PartsJudged P) (judgeProgram P)
+unfolding judgeProgram
+parts-judged-if P = ok-then (ok-self (judgeGlobals P (P .globals))) λ _ _.
+    ok-then (judged-all P 0 (P .callables)) λ _ callables. ok-then (tables-judged P (P .tables)) λ _ tables.
+    ok-map (ok-self (judgeStmt (applyScope P) (P .body))) λ _ _. record { callables = callables; tables = tables }
+
+pub parts-judged : (P : Program) → judgeProgram P ≡ ok tt → PartsJudged P
+parts-judged P e = from-ok (rw e at (parts-judged-if P))
 
 -- how a run of an accepted file ends: within the ceiling, with a store that fits; or full
 pub data Ends (P : Program) : Out (List Cell) Signal → Type 0 where

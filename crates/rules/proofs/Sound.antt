@@ -529,7 +529,7 @@ must-end r m {e} q h = go (isFunction (bodyOf r)) refl q
     go true p w = rw w at h
     go false p w = end-any true p h
 
-never : (r : Option Ty) → isApply (bodyOf r) ≡ false
+pub never : (r : Option Ty) → isApply (bodyOf r) ≡ false
 unfolding bodyOf isApply
 never none = refl
 never (some t) = refl

@@ -95,7 +95,7 @@ look-back (cons r rs) zero = ifSome (isSome r)
 look-back (cons r rs) (suc i) = look-back rs i
 
 -- arguments that fit
-arguments-fit : (ps : List Parameter) (ns : List ℕ) → argumentsFit ps ns ≡ true → All2 FitParameter ps ns
+pub arguments-fit : (ps : List Parameter) (ns : List ℕ) → argumentsFit ps ns ≡ true → All2 FitParameter ps ns
 unfolding argumentsFit
 arguments-fit [] [] e = nil
 arguments-fit [] (n ∷ ns) e = absurd (false≢true e)
@@ -193,6 +193,15 @@ module _ (P : Program) (used : ℕ) (calls : Calls) (callee : ℕ
       runs-le (omega arith) (runs-then at-most (h .1) λ v hv.
       runs-then at-most (runs-some at-most (worked-ok (rw (b .1) at hv))) λ w hw.
       runs-then at-most (hk (b .2)) λ ws hws. runs-pure at-most (w ∷ ws) (cc (width-is P k t (b .0) (h .0) (b .1))))
+
+  -- the keys of a table that is well formed have the widths that the judge finds
+  pub keys-wide : (T : Table) → IfOk (λ _. Runs _≤_ Fine (λ ws. map (λ w. w .width) ws ≡ map (keyWidth P) (T .keys))
+      (ceilingKeys callee (T .keys)) (runKeys P used calls (T .keys))) (judgeTable P T)
+  unfolding judgeTable
+  keys-wide T = ok-then (ok-self (judgeActions P (T .actions))) λ cs _. ok-then (ok-self _) λ c _.
+      ok-then (keys-ok (T .keys)) λ ts h. ok-then (ok-self (keysAreBits (T .keys) ts)) λ _ e.
+      ok-then (ok-self _) λ _ _. ok-then (ok-self (literalsFit (c .parameters) (T .arguments))) λ _ _.
+      ok-then (ok-self (oneLpm false (T .keys))) λ _ _. ok-map (ok-self (judgeListed (T .actions) cs)) λ _ _. h e
 
   -- an action of the table, on numbers that fit it
   action-runs : (f : ℕ) (c : Callable) → getElem? (P .callables) f ≡ some c → listable c ≡ true → (ns : List ℕ)

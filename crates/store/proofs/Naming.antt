@@ -5,7 +5,7 @@ use Prim.Native.Nat.{ℕ, _<_}
 use lib.ListN.{length, getD}
 use Rattle.rules.specs.Syntax.{Place, local, parameter, global, field}
 use Rattle.program.specs.Codes.{placeTag}
-use Rattle.store.specs.declared.Held.{Held}
+use Rattle.values.specs.declared.Value.{Value}
 use Rattle.store.specs.Places.{fieldTag, AsksPlace, ReadsPlace, AsksFramed, ReadsFramed, AsksStored, ReadsStored}
 use Rattle.store.specs.Changes.{WritesFramed, AsksCell, WritesCell, AsksWrite, Writes}
 
@@ -40,7 +40,7 @@ module _ (nums directory ends scope offsets slots frame : List ℕ) (at : ℕ)
       let e : getD nums at 0 ≡ placeTag (asks .place) = asks .names .tag .is in
       asks-stored fieldTag (e ∙ last-tag (asks .place) (λ q. x (e ∙ q)) (λ q. y (e ∙ q)) (λ q. z (e ∙ q)))
 
-module _ (nums directory ends scope offsets slots frame : List ℕ) (at : ℕ) (r : Held) where
+module _ (nums directory ends scope offsets slots frame : List ℕ) (at : ℕ) (r : Value) where
   pub reads-framed : ReadsFramed nums scope frame at r → ReadsPlace nums directory ends scope offsets slots frame at r
   reads-framed h = h .framed directory ends offsets slots
 

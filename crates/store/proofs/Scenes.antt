@@ -7,15 +7,16 @@ use lib.ListN.{length, getD, set, length-set}
 use lib.Seq.{getD-set-other}
 use Rattle.rules.specs.Syntax.{Ty, Callable, Program}
 use Rattle.rules.specs.Form.{Scope, scopeOf, applyScope}
-use Rattle.rules.specs.Lists.{Cell}
-use Rattle.rules.specs.Running.{State, withStore, fresh}
+use Rattle.rules.specs.Lists.{Cell, slotsOf}
+use Rattle.rules.specs.Running.{State, withStore, fresh, started}
 use Rattle.rules.proofs.Predicates.{All2, nil, cons}
 use Rattle.rules.proofs.Fits.{Fit, FitParameter, StoreFits, zero-fits, with-store}
 use Rattle.program.specs.Stands.{StandsProgram}
 use Rattle.program.specs.Scopes.{StandsScope}
-use Rattle.lists.specs.Stands.{ListsStand}
+use Rattle.lists.specs.Stands.{HoldsAll}
 use Rattle.store.specs.Mirrors.{counterSlot, storeSlots, MirrorsStore, OffsetsOf, Scene}
-use Rattle.store.specs.Fills.{Clears, AsksFill, Fills}
+use Rattle.store.specs.Fills.{Clears, AsksCopy, Copies}
+use Rattle.store.proofs.Filling.{copy-asks, copied-is}
 use Rattle.store.proofs.Sizes.{store-most, noughts, fresh-frame}
 
 pub counter-mirrors : (slots : List ℕ) (cells : List Cell) (n : ℕ) → MirrorsStore slots cells
@@ -79,33 +80,27 @@ scene-fresh nums directory ends scope offsets slots frame frame′ P n c ns cell
   frames = fresh-frame frame frame′ c ns cells room args z;
 }
 
--- a run begins, in the apply body, behind lists that are fine
-module _ (nums directory ends entries offsets : List ℕ) (P : Program) (end store size : ℕ)
-    (s : StandsProgram nums directory ends P end) (l : ListsStand P end nums entries offsets store size)
-    (f : StoreFits P (l .cells)) where
-  pub start-offsets : OffsetsOf P offsets
-  start-offsets = record { is = l .offset }
+-- a run begins, in the apply body, with the store's numbers copied and the counter set
+module _ (nums directory ends offsets : List ℕ) (P : Program) (end store size : ℕ) (cells : List Cell)
+    (s : StandsProgram nums directory ends P end) (h : HoldsAll nums store (slotsOf cells))
+    (e : size ≡ length (slotsOf cells)) (f : StoreFits P cells) where
+  pub start-copies : (slots : List ℕ) → length slots ≡ storeSlots → AsksCopy nums slots store size
+  start-copies slots n = copy-asks nums slots store size (slotsOf cells) (s .numbers) h e
+      (omega (arith, n, e, store-most nums directory ends P end s cells f))
 
-  pub start-fills : (slots : List ℕ) → length slots ≡ storeSlots → AsksFill nums slots store size
-  start-fills slots e = record {
-    cells = l .cells;
-    stand = l .stands;
-    sized = l .sizeIs;
-    numbers = s .numbers;
-    most = omega (arith, l .sizeIs, store-most nums directory ends P end s (l .cells) f);
-    count = e;
-  }
-
-  pub scene-start : (scope slots slots′ frame : List ℕ) → StandsScope nums directory ends scope (applyScope P)
-      → Fills nums slots slots′ store size
-      → Scene nums directory ends scope offsets slots′ frame (applyScope P)
-      (record { store = l .cells; parameters = []; locals = [] })
-  unfolding applyScope
-  scene-start scope slots slots′ frame k h = record {
+  pub scene-start : (scope slots slots′ frame : List ℕ) (n : ℕ) → StandsScope nums directory ends scope (applyScope P)
+      → OffsetsOf P offsets → length slots ≡ storeSlots → Copies nums slots slots′ store size
+      → Scene nums directory ends scope offsets (set slots′ counterSlot n) frame (applyScope P) (started cells)
+  unfolding applyScope started
+  scene-start scope slots slots′ frame n k o m c = record {
     scopes = k;
-    offset = start-offsets;
+    offset = o;
     fits = record { store-fits = f; parameters-fit = nil; locals-fit = nil };
-    store = h .mirrors (l .cells) (l .stands) (l .sizeIs);
+    store = counter-mirrors slots′ cells n (record {
+      count = c .same ∙ m;
+      most = store-most nums directory ends P end s cells f;
+      is = copied-is nums slots slots′ store size (slotsOf cells) c h e;
+    });
     frames = record {
       room = omega arith;
       parameter = λ i q. absurd (omega arith);

@@ -1,12 +1,9 @@
 -- What is asked and promised where slots are filled.
 use mathlib.Core.Path.{_≡_}
 use mathlib.Core.List.{List}
-use Prim.Native.Nat.{ℕ, _≤_, _<_}
+use Prim.Native.Nat.{ℕ, _+_, _≤_, _<_}
 use lib.ListN.{length, getD}
 use Rattle.rules.specs.Numbers.{mostBytes}
-use Rattle.rules.specs.Lists.{Cell, slotsOf}
-use Rattle.lists.specs.Stands.{HoldsAll}
-use Rattle.store.specs.Mirrors.{mostStored, counterSlot, storeSlots, MirrorsStore}
 
 -- zeros from a slot on, up to another
 pub record AsksClear (slots : List ℕ) (from to : ℕ) : Type 0 where
@@ -19,16 +16,13 @@ pub record Clears (slots slots′ : List ℕ) (from to : ℕ) : Type 0 where
   pub before : (k : ℕ) → k < from → getD slots′ k 0 ≡ getD slots k 0
   pub behind : (k : ℕ) → to ≤ k → getD slots′ k 0 ≡ getD slots k 0
 
--- a store's numbers, which stand from an index on, into its slots
-pub record AsksFill (nums slots : List ℕ) (store size : ℕ) : Type 0 where
-  pub cells : List Cell
-  pub stand : HoldsAll nums store (slotsOf cells)
-  pub sized : size ≡ length (slotsOf cells)
+-- so many numbers from an index on, into the first slots
+pub record AsksCopy (nums slots : List ℕ) (from count : ℕ) : Type 0 where
   pub numbers : length nums ≤ mostBytes
-  pub most : size ≤ mostStored
-  pub count : length slots ≡ storeSlots
+  pub inside : (i : ℕ) → i < count → from + i < length nums
+  pub room : count ≤ length slots
 
-pub record Fills (nums slots slots′ : List ℕ) (store size : ℕ) : Type 0 where
-  pub mirrors : (cells : List Cell) → HoldsAll nums store (slotsOf cells) → size ≡ length (slotsOf cells)
-      → MirrorsStore slots′ cells
-  pub counter : getD slots′ counterSlot 0 ≡ getD slots counterSlot 0
+pub record Copies (nums slots slots′ : List ℕ) (from count : ℕ) : Type 0 where
+  pub same : length slots′ ≡ length slots
+  pub copied : (i : ℕ) → i < count → getD slots′ i 0 ≡ getD nums (from + i) 0
+  pub behind : (i : ℕ) → count ≤ i → getD slots′ i 0 ≡ getD slots i 0

@@ -12,7 +12,7 @@ use Rattle.rules.specs.Running.{State, declared, held}
 use Rattle.rules.proofs.Fits.{Fit}
 use Rattle.program.specs.Codes.{tyOf, placeTag}
 use Rattle.program.specs.Stands.{Holds, StandsPlace, StandsWidths, StandsProgram}
-use Rattle.store.specs.declared.Held.{Held}
+use Rattle.values.specs.declared.Value.{Value}
 use Rattle.store.specs.Mirrors.{Scene}
 
 -- a place is named at an index: its tag, and the numbers behind it
@@ -37,7 +37,7 @@ pub record HeldAs (Γ : Scope) (p : Place) (s : State) (ty number : ℕ) : Type 
   pub most : ty ≤ widest
   pub fit : Fit (tyOf ty) number
 
-pub record ReadsPlace (nums directory ends scope offsets slots frame : List ℕ) (at : ℕ) (r : Held) : Type 0 where
+pub record ReadsPlace (nums directory ends scope offsets slots frame : List ℕ) (at : ℕ) (r : Value) : Type 0 where
   pub reads : (Γ : Scope) (s : State) (p : Place) (t : Ty) → Scene nums directory ends scope offsets slots frame Γ s
       → NamesPlace nums at p → declared Γ p ≡ some t → HeldAs Γ p s (r .ty) (r .number)
 
@@ -63,7 +63,7 @@ pub record AsksFramed (tag : ℕ) (nums scope frame : List ℕ) (at : ℕ) : Typ
   pub asks : AsksPlace nums directory ends scope offsets slots frame at
   pub is : getD nums at 0 ≡ tag
 
-pub record ReadsFramed (nums scope frame : List ℕ) (at : ℕ) (r : Held) : Type 0 where
+pub record ReadsFramed (nums scope frame : List ℕ) (at : ℕ) (r : Value) : Type 0 where
   pub framed : (directory ends offsets slots : List ℕ) → ReadsPlace nums directory ends scope offsets slots frame at r
 
 pub record AsksStored (tag : ℕ) (nums directory ends offsets slots : List ℕ) (at : ℕ) : Type 0 where
@@ -72,7 +72,7 @@ pub record AsksStored (tag : ℕ) (nums directory ends offsets slots : List ℕ)
   pub asks : AsksPlace nums directory ends scope offsets slots frame at
   pub is : getD nums at 0 ≡ tag
 
-pub record ReadsStored (nums directory ends offsets slots : List ℕ) (at : ℕ) (r : Held) : Type 0 where
+pub record ReadsStored (nums directory ends offsets slots : List ℕ) (at : ℕ) (r : Value) : Type 0 where
   pub stored : (scope frame : List ℕ) → ReadsPlace nums directory ends scope offsets slots frame at r
 
 -- where the type of a global that is a header stands: the widths of its fields behind it

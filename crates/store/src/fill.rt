@@ -1,6 +1,5 @@
-// Slots filled from one on: with zeros, and with the numbers of a store.
-ghost use Rattle.store.specs.Fills.{AsksClear, Clears, AsksFill, Fills};
-use super::STORE;
+// Slots filled: with zeros from one on, and with numbers from the first on.
+ghost use Rattle.store.specs.Fills.{AsksClear, Clears, AsksCopy, Copies};
 
 // The slots from one up to another are set to 0.
 pub fn clear(from: usize, to: usize, slots: &mut [u64])
@@ -14,14 +13,14 @@ pub fn clear(from: usize, to: usize, slots: &mut [u64])
     }
 }
 
-// So many numbers from an index on, those of a store, are put into its slots.
-pub fn fill_store(nums: &[u64], store: usize, size: usize, slots: &mut [u64; STORE])
-    requires { ⌜ AsksFill (now nums) (now slots) store size ⌝ }
-    ensures { λ r. ⌜ Fills (now (nums .entry)) (now (slots .entry)) (now (slots .exit)) store size ⌝ }
+// So many numbers from an index on are put into the first slots.
+pub fn copy(nums: &[u64], from: usize, count: usize, slots: &mut [u64])
+    requires { ⌜ AsksCopy (now nums) (now slots) from count ⌝ }
+    ensures { λ r. ⌜ Copies (now (nums .entry)) (now (slots .entry)) (now (slots .exit)) from count ⌝ }
 {
     let mut at = 0;
-    while at < size {
-        slots[at] = nums[store + at];
+    while at < count {
+        slots[at] = nums[from + at];
         at += 1;
     }
 }

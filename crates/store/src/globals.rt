@@ -1,10 +1,10 @@
 // The places of the store: globals that are variables, and fields of globals that are headers.
 ghost use Rattle.store.specs.Places.{variableTag, fieldTag, AsksStored, ReadsStored, AsksHeaderTy, FindsHeaderTy};
 ghost use Rattle.store.specs.Changes.{AsksCell, WritesCell};
-use super::Held;
 use super::STORE;
 use super::headers::VALID;
 use shape::limits::FIRST_HEADER_TYPE;
+use values::Value;
 
 // The variable whose number stands behind the tag.
 pub fn held_variable(
@@ -14,12 +14,12 @@ pub fn held_variable(
     offsets: &[u64; lists::OFFSETS],
     slots: &[u64; STORE],
     at: usize,
-) -> Held
+) -> Value
     requires { ⌜ AsksStored variableTag (now nums) (now directory) (now ends) (now offsets) (now slots) at ⌝ }
     ensures { λ r. ⌜ ReadsStored (now (nums .entry)) (now (directory .entry)) (now (ends .entry)) (now (offsets .entry)) (now (slots .entry)) at r ⌝ }
 {
     let g = nums[at + 1] as usize;
-    Held {
+    Value {
         ty: program::global_of(nums, ends, directory, g),
         number: slots[offsets[g] as usize],
     }
@@ -42,14 +42,14 @@ pub fn held_field(
     offsets: &[u64; lists::OFFSETS],
     slots: &[u64; STORE],
     at: usize,
-) -> Held
+) -> Value
     requires { ⌜ AsksStored fieldTag (now nums) (now directory) (now ends) (now offsets) (now slots) at ⌝ }
     ensures { λ r. ⌜ ReadsStored (now (nums .entry)) (now (directory .entry)) (now (ends .entry)) (now (offsets .entry)) (now (slots .entry)) at r ⌝ }
 {
     let g = nums[at + 1] as usize;
     let f = nums[at + 2] as usize;
     let header = header_type(nums, ends, directory, g);
-    Held {
+    Value {
         ty: nums[header + 1 + f],
         number: slots[offsets[g] as usize + 1 + f],
     }

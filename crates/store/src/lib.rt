@@ -16,15 +16,10 @@ use globals::held_field;
 use globals::held_variable;
 use globals::put_field;
 use globals::put_variable;
+use values::Value;
 
 // How many slots the store has: one for each number that it may have, and the one that counts steps.
 pub const STORE: usize = 545;
-
-// What a place holds: its type as a number, 0 for a bool or a width, and its number.
-pub struct Held {
-    pub ty: u64,
-    pub number: u64,
-}
 
 // What the place holds whose tag stands at an index: 2 a local, 3 a parameter, 4 a variable, 5 a field.
 pub fn read_place(
@@ -36,7 +31,7 @@ pub fn read_place(
     slots: &[u64; STORE],
     frame: &[u64],
     at: usize,
-) -> Held
+) -> Value
     requires { ⌜ AsksPlace (now nums) (now directory) (now ends) (now scope) (now offsets) (now slots) (now frame) at ⌝ }
     ensures { λ r. ⌜ ReadsPlace (now (nums .entry)) (now (directory .entry)) (now (ends .entry)) (now (scope .entry)) (now (offsets .entry)) (now (slots .entry)) (now (frame .entry)) at r ⌝ }
 {

@@ -3,14 +3,14 @@ use Prim.Native.Nat.{_-_}
 use native.Mathlib.Omega.{arith}
 use Rattle.store.proofs.Filling.{Filling, fillings, fill-room}
 use borrow.Author.Needs.{needs}
-use Rattle.store.proofs.fill.fill_store.Statement.{statement}
-use Rattle.store.proofs.fill.fill_store.Tie as tie
+use Rattle.store.proofs.fill.copy.Statement.{statement}
+use Rattle.store.proofs.fill.copy.Tie as tie
 
 abbrev Inv-loop : tie.InvT-loop
-Inv-loop nums store size slots₀ at₀ slots at = Filling nums slots₀ slots store size at
+Inv-loop nums from count slots₀ at₀ slots at = Filling nums slots₀ slots from count at
 
 abbrev μ-loop : tie.MeasureT-loop
-μ-loop nums store size slots₀ at₀ slots at = size - at
+μ-loop nums from count slots₀ at₀ slots at = count - at
 
 loop-holds : tie.Need-loop-holds Inv-loop μ-loop
 loop-holds c = search (fillings, needs)
@@ -31,8 +31,8 @@ mul-slots-2 c = record {
       = omega (arith, fill-room _ _ _ _ _ _ (c .before .before .loop .inv) (c .before .loop-test .taken));
 }
 
-element-write-slots : tie.Need-element-write-slots Inv-loop μ-loop
-element-write-slots c = omega
+slice-write-slots : tie.Need-slice-write-slots Inv-loop μ-loop
+slice-write-slots c = omega
     (arith, fill-room _ _ _ _ _ _ (c .before .before .loop .inv) (c .before .loop-test .taken))
 
 add-at : tie.Need-add-at Inv-loop μ-loop
@@ -47,11 +47,14 @@ loop-less c = search (fillings, needs)
 loop-again : tie.Need-loop-again Inv-loop μ-loop
 loop-again c = search (fillings, needs)
 
+same-length : tie.Need-same-length Inv-loop μ-loop
+same-length c = search (fillings, needs)
+
 returns : tie.Need-returns Inv-loop μ-loop
 returns c = search (fillings, needs)
 
-pub fill-store-spec : {M : Type 1} → statement M
-fill-store-spec =
+pub copy-spec : {M : Type 1} → statement M
+copy-spec =
     tie.close
     (tie.spec
     Inv-loop
@@ -61,8 +64,9 @@ fill-store-spec =
     mul-slots
     shared-slice-read-slots
     mul-slots-2
-    element-write-slots
+    slice-write-slots
     add-at
     loop-less
     loop-again
+    same-length
     returns)

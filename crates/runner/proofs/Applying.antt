@@ -1,0 +1,141 @@
+-- An apply: it stands in the apply body, and runs its table.
+use mathlib.Core.Bool.{Bool, true, false, _&&_}
+use mathlib.Core.Option.{Option, none, some}
+use mathlib.Core.Path.{_≡_, refl, _∙_, sym, ap}
+use mathlib.Core.List.{List, [], _∷_, map}
+use Prim.Native.Nat.{ℕ, suc, _+_, _-_, _*_, _≤_, _<_, _^_}
+use native.Mathlib.Omega.{arith}
+use lib.ListN.{length, getD, getElem?, replicate}
+use Rattle.rules.specs.Words.{widest}
+use Rattle.rules.specs.Syntax.{Stmt, apply, Numeral, Key, Table, Program}
+use Rattle.rules.specs.Reading.{mostKeys, mostTables}
+use Rattle.rules.specs.Form.{ok, isApply, oneLpm, Scope, applyScope, judgeTable}
+use Rattle.rules.specs.Ceiling.{calleeIn, ceilingsBelow, ceilingKeys}
+use Rattle.rules.specs.Lists as Lists
+use Rattle.rules.specs.Lists.{Entry, mostEntries, keyWidth}
+use Rattle.rules.specs.Running as rules
+use Rattle.rules.specs.Running.{State, Ending, Seen, Out, done, M, _>>=_, pure, nowhere, tick, must, orStuck, callsBelow, Worked, longestWins, lookUp, entriesOf, isFine, entriesFit, runKeys, runFound, runTable}
+use Rattle.rules.specs.Answers.{workingSlots}
+use Rattle.rules.proofs.Predicates.{and-both, All, look-all, from-ok, from-some, Good, good, isFull}
+use Rattle.rules.proofs.Fits.{StateFits}
+use Rattle.rules.proofs.Callables.{calls-below}
+use Rattle.rules.proofs.Tables.{keys-wide}
+use Rattle.rules.proofs.Accepted.{PartsJudged, parts-judged}
+use Rattle.program.specs.Stands.{Holds, StandsNumeral, StandsNumerals, StandsStmt, StandsTable}
+use Rattle.program.specs.Keys.{WidthsOf}
+use Rattle.program.specs.Looks.{Has, Finds, tablesOf, FoundTable}
+use Rattle.program.proofs.Found.{member-in}
+use Rattle.program.proofs.Views.{stmt-begins, NamedView, StmtView, stmt-view}
+use Rattle.lists.specs.Stands.{HoldsAll}
+use Rattle.lookup.specs.Matching.{StandsWorked, StandsAllWorked, widthsOf}
+use Rattle.lookup.specs.LookingUp.{SoughtIn, AsksLook, Looked, entry-found, nothing-found, TellsLookUp}
+use Rattle.lookup.specs.declared.Lookup.{Lookup}
+use Rattle.lookup.specs.declared.Lookup.the-variants as Lookups
+use Rattle.steps.specs.declared.Ended.{Ended}
+use Rattle.steps.specs.Outcomes.{Goes, counterOf, Ran, Ends, Counts}
+use Rattle.steps.proofs.Going.{Begun, not-nowhere, then-goes, some-then-goes, must-then-goes, some-then-is, must-then-is, ran-then}
+use Rattle.runner.specs.Runs.{callsOf, appliedIn, stmtIn, keysIn, actionIn, tableIn, Tables, Stage}
+use Rattle.runner.specs.Claims.{AsksTagged, RunsStmt, AsksTable, RunsTable, KeyNumbers, KeysAt, AsksKeys, RunsKeys, ActionAt, AsksAction, RunsAction}
+use Rattle.runner.proofs.Rank.{rank, rank-lower}
+use Rattle.runner.proofs.Stages.{stage-counted, going-counted, ran-counted, stage-ran, going-rest}
+use Rattle.runner.proofs.Stmts.{apply-is}
+
+-- an apply stands in the apply body
+applied-is : (P : Program) (used : ℕ) (es : List Entry) (t : ℕ) (s : State)
+    → appliedIn (applyScope P) used es t s ≡ tableIn P used es t s
+unfolding appliedIn applyScope isApply tableIn
+applied-is P used es t s = refl
+
+apply-body : (Γ : Scope) (used : ℕ) (es : List Entry) (t : ℕ) (s : State) (counted : ℕ)
+    → Goes counted (appliedIn Γ used es t s) → isApply (Γ .body) ≡ true
+apply-body Γ used es t s counted g = go (isApply (Γ .body)) refl g
+  where
+    go : (b : Bool) → isApply (Γ .body) ≡ b → Goes counted (appliedIn Γ used es t s) → isApply (Γ .body) ≡ true
+    go true q h = q
+    go false q h = unfold appliedIn in not-nowhere s (rw (q, appliedIn) at h)
+
+-- at any stage
+module _ {nums directory ends scope offsets entries widths slots slots₁ frame : List ℕ} {depth at : ℕ} {Γ : Scope}
+    {used : ℕ} {es : List Entry} {s : State} {x : Stmt} (v : NamedView nums ends depth at x (apply at))
+    (st : Stage nums directory ends scope offsets entries widths slots frame Γ used es s) (c : Counts slots slots₁)
+    (g : Goes (counterOf slots) (stmtIn Γ used es x s)) where
+  abbrev t : ℕ
+  t = v .name
+
+  abbrev P : Program
+  P = Γ .program
+
+  apply-same : stmtIn Γ used es x s ≡ tick (appliedIn Γ used es t) s
+  apply-same = apply-is Γ used es s at x t (v .same)
+
+  applied-goes : Goes (counterOf slots₁) (appliedIn Γ used es t s)
+  applied-goes = going-counted st (appliedIn Γ used es t) c (rw apply-same at g)
+
+  body-is : Γ ≡ applyScope P
+  body-is = st .apply (apply-body Γ used es t s (counterOf slots₁) applied-goes)
+
+  table-stage : Stage nums directory ends scope offsets entries widths slots₁ frame (applyScope P) used es s
+  table-stage = moved Γ P body-is (stage-counted st c)
+    where
+      moved : (Γ : Scope) (P : Program) → Γ ≡ applyScope P
+          → Stage nums directory ends scope offsets entries widths slots₁ frame Γ used es s
+          → Stage nums directory ends scope offsets entries widths slots₁ frame (applyScope P) used es s
+      moved Γ P e h = rw e at h
+
+  table-goes : Goes (counterOf slots₁) (tableIn P used es t s)
+  table-goes = moved Γ P body-is applied-goes
+    where
+      moved : (Γ : Scope) (P : Program) → Γ ≡ applyScope P → Goes (counterOf slots₁) (appliedIn Γ used es t s)
+          → Goes (counterOf slots₁) (tableIn P used es t s)
+      moved Γ P e h = rw (applied-is P used es t s) at (rw e at h)
+
+  apply-ran : {slots₂ frame₂ : List ℕ} {r : Ended}
+      → Ran nums directory ends scope offsets slots₁ slots₂ frame frame₂ (applyScope P) (tableIn P used es t s) (Ends r)
+      → Ran nums directory ends scope offsets slots slots₂ frame frame₂ Γ (stmtIn Γ used es x s) (Ends r)
+  apply-ran {slots₂} {frame₂} {r} h =
+      rw apply-same (ran-counted st (appliedIn Γ used es t) c (moved Γ P body-is h))
+    where
+      moved : (Γ : Scope) (P : Program) → Γ ≡ applyScope P
+          → Ran nums directory ends scope offsets slots₁ slots₂ frame frame₂ (applyScope P) (tableIn P used es t s) (Ends r)
+          → Ran nums directory ends scope offsets slots₁ slots₂ frame frame₂ Γ (appliedIn Γ used es t s) (Ends r)
+      moved Γ P e k = rw e (rw (applied-is P used es t s) k)
+
+module _ (nums directory ends scope offsets entries widths slots frame : List ℕ) (depth at : ℕ)
+    (a : AsksTagged 5 nums directory ends scope offsets entries widths slots frame depth at) where
+  apply-at : (x : Stmt) → StandsStmt nums ends depth at x → NamedView nums ends depth at x (apply at)
+  unfolding StmtView
+  apply-at x w = rw (a .tagged) at (stmt-view w)
+
+  applies : NamedView nums ends depth at (a .asks .stmt) (apply at)
+  applies = apply-at (a .asks .stmt) (a .asks .stands)
+
+  pub apply-inside : at + 1 < length nums
+  apply-inside = applies .holds .inside
+
+  module _ (slots₁ : List ℕ) (c : Counts slots slots₁) (number : ℕ) (same : number ≡ getD nums (at + 1) 0) where
+    pub apply-table : AsksTable nums directory ends scope offsets entries widths slots₁ frame number
+    apply-table = rw (same, applies .holds .is) (record {
+      program = a .asks .scopeOf .program;
+      used = a .asks .used;
+      entryList = a .asks .entryList;
+      state = a .asks .state;
+      stage = table-stage applies (a .asks .stage) c (a .asks .going);
+      going = table-goes applies (a .asks .stage) c (a .asks .going);
+    })
+
+    pub apply-runs : (slots₂ frame₂ : List ℕ) (r : Ended)
+        → RunsTable nums directory ends scope offsets entries widths slots₁ slots₂ frame frame₂ number r
+        → RunsStmt nums directory ends scope offsets entries widths slots slots₂ frame frame₂ depth at r
+    apply-runs slots₂ frame₂ r k = record {
+      runs = λ Γ used es s x st w g.
+          let v = apply-at x w in
+          let there : RunsTable nums directory ends scope offsets entries widths slots₁ slots₂ frame frame₂ (v .name) r
+          = rw (same, v .holds .is) at k in
+          apply-ran v st c g (there .runs (Γ .program) used es s (table-stage v st c g) (table-goes v st c g));
+    }
+
+pub apply-fall : (scope : List ℕ) (depth x : ℕ) → rank (getD scope 0 0) (2000 + 32 * depth + 19) ≡ x
+    → rank (getD scope 0 0) 1500 < x
+apply-fall scope depth x e = rank-lower x (getD scope 0 0) (2000 + 32 * depth + 19) 1500 e (omega arith)
+
+pub ruleset applyRuns = (apply-inside, apply-table, apply-runs, apply-fall)

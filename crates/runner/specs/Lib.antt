@@ -1,0 +1,4 @@
+pub mod Runs
+pub mod Forms
+pub mod Claims
+pub mod Whole

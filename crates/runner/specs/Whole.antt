@@ -1,0 +1,59 @@
+-- The whole run of an accepted file: what stands before it, and what it leaves.
+use mathlib.Core.Path.{_≡_}
+use mathlib.Core.List.{List}
+use Prim.Native.Nat.{ℕ, _+_}
+use lib.ListN.{length}
+use Rattle.rules.specs.declared.Signal.{Signal}
+use Rattle.rules.specs.Syntax.{Program}
+use Rattle.rules.specs.Lists.{Entry, Cell, slotsOf}
+use Rattle.rules.specs.Running.{Ending, Seen, Out, done, signalOf, runProgram}
+use Rattle.rules.specs.Answers.{workingSlots}
+use Rattle.rules.proofs.Fits.{StoreFits}
+use Rattle.program.specs.Stands.{StandsProgram}
+use Rattle.lists.specs.Stands.{HoldsAll}
+use Rattle.store.specs.Mirrors.{storeSlots, MirrorsStore, OffsetsOf}
+use Rattle.steps.specs.declared.Ended.{Ended}
+use Rattle.steps.specs.Outcomes.{Goes, counterOf, Ends}
+use Rattle.runner.specs.Runs.{Tables}
+
+-- a judged program with its entries and its first store, and working slots behind the store's
+pub record Ready (nums directory ends offsets entries widths slots frame : List ℕ) (store size : ℕ) (P : Program)
+    (es : List Entry) (cells : List Cell) : Type 0 where
+  pub end : ℕ
+  pub stands : StandsProgram nums directory ends P end
+  pub offset : OffsetsOf P offsets
+  pub tables : Tables nums entries widths P es
+  pub fits : StoreFits P cells
+  pub numbers : HoldsAll nums store (slotsOf cells)
+  pub sized : size ≡ length (slotsOf cells)
+  pub count : length slots ≡ storeSlots
+  pub room : size + length frame ≡ workingSlots
+
+abbrev pub programRun : Program → List Entry → List Cell → Out (List Cell) Signal
+programRun P es cells = runProgram workingSlots P es cells
+
+pub record AsksRun (nums directory ends offsets entries widths slots frame : List ℕ) (store size : ℕ) : Type 0 where
+  pub program : Program
+  pub entryList : List Entry
+  pub cells : List Cell
+  pub ready : Ready nums directory ends offsets entries widths slots frame store size program entryList cells
+  pub going : Goes 0 (programRun program entryList cells)
+
+-- the rules' signal and final store; the steps are counted
+pub record Ran (slots : List ℕ) (P : Program) (o : Out (List Cell) Signal) (r : Signal) : Type 0 where
+  pub cells : List Cell
+  pub seen : Seen
+  pub is : o ≡ done r cells seen
+  pub fits : StoreFits P cells
+  pub store : MirrorsStore slots cells
+  pub counted : counterOf slots ≡ length seen
+
+pub record Runs (nums directory ends offsets entries widths slots slots′ frame : List ℕ) (store size : ℕ) (r : Signal)
+    : Type 0 where
+  pub runs : (P : Program) (es : List Entry) (cells : List Cell)
+      → Ready nums directory ends offsets entries widths slots frame store size P es cells
+      → Goes 0 (programRun P es cells) → Ran slots′ P (programRun P es cells) r
+
+-- the signal of an ending
+pub record TellsSignal (ended : Ended) (r : Signal) : Type 0 where
+  pub is : (ending : Ending) → Ends ended ending → r ≡ signalOf ending

@@ -1,0 +1,61 @@
+// The runner: runs a judged program by the rules, from the numbers of its file and what the judge left. The store stands in
+// slots of its own, one for each number in file order, and the slot behind them counts steps; frames stand in the
+// working slots that are lent.
+ghost use Rattle.runner.specs.Whole.{AsksRun, Runs, TellsSignal};
+use rules::Signal;
+use shape::limits::DEEPEST;
+use steps::Ended;
+use steps::operands::COUNTER;
+use store::STORE;
+use store::fill::copy;
+
+mod running;
+
+// How a run ends: by an exit, or done.
+fn signal_of(ended: Ended) -> Signal
+    ensures { λ r. ⌜ TellsSignal ended r ⌝ }
+{
+    match ended {
+        Ended::Onward => Signal::Done,
+        Ended::Returned => Signal::Done,
+        Ended::ReturnedValue { ty, number } => Signal::Done,
+        Ended::Exited => Signal::Exit,
+    }
+}
+
+// The run of an accepted file whose store has so many numbers from an index on. It leaves the final store's numbers in
+// the slots, and the steps behind them.
+pub fn run(
+    nums: &[u64],
+    ends: &[u64],
+    directory: &[u64; shape::SLOTS],
+    offsets: &[u64; lists::OFFSETS],
+    entries: &[u64; lists::ENTRIES],
+    widths: &[u64; program::WIDTHS],
+    store: usize,
+    size: usize,
+    slots: &mut [u64; STORE],
+    frame: &mut [u64],
+) -> Signal
+    requires { ⌜ AsksRun (now nums) (now directory) (now ends) (now offsets) (now entries) (now widths) (now slots) (now frame) store size ⌝ }
+    ensures { λ r. ⌜ Runs (now (nums .entry)) (now (directory .entry)) (now (ends .entry)) (now (offsets .entry)) (now (entries .entry)) (now (widths .entry)) (now (slots .entry)) (now (slots .exit)) (now (frame .entry)) store size r ⌝ }
+{
+    copy(nums, store, size, slots);
+    slots[COUNTER] = 0;
+    let scope = [directory[shape::CALLABLES], 0, 0, 0, 0, program::APPLY, 0];
+    let body = directory[shape::BODY] as usize;
+    let ended = running::run_stmt(
+        nums,
+        ends,
+        directory,
+        &scope,
+        offsets,
+        entries,
+        widths,
+        DEEPEST,
+        body,
+        slots,
+        frame,
+    );
+    signal_of(ended)
+}

@@ -1,0 +1,7 @@
+pub mod Going
+mod Leaves
+mod Ones
+mod Twos
+mod Single
+pub mod Backs
+mod ComesBack

@@ -1,0 +1,243 @@
+-- Statements that run no other construct, by their tags.
+use mathlib.Core.Bool.{Bool, true, false}
+use mathlib.Core.Option.{Option, some}
+use mathlib.Core.Path.{_≡_, refl, _∙_, sym}
+use mathlib.Core.List.{List, []}
+use Prim.Native.Nat.{ℕ, _+_, _<_, _^_}
+use native.Mathlib.Omega.{arith}
+use lib.ListN.{length, getD}
+use Rattle.rules.specs.Syntax.{Stmt, empty, return, exit, setValid, setInvalid}
+use Rattle.rules.specs.Form.{andLook, Body, isFunction, Scope}
+use Rattle.rules.specs.Lists.{Cell}
+use Rattle.rules.specs.Running.{State, Ending, onward, returned, exited, Out, done, M, _>>=_, pure, must, orStuck, puts, headerOnly, shapeFor, changeStore, makeValid, makeInvalid, changeHeader, notInFunction}
+use Rattle.program.specs.Stands.{Holds, StandsStmt, on-empty, on-assign, on-if, on-block, on-call-stmt, on-apply, on-return-value, on-return, on-exit, on-set-valid, on-set-invalid}
+use Rattle.program.proofs.Views.{stmt-begins}
+use Rattle.store.specs.Mirrors.{Scene}
+use Rattle.store.specs.Changes.{AsksHeader, ChangesHeader}
+use Rattle.steps.specs.declared.Ended.{Ended}
+use Rattle.steps.specs.declared.Ended.the-variants.{Onward, Returned, Exited}
+use Rattle.steps.specs.Outcomes.{Goes, counterOf, Ran, Ends, ends-onward, ends-returned, ends-exited}
+use Rattle.steps.specs.Singles.{singleIn, AsksSingle, RunsSingle}
+use Rattle.steps.proofs.Going.{Known, Begun, not-nowhere, then-goes, some-then-goes, must-then-goes, must-then-is, some-then-is, ran-here, ran-then, ran-becomes}
+
+-- the statement at a tag
+pub data SingleOf (nums : List ℕ) (at : ℕ) : ℕ → Stmt → Type 0 where
+  is-empty : SingleOf nums at 0 (empty at)
+  is-return : SingleOf nums at 7 (return at)
+  is-exit : SingleOf nums at 8 (exit at)
+  is-valid : {g : ℕ} → Holds nums (at + 1) g → SingleOf nums at 9 (setValid at g)
+  is-invalid : {g : ℕ} → Holds nums (at + 1) g → SingleOf nums at 10 (setInvalid at g)
+
+single-of : {nums ends : List ℕ} {depth at : ℕ} {st : Stmt} (Γ : Scope) (s : State) (counted : ℕ)
+    → StandsStmt nums ends depth at st → Goes counted (singleIn Γ st s) → SingleOf nums at (getD nums at 0) st
+unfolding singleIn
+single-of Γ s counted (on-empty t) g = rw (t .holds .is) is-empty
+single-of Γ s counted (on-assign t p w e) g = not-nowhere s g
+single-of Γ s counted (on-if t c a b) g = not-nowhere s g
+single-of Γ s counted (on-block t n ss) g = not-nowhere s g
+single-of Γ s counted (on-call-stmt t f n xs) g = not-nowhere s g
+single-of Γ s counted (on-apply t n) g = not-nowhere s g
+single-of Γ s counted (on-return-value t e) g = not-nowhere s g
+single-of Γ s counted (on-return t) g = rw (t .holds .is) is-return
+single-of Γ s counted (on-exit t) g = rw (t .holds .is) is-exit
+single-of Γ s counted (on-set-valid t n) g = rw (t .holds .is) (is-valid n)
+single-of Γ s counted (on-set-invalid t n) g = rw (t .holds .is) (is-invalid n)
+
+-- its cases
+module _ (nums : List ℕ) (at : ℕ) where
+  empty-is : {tag : ℕ} {st : Stmt} → SingleOf nums at tag st → tag ≡ 0 → st ≡ empty at
+  empty-is is-empty q = refl
+  empty-is is-return q = absurd (omega (arith, q))
+  empty-is is-exit q = absurd (omega (arith, q))
+  empty-is (is-valid h) q = absurd (omega (arith, q))
+  empty-is (is-invalid h) q = absurd (omega (arith, q))
+
+  return-is : {tag : ℕ} {st : Stmt} → SingleOf nums at tag st → tag ≡ 7 → st ≡ return at
+  return-is is-empty q = absurd (omega (arith, q))
+  return-is is-return q = refl
+  return-is is-exit q = absurd (omega (arith, q))
+  return-is (is-valid h) q = absurd (omega (arith, q))
+  return-is (is-invalid h) q = absurd (omega (arith, q))
+
+  exit-is : {tag : ℕ} {st : Stmt} → SingleOf nums at tag st → tag ≡ 8 → st ≡ exit at
+  exit-is is-empty q = absurd (omega (arith, q))
+  exit-is is-return q = absurd (omega (arith, q))
+  exit-is is-exit q = refl
+  exit-is (is-valid h) q = absurd (omega (arith, q))
+  exit-is (is-invalid h) q = absurd (omega (arith, q))
+
+  pub record HeaderOf (make : ℕ → Stmt) (st : Stmt) : Type 0 where
+    pub inside : at + 1 < length nums
+    pub is : st ≡ make (getD nums (at + 1) 0)
+
+  valid-is : {tag : ℕ} {st : Stmt} → SingleOf nums at tag st → tag ≡ 9 → HeaderOf (setValid at) st
+  valid-is is-empty q = absurd (omega (arith, q))
+  valid-is is-return q = absurd (omega (arith, q))
+  valid-is is-exit q = absurd (omega (arith, q))
+  valid-is (is-valid h) q = record { inside = h .inside; is = rw (h .is) refl }
+  valid-is (is-invalid h) q = absurd (omega (arith, q))
+
+  invalid-is : {tag : ℕ} {st : Stmt} → SingleOf nums at tag st → (tag ≡ 0 → ⊥) → (tag ≡ 7 → ⊥) → (tag ≡ 8 → ⊥)
+      → (tag ≡ 9 → ⊥) → HeaderOf (setInvalid at) st
+  invalid-is is-empty a b c d = absurd (a refl)
+  invalid-is is-return a b c d = absurd (b refl)
+  invalid-is is-exit a b c d = absurd (c refl)
+  invalid-is (is-valid h) a b c d = absurd (d refl)
+  invalid-is (is-invalid h) a b c d = record { inside = h .inside; is = rw (h .is) refl }
+
+-- what the rules come to
+changes-known : (Γ : Scope) (g counted : ℕ) (f : Cell → Option Cell) (s : State)
+    → Goes counted ((changeHeader Γ g f >>= λ _. pure onward) s) → Known (andLook (shapeFor Γ g) headerOnly)
+unfolding changeHeader
+changes-known Γ g counted f s h =
+    let b : Begun counted (changeHeader Γ g f) (λ _. pure onward) s = then-goes _ _ s h in
+    let w = some-then-goes (andLook (shapeFor Γ g) headerOnly) (λ _. puts (changeStore f g)) s (b .first) in
+    record { member = w .member; is = w .is }
+
+outside : (b : Body) (ending : Ending) (counted : ℕ) (s : State) → Goes counted (notInFunction b ending s)
+    → notInFunction b ending s ≡ done ending s []
+unfolding notInFunction pure
+outside b ending counted s g =
+    let w = must-then-goes _ _ s g in
+    must-then-is _ _ s (w .0)
+
+module _ {nums directory ends scope offsets slots frame : List ℕ} {Γ : Scope} where
+  changes-ran : (g counted : ℕ) (f : Cell → Option Cell) (s : State) (slots′ : List ℕ)
+      → Scene nums directory ends scope offsets slots frame Γ s → ChangesHeader f offsets slots slots′ g
+      → Goes counted ((changeHeader Γ g f >>= λ _. pure onward) s)
+      → Ran nums directory ends scope offsets slots slots′ frame frame Γ ((changeHeader Γ g f >>= λ _. pure onward) s)
+      (Ends Onward)
+  unfolding changeHeader pure
+  changes-ran g counted f s slots′ h c going =
+      let k = changes-known Γ g counted f s going in
+      let ran : Ran nums directory ends scope offsets slots slots′ frame frame Γ (puts (changeStore f g) s) (λ _. Unit {0})
+      = ran-becomes (changeStore f g) s (c .changes nums directory ends scope frame Γ s (k .member) h (k .is)) in
+      let made : Ran nums directory ends scope offsets slots slots′ frame frame Γ (changeHeader Γ g f s) (λ _. Unit {0})
+      = rw (some-then-is (andLook (shapeFor Γ g) headerOnly) (λ _. puts (changeStore f g)) s (k .is)) ran in
+      ran-then (changeHeader Γ g f) (λ _. pure onward) s made (ran-here (made .state) onward (made .scene) refl
+      ends-onward)
+
+module _ (nums offsets slots : List ℕ) (at : ℕ) where
+  module _ (a : AsksSingle nums offsets slots at) where
+    this : SingleOf nums at (getD nums at 0) (a .stmt)
+    this = single-of (a .scopeOf) (a .state) (a .counted) (a .stands) (a .going)
+
+    pub single-inside : at < length nums
+    single-inside = stmt-begins (a .stands) .inside
+
+    pub single-next : at + 1 < 2 ^ 64
+    single-next = omega (arith, single-inside, a .scene .scopes .program .numbers)
+
+    asks-header : (make : ℕ → Stmt) (f : Cell → Option Cell)
+        → ((g : ℕ) → singleIn (a .scopeOf) (make g) ≡ (changeHeader (a .scopeOf) g f >>= λ _. pure onward))
+        → HeaderOf nums at make (a .stmt) → AsksHeader offsets slots (getD nums (at + 1) 0)
+    asks-header make f e h =
+        let going : Goes (a .counted) (singleIn (a .scopeOf) (make (getD nums (at + 1) 0)) (a .state))
+        = rw (h .is) at (a .going) in
+        let k = changes-known (a .scopeOf) (getD nums (at + 1) 0) (a .counted) f (a .state)
+        (rw (e (getD nums (at + 1) 0)) at going) in
+        record {
+          nums = nums;
+          directory = a .directory;
+          ends = a .ends;
+          scope = a .scope;
+          frame = a .frame;
+          scopeOf = a .scopeOf;
+          state = a .state;
+          widths = k .member;
+          scene = a .scene;
+          is = k .is;
+        }
+
+    pub valid-inside : getD nums at 0 ≡ 9 → at + 1 < length nums
+    valid-inside q = valid-is nums at this q .inside
+
+    pub valid-asks : getD nums at 0 ≡ 9 → AsksHeader offsets slots (getD nums (at + 1) 0)
+    unfolding singleIn
+    valid-asks q = asks-header (setValid at) makeValid (λ g. refl) (valid-is nums at this q)
+
+    module _ (w : getD nums at 0 ≡ 0 → ⊥) (x : getD nums at 0 ≡ 7 → ⊥) (y : getD nums at 0 ≡ 8 → ⊥)
+        (z : getD nums at 0 ≡ 9 → ⊥) where
+      pub invalid-inside : at + 1 < length nums
+      invalid-inside = invalid-is nums at this w x y z .inside
+
+      pub invalid-asks : AsksHeader offsets slots (getD nums (at + 1) 0)
+      unfolding singleIn
+      invalid-asks = asks-header (setInvalid at) makeInvalid (λ g. refl) (invalid-is nums at this w x y z)
+
+  empty-ran : (Γ : Scope) (s : State) (st : Stmt) → st ≡ empty at → singleIn Γ st s ≡ done onward s []
+  unfolding singleIn pure
+  empty-ran Γ s st e = rw e refl
+
+  return-ran : (Γ : Scope) (s : State) (st : Stmt) (counted : ℕ) → st ≡ return at → Goes counted (singleIn Γ st s)
+      → singleIn Γ st s ≡ done returned s []
+  unfolding singleIn
+  return-ran Γ s st counted e g = rw e (outside (Γ .body) returned counted s (rw e at g))
+
+  exit-ran : (Γ : Scope) (s : State) (st : Stmt) (counted : ℕ) → st ≡ exit at → Goes counted (singleIn Γ st s)
+      → singleIn Γ st s ≡ done exited s []
+  unfolding singleIn
+  exit-ran Γ s st counted e g = rw e (outside (Γ .body) exited counted s (rw e at g))
+
+  header-ran : (directory ends scope frame : List ℕ) (Γ : Scope) (s : State) (st : Stmt) (g counted : ℕ)
+      (make : ℕ → Stmt) (f : Cell → Option Cell) (slots′ : List ℕ)
+      → singleIn Γ (make g) ≡ (changeHeader Γ g f >>= λ _. pure onward) → st ≡ make g
+      → Scene nums directory ends scope offsets slots frame Γ s → ChangesHeader f offsets slots slots′ g
+      → Goes counted (singleIn Γ st s)
+      → Ran nums directory ends scope offsets slots slots′ frame frame Γ (singleIn Γ st s) (Ends Onward)
+  header-ran directory ends scope frame Γ s st g counted make f slots′ e same h c going =
+      let there : Goes counted (singleIn Γ (make g) s) = rw same at going in
+      rw (same, e) (changes-ran g counted f s slots′ h c (rw e at there))
+
+  pub empty-runs : getD nums at 0 ≡ 0 → RunsSingle nums offsets slots slots at Onward
+  empty-runs q = record {
+    runs = λ directory ends scope frame Γ s st depth counted h w g. ran-here s onward h
+        (empty-ran Γ s st (empty-is nums at (single-of Γ s counted w g) q)) ends-onward;
+  }
+
+  pub return-runs : getD nums at 0 ≡ 7 → RunsSingle nums offsets slots slots at Returned
+  return-runs q = record {
+    runs = λ directory ends scope frame Γ s st depth counted h w g. ran-here s returned h
+        (return-ran Γ s st counted (return-is nums at (single-of Γ s counted w g) q) g) ends-returned;
+  }
+
+  pub exit-runs : getD nums at 0 ≡ 8 → RunsSingle nums offsets slots slots at Exited
+  exit-runs q = record {
+    runs = λ directory ends scope frame Γ s st depth counted h w g. ran-here s exited h
+        (exit-ran Γ s st counted (exit-is nums at (single-of Γ s counted w g) q) g) ends-exited;
+  }
+
+  pub valid-runs : (slots′ : List ℕ) → getD nums at 0 ≡ 9
+      → ChangesHeader makeValid offsets slots slots′ (getD nums (at + 1) 0)
+      → RunsSingle nums offsets slots slots′ at Onward
+  unfolding singleIn
+  valid-runs slots′ q c = record {
+    runs = λ directory ends scope frame Γ s st depth counted h w g. header-ran directory ends scope frame Γ s st
+        (getD nums (at + 1) 0) counted (setValid at) makeValid slots′ refl
+        (valid-is nums at (single-of Γ s counted w g) q .is) h c g;
+  }
+
+  pub invalid-runs : (slots′ : List ℕ) → (getD nums at 0 ≡ 0 → ⊥) → (getD nums at 0 ≡ 7 → ⊥)
+      → (getD nums at 0 ≡ 8 → ⊥) → (getD nums at 0 ≡ 9 → ⊥)
+      → ChangesHeader makeInvalid offsets slots slots′ (getD nums (at + 1) 0)
+      → RunsSingle nums offsets slots slots′ at Onward
+  unfolding singleIn
+  invalid-runs slots′ x y z u c = record {
+    runs = λ directory ends scope frame Γ s st depth counted h w g. header-ran directory ends scope frame Γ s st
+        (getD nums (at + 1) 0) counted (setInvalid at) makeInvalid slots′ refl
+        (invalid-is nums at (single-of Γ s counted w g) x y z u .is) h c g;
+  }
+
+pub ruleset single = (
+  single-next,
+  single-inside,
+  valid-inside,
+  valid-asks,
+  invalid-inside,
+  invalid-asks,
+  empty-runs,
+  return-runs,
+  exit-runs,
+  valid-runs,
+  invalid-runs,
+)

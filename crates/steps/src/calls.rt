@@ -1,0 +1,170 @@
+// Around a call: where its arguments go, and what comes back.
+ghost use Rattle.steps.specs.Calls.{AsksOwn, Owns, AsksKeep, Keeps, AsksOneBack, BacksOne, AsksBack, Backs, AsksFinish, Finishes, AfterCall, Returns};
+use crate::Ended;
+use store::STORE;
+use store::write_place;
+use values::Value;
+
+// The direction from which on a number comes back.
+const OUT: u64 = 2;
+
+// How many slots a body's parameters and locals take: those behind them are free.
+pub fn own_slots(scope: &[u64; program::SCOPE]) -> usize
+    requires { ⌜ AsksOwn (now scope) ⌝ }
+    ensures { λ r. ⌜ Owns (now (scope .entry)) r ⌝ }
+{
+    scope[program::PARAMETER_COUNT] as usize + scope[program::LOCAL_COUNT] as usize
+}
+
+// A number is kept in a free slot.
+pub fn keep(slot: usize, number: u64, frame: &mut [u64])
+    requires { ⌜ AsksKeep (now frame) slot ⌝ }
+    ensures { λ r. ⌜ Keeps (now (frame .entry)) (now (frame .exit)) slot number ⌝ }
+{
+    frame[slot] = number;
+}
+
+// What comes back of one argument: the number that the callee left in a slot, where the direction is out or inout.
+fn write_back(
+    nums: &[u64],
+    scope: &[u64; program::SCOPE],
+    offsets: &[u64; lists::OFFSETS],
+    at: usize,
+    parameters: usize,
+    slot: usize,
+    slots: &mut [u64; STORE],
+    frame: &mut [u64],
+)
+    requires { ⌜ AsksOneBack (now nums) (now scope) (now offsets) (now slots) (now frame) at parameters slot ⌝ }
+    ensures { λ r. ⌜ BacksOne (now (nums .entry)) (now (scope .entry)) (now (offsets .entry)) (now (slots .entry)) (now (slots .exit)) (now (frame .entry)) (now (frame .exit)) at parameters slot ⌝ }
+{
+    if OUT <= nums[parameters] {
+        let number = frame[slot];
+        write_place(nums, scope, offsets, at, number, slots, frame);
+    }
+}
+
+// What comes back from so many arguments, from left to right: the numbers of out and inout parameters, which the callee
+// left in slots one after the other.
+fn come_back(
+    nums: &[u64],
+    ends: &[u64],
+    scope: &[u64; program::SCOPE],
+    offsets: &[u64; lists::OFFSETS],
+    at: usize,
+    parameters: usize,
+    count: usize,
+    slot: usize,
+    slots: &mut [u64; STORE],
+    frame: &mut [u64],
+)
+    requires { ⌜ AsksBack (now nums) (now ends) (now scope) (now offsets) (now slots) (now frame) at parameters count slot ⌝ }
+    ensures { λ r. ⌜ Backs (now (nums .entry)) (now (ends .entry)) (now (scope .entry)) (now (offsets .entry)) (now (slots .entry)) (now (slots .exit)) (now (frame .entry)) (now (frame .exit)) at parameters count slot ⌝ }
+{
+    if count != 0 {
+        write_back(nums, scope, offsets, at, parameters, slot, slots, frame);
+        come_back(
+            nums,
+            ends,
+            scope,
+            offsets,
+            ends[at] as usize,
+            parameters + 2,
+            count - 1,
+            slot + 1,
+            slots,
+            frame,
+        );
+    }
+}
+
+// What comes back behind a body that ended in some way: an exit writes nothing back.
+pub fn finish_call(
+    nums: &[u64],
+    ends: &[u64],
+    scope: &[u64; program::SCOPE],
+    offsets: &[u64; lists::OFFSETS],
+    at: usize,
+    parameters: usize,
+    count: usize,
+    slot: usize,
+    ended: Ended,
+    slots: &mut [u64; STORE],
+    frame: &mut [u64],
+) -> Ended
+    requires { ⌜ AsksFinish (now nums) (now ends) (now scope) (now offsets) (now slots) (now frame) at parameters count slot ended ⌝ }
+    ensures { λ r. ⌜ Finishes (now (nums .entry)) (now (ends .entry)) (now (scope .entry)) (now (offsets .entry)) (now (slots .entry)) (now (slots .exit)) (now (frame .entry)) (now (frame .exit)) at parameters count slot ended r ⌝ }
+{
+    match ended {
+        Ended::Onward => {
+            come_back(
+                nums,
+                ends,
+                scope,
+                offsets,
+                at,
+                parameters,
+                count,
+                slot,
+                slots,
+                frame,
+            );
+            Ended::Onward
+        }
+        Ended::Returned => {
+            come_back(
+                nums,
+                ends,
+                scope,
+                offsets,
+                at,
+                parameters,
+                count,
+                slot,
+                slots,
+                frame,
+            );
+            Ended::Returned
+        }
+        Ended::ReturnedValue { ty, number } => {
+            come_back(
+                nums,
+                ends,
+                scope,
+                offsets,
+                at,
+                parameters,
+                count,
+                slot,
+                slots,
+                frame,
+            );
+            Ended::ReturnedValue { ty, number }
+        }
+        Ended::Exited => Ended::Exited,
+    }
+}
+
+// How a statement that calls goes on: a value is dropped, an exit goes on out.
+pub fn after_call(ended: Ended) -> Ended
+    ensures { λ r. ⌜ AfterCall ended r ⌝ }
+{
+    match ended {
+        Ended::Onward => Ended::Onward,
+        Ended::Returned => Ended::Onward,
+        Ended::ReturnedValue { ty, number } => Ended::Onward,
+        Ended::Exited => Ended::Exited,
+    }
+}
+
+// The value that a body returned; one that returned none has no use for it.
+pub fn returned(ended: Ended) -> Value
+    ensures { λ r. ⌜ Returns ended (r .ty) (r .number) ⌝ }
+{
+    match ended {
+        Ended::Onward => Value { ty: 0, number: 0 },
+        Ended::Returned => Value { ty: 0, number: 0 },
+        Ended::ReturnedValue { ty, number } => Value { ty, number },
+        Ended::Exited => Value { ty: 0, number: 0 },
+    }
+}

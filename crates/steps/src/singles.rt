@@ -1,0 +1,43 @@
+// Statements that run no other construct.
+ghost use Rattle.steps.specs.Singles.{AsksSingle, RunsSingle};
+use crate::Ended;
+use store::STORE;
+use store::headers::set_invalid;
+use store::headers::set_valid;
+
+// The tags of these statements. The last is set invalid, 10.
+const EMPTY: u64 = 0;
+
+const RETURN: u64 = 7;
+
+const EXIT: u64 = 8;
+
+const SET_VALID: u64 = 9;
+
+// An empty statement, a return without a value, an exit, or a header that is made valid or invalid.
+pub fn single(
+    nums: &[u64],
+    offsets: &[u64; lists::OFFSETS],
+    at: usize,
+    slots: &mut [u64; STORE],
+) -> Ended
+    requires { ⌜ AsksSingle (now nums) (now offsets) (now slots) at ⌝ }
+    ensures { λ r. ⌜ RunsSingle (now (nums .entry)) (now (offsets .entry)) (now (slots .entry)) (now (slots .exit)) at r ⌝ }
+{
+    let tag = nums[at];
+    match tag {
+        EMPTY => Ended::Onward,
+        RETURN => Ended::Returned,
+        EXIT => Ended::Exited,
+        SET_VALID => {
+            let header = nums[at + 1] as usize;
+            set_valid(offsets, header, slots);
+            Ended::Onward
+        }
+        _ => {
+            let header = nums[at + 1] as usize;
+            set_invalid(offsets, header, slots);
+            Ended::Onward
+        }
+    }
+}
