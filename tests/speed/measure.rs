@@ -12,27 +12,27 @@ const ROUNDS: usize = 200;
 const RUNS: usize = 100;
 
 extern "C" {
-    fn nentuvar_read(bytes: *const u8, length: usize, slots: *mut u64, count: usize) -> usize;
-    fn nentuvar_scan(nums: *const u64, count: usize, directory: *mut [u64; SLOTS], ends: *mut [u64; MOST]) -> usize;
-    fn nentuvar_judge(nums: *const u64, count: usize, answer: *mut [u64; 3]);
+    fn speed_read(bytes: *const u8, length: usize, slots: *mut u64, count: usize) -> usize;
+    fn speed_scan(nums: *const u64, count: usize, directory: *mut [u64; SLOTS], ends: *mut [u64; MOST]) -> usize;
+    fn speed_judge(nums: *const u64, count: usize, answer: *mut [u64; 3]);
 }
 
 /// How many numbers the bytes hold, read into the slots.
 fn read(bytes: &[u8], slots: &mut [u64]) -> usize {
-    unsafe { nentuvar_read(bytes.as_ptr(), bytes.len(), slots.as_mut_ptr(), slots.len()) }
+    unsafe { speed_read(bytes.as_ptr(), bytes.len(), slots.as_mut_ptr(), slots.len()) }
 }
 
 /// The end of the program at the head of the numbers.
 fn scan(nums: &[u64], directory: &mut [u64; SLOTS], ends: &mut [u64; MOST]) -> usize {
     assert!(nums.len() <= MOST);
-    unsafe { nentuvar_scan(nums.as_ptr(), nums.len(), directory, ends) }
+    unsafe { speed_scan(nums.as_ptr(), nums.len(), directory, ends) }
 }
 
 /// What the judge says of the numbers: 1, ceiling and store length; or 0, the refusal's number and an index.
 fn judge(nums: &[u64]) -> [u64; 3] {
     assert!(nums.len() <= MOST);
     let mut answer = [0; 3];
-    unsafe { nentuvar_judge(nums.as_ptr(), nums.len(), &mut answer) };
+    unsafe { speed_judge(nums.as_ptr(), nums.len(), &mut answer) };
     answer
 }
 

@@ -14,7 +14,7 @@ use shape::Scan;
 
 // How many numbers the bytes hold, which stand in the slots then; 0 if they are refused.
 #[no_mangle]
-pub extern "C" fn nentuvar_read(bytes: &[u8], slots: &mut [u64]) -> usize
+pub extern "C" fn speed_read(bytes: &[u8], slots: &mut [u64]) -> usize
     ensures { λ r. ⌜ r ≡ countTold (readSays (now (bytes .entry)) (length (now (slots .entry)))) ⌝ }
 {
     match numbers::read(bytes, slots) {
@@ -25,7 +25,7 @@ pub extern "C" fn nentuvar_read(bytes: &[u8], slots: &mut [u64]) -> usize
 
 // The index after the program at the head of `nums`; 0 at a fault.
 #[no_mangle]
-pub extern "C" fn nentuvar_scan(
+pub extern "C" fn speed_scan(
     nums: &[u64],
     directory: &mut [u64; shape::SLOTS],
     ends: &mut [u64; shape::NUMBERS],
@@ -45,7 +45,7 @@ pub extern "C" fn nentuvar_scan(
 // What the judge says of the numbers: 1, the ceiling and the store's length; or 0, the refusal's number and the index of
 // the number at fault.
 #[no_mangle]
-pub extern "C" fn nentuvar_judge(nums: &[u64], answer: &mut [u64; 3])
+pub extern "C" fn speed_judge(nums: &[u64], answer: &mut [u64; 3])
     requires { ⌜ length (now nums) ≤ mostNumbers ⌝ }
     ensures { λ r. ⌜ now (answer .exit) ≡ judgingSays (now (nums .entry)) ⌝ }
 {

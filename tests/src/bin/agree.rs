@@ -14,14 +14,14 @@ use std::collections::BTreeMap;
 use std::process::ExitCode;
 
 extern "C" {
-    fn nentuvar_judge(nums: *const u64, count: usize, answer: *mut [u64; 3]);
+    fn speed_judge(nums: *const u64, count: usize, answer: *mut [u64; 3]);
 }
 
 /// What the verified judge says of the numbers: 1, ceiling and store length; or 0, the refusal's number and an index.
 fn verdict(nums: &[u64]) -> [u64; 3] {
     assert!(nums.len() <= MOST_BYTES);
     let mut answer = [u64::MAX; 3];
-    unsafe { nentuvar_judge(nums.as_ptr(), nums.len(), &mut answer) };
+    unsafe { speed_judge(nums.as_ptr(), nums.len(), &mut answer) };
     answer
 }
 

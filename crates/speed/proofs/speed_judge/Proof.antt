@@ -1,8 +1,8 @@
 -- What carries it: the verdict's numbers are those that the rules say.
 use Rattle.speed.proofs.Tells.{judging}
 use borrow.Author.Needs.{needs}
-use Rattle.speed.proofs.nentuvar_judge.Statement.{statement}
-use Rattle.speed.proofs.nentuvar_judge.Tie as tie
+use Rattle.speed.proofs.speed_judge.Statement.{statement}
+use Rattle.speed.proofs.speed_judge.Tie as tie
 
 judge-requires : tie.Need-judge-requires
 judge-requires c κs = search (judging, needs)
@@ -19,6 +19,6 @@ returns c = search (judging, needs)
 returns-2 : tie.Need-returns-2
 returns-2 c = search (judging, needs)
 
-pub nentuvar-judge-spec : {M : Type 1} → statement M
-nentuvar-judge-spec =
+pub speed-judge-spec : {M : Type 1} → statement M
+speed-judge-spec =
     tie.close (tie.spec judge-requires enum-known-verdict enum-known-verdict-2 returns returns-2)

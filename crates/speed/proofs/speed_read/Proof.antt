@@ -1,8 +1,8 @@
 -- What carries it: the number that an answer is told by.
 use Rattle.speed.proofs.Tells.{tells}
 use borrow.Author.Needs.{needs}
-use Rattle.speed.proofs.nentuvar_read.Statement.{statement}
-use Rattle.speed.proofs.nentuvar_read.Tie as tie
+use Rattle.speed.proofs.speed_read.Statement.{statement}
+use Rattle.speed.proofs.speed_read.Tie as tie
 
 read-requires : tie.Need-read-requires
 read-requires c κs = search (tells, needs)
@@ -25,7 +25,7 @@ same-length-2 c = search (tells, needs)
 returns-2 : tie.Need-returns-2
 returns-2 c = search (tells, needs)
 
-pub nentuvar-read-spec : {M : Type 1} → statement M
-nentuvar-read-spec =
+pub speed-read-spec : {M : Type 1} → statement M
+speed-read-spec =
     tie.close
     (tie.spec read-requires enum-known-count enum-told same-length returns same-length-2 returns-2)
