@@ -1,5 +1,7 @@
 //! Sheets: the text form of bench files. docs/SHEETS.md describes it.
 //! The tree, its reader and the numbers are the second interpreter's. Nothing here judges a file.
 
+pub mod make;
 pub mod names;
 pub mod show;
+pub mod source;
