@@ -1,13 +1,14 @@
 //! Explanations of files that are refused and of files that run, with the second interpreter's answers for the judge's.
 
-mod common;
+mod wild;
 
-use common::wild::wild_file;
 use second::answer::{marked, Answer};
+use second::example;
 use second::generate::bench_file;
 use second::numbers::MOST_BYTES;
 use sheet::explain::explain;
 use sheet::paint::Paint;
+use wild::wild_file;
 
 fn explanation(bytes: &[u8]) -> String {
     explain(bytes, &marked(bytes), Paint::NONE)
@@ -15,7 +16,7 @@ fn explanation(bytes: &[u8]) -> String {
 
 /// The corpus, generated files and files that keep to few rules.
 fn files() -> Vec<Vec<u8>> {
-    let corpus = common::corpus().into_iter().map(|(_, example)| example.bytes);
+    let corpus = example::corpus().expect("the corpus").into_iter().map(|(_, example)| example.bytes);
     let small = (0..4_000).map(|number| bench_file(21, number, 160));
     let large = (0..400).map(|number| bench_file(22, number, MOST_BYTES));
     corpus.chain(small).chain(large).chain((0..4_000).map(wild_file)).collect()

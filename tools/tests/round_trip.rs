@@ -1,14 +1,15 @@
 //! Every file that passes refusals 1 to 5 is shown, and the text makes the same bytes again.
 
-mod common;
+mod wild;
 
-use common::wild::wild_file;
 use second::answer::{judged, Refusal};
+use second::example;
 use second::generate::bench_file;
 use second::numbers::{self, MOST_BYTES};
 use second::shape;
 use sheet::make::make;
 use sheet::show::show;
+use wild::wild_file;
 
 /// Whether a file passes refusals 1 to 5.
 fn passes(bytes: &[u8]) -> bool {
@@ -30,7 +31,11 @@ fn goes_round(name: &str, bytes: &[u8]) -> bool {
 
 #[test]
 fn the_corpus_goes_round() {
-    let shown = common::corpus().iter().filter(|(name, example)| goes_round(name, &example.bytes)).count();
+    let shown = example::corpus()
+        .expect("the corpus")
+        .iter()
+        .filter(|(name, example)| goes_round(name, &example.bytes))
+        .count();
     assert!(shown > 350, "{shown}");
 }
 
