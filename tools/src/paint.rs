@@ -1,5 +1,6 @@
 //! Colours, where they are wanted.
 
+use std::ffi::OsString;
 use std::io::IsTerminal;
 
 #[derive(Clone, Copy)]
@@ -12,8 +13,11 @@ impl Paint {
 
     /// Colours if standard output is a terminal and NO_COLOR does not forbid them.
     pub fn of_standard_output() -> Paint {
-        let forbidden = std::env::var_os("NO_COLOR").is_some_and(|value| !value.is_empty());
-        Paint { colours: std::io::stdout().is_terminal() && !forbidden }
+        Paint::of(std::io::stdout().is_terminal(), std::env::var_os("NO_COLOR"))
+    }
+
+    fn of(is_terminal: bool, no_color: Option<OsString>) -> Paint {
+        Paint { colours: is_terminal && no_color.is_none_or(|value| value.is_empty()) }
     }
 
     /// What is at fault.
@@ -40,8 +44,10 @@ mod tests {
     use super::Paint;
 
     #[test]
-    fn text_is_coloured_only_on_demand() {
-        assert_eq!(Paint::NONE.fault("^"), "^");
-        assert_eq!(Paint { colours: true }.change("x"), "\x1b[1;33mx\x1b[0m");
+    fn text_is_coloured_only_on_a_terminal_that_wants_it() {
+        assert_eq!(Paint::of(true, None).change("x"), "\x1b[1;33mx\x1b[0m");
+        assert_eq!(Paint::of(true, Some("".into())).fault("^"), "\x1b[1;31m^\x1b[0m");
+        assert_eq!(Paint::of(true, Some("1".into())).fault("^"), "^");
+        assert_eq!(Paint::of(false, None).fault("^"), "^");
     }
 }
