@@ -61,7 +61,7 @@ impl Writer<'_> {
         self.body(&callable.locals, &callable.body);
     }
 
-    /// Locals and a body. The brackets stand for a block, unless exactly one statement stands in them.
+    /// Locals and a body. The braces stand for a block, unless exactly one statement stands in them.
     fn body(&mut self, locals: &[Type], body: &Statement) {
         self.page.open();
         for (number, &local) in locals.iter().enumerate() {
