@@ -223,10 +223,7 @@ impl<'a> Reader<'a> {
     }
 
     fn operator(&mut self) -> Shaped<Operator> {
-        use Operator::*;
-        let operators =
-            [Plus, Minus, Times, And, Or, Xor, ShiftLeft, ShiftRight, Equal, Unequal, Less, LessOrEqual, Both, Either];
-        Ok(operators[self.listed("an operator", 0, 13)?.value as usize])
+        Ok(OPERATORS[self.listed("an operator", 0, 13)?.value as usize])
     }
 
     fn call(&mut self, holder: usize) -> Shaped<Call> {
