@@ -4,6 +4,7 @@
 pub mod explain;
 pub mod make;
 pub mod names;
+pub mod operators;
 pub mod paint;
 pub mod show;
 pub mod source;

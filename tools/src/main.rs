@@ -41,7 +41,8 @@ struct Failure {
 }
 
 impl Failure {
-    fn usage(message: impl Into<String>) -> Failure {
+    /// A command, a file or a build that nothing can be done with.
+    fn unusable(message: impl Into<String>) -> Failure {
         Failure { status: 2, message: format!("sheet: {}\n", message.into()) }
     }
 }
@@ -65,16 +66,20 @@ fn run(words: &[&str]) -> Result<Vec<u8>, Failure> {
         ["show", file] => show_file(file).map(String::into_bytes),
         ["make", text] => make_file(text),
         ["explain", file] => explain_file(file).map(String::into_bytes),
-        ["show" | "make" | "explain", ..] => Err(Failure::usage(format!("{} takes one file (sheet --help)", words[0]))),
-        [] => Err(Failure::usage("which command? show, make or explain (sheet --help)")),
-        [other, ..] => Err(Failure::usage(format!("there is no command '{other}' (sheet --help)"))),
+        ["show" | "make" | "explain", ..] => {
+            Err(Failure::unusable(format!("{} takes one file (sheet --help)", words[0])))
+        }
+        [] => Err(Failure::unusable("which command? show, make or explain (sheet --help)")),
+        [other, ..] => Err(Failure::unusable(format!("there is no command '{other}' (sheet --help)"))),
     }
 }
 
 fn write(output: &[u8]) -> Result<(), Failure> {
     let mut standard_output = io::stdout().lock();
     match standard_output.write_all(output).and_then(|()| standard_output.flush()) {
-        Err(error) if error.kind() != ErrorKind::BrokenPipe => Err(Failure::usage(format!("standard output: {error}"))),
+        Err(error) if error.kind() != ErrorKind::BrokenPipe => {
+            Err(Failure::unusable(format!("standard output: {error}")))
+        }
         _ => Ok(()),
     }
 }
@@ -85,8 +90,8 @@ fn read(name: &str) -> Result<Vec<u8>, Failure> {
     let outcome =
         if name == "-" { io::stdin().lock().read_to_end(&mut bytes).map(|_| bytes) } else { std::fs::read(name) };
     match outcome {
-        Err(error) => Err(Failure::usage(format!("{name}: {error}"))),
-        Ok(bytes) if bytes.is_empty() => Err(Failure::usage(format!("{name}: the file is empty"))),
+        Err(error) => Err(Failure::unusable(format!("{name}: {error}"))),
+        Ok(bytes) if bytes.is_empty() => Err(Failure::unusable(format!("{name}: the file is empty"))),
         Ok(bytes) => Ok(bytes),
     }
 }
@@ -102,7 +107,7 @@ fn read_bench(name: &str) -> Result<Bench, Failure> {
     let bytes = read(name)?;
     match std::str::from_utf8(&bytes) {
         Ok(text) if text.starts_with("# ") => {
-            let example = Example::parse(text).map_err(|fault| Failure::usage(format!("{name}: {fault}")))?;
+            let example = Example::parse(text).map_err(|fault| Failure::unusable(format!("{name}: {fault}")))?;
             Ok(Bench { bytes: example.bytes.clone(), example: Some(example) })
         }
         _ => Ok(Bench { bytes, example: None }),
@@ -149,5 +154,5 @@ fn explain_file(name: &str) -> Result<String, Failure> {
 
 #[cfg(not(feature = "library"))]
 fn explain_file(_: &str) -> Result<String, Failure> {
-    Err(Failure::usage("explain needs the judge, which this build has not (tools/build links it)"))
+    Err(Failure::unusable("explain needs the judge, which this build has not (tools/build links it)"))
 }

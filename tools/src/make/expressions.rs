@@ -1,58 +1,48 @@
 //! Expressions, from text to numbers. A tag stands before its operands, but behind the first one's text: then it is put
 //! before the numbers that are there already.
 
+use super::tags::expression::*;
 use super::tokens::Token;
-use super::{too_deep, Maker, Read, Value};
+use super::{too_deep, Maker, Read};
+use crate::names::Sort;
+use crate::operators;
 use second::shape::DEEPEST;
 
-/// What stands between two operands: its symbol, how tightly it binds, and the numbers that it stands for.
-type Infix = (&'static str, usize, &'static [u64]);
-
-/// As in P4, from loose to tight.
-const INFIX: [Infix; 15] = [
-    ("||", 0, &[9, 13]),
-    ("&&", 1, &[9, 12]),
-    ("==", 2, &[9, 8]),
-    ("!=", 2, &[9, 9]),
-    ("<", 3, &[9, 10]),
-    ("<=", 3, &[9, 11]),
-    ("|", 4, &[9, 4]),
-    ("^", 5, &[9, 5]),
-    ("&", 6, &[9, 3]),
-    ("<<", 7, &[9, 6]),
-    (">>", 7, &[9, 7]),
-    ("+", 8, &[9, 0]),
-    ("-", 8, &[9, 1]),
-    ("++", 8, &[12]),
-    ("*", 9, &[9, 2]),
-];
+/// What stands between two operands: how tightly it binds, and its numbers.
+struct Infix {
+    strength: usize,
+    numbers: Vec<u64>,
+}
 
 impl<'a> Maker<'a> {
-    pub fn expression(&mut self) -> Read<()> {
-        self.deeper(|maker| maker.binary(0)).map(|_| ())
+    /// An expression; how high its tree is.
+    pub fn expression(&mut self) -> Read<usize> {
+        self.deeper(|maker| maker.binary(0))
     }
 
-    /// An expression of operators that bind at least so tightly; how high its tree is.
+    /// An expression of operators that bind at least so tightly.
     fn binary(&mut self, least: usize) -> Read<usize> {
         let start = self.items.len();
         let mut height = self.unary()?;
-        while let Some((_, strength, numbers)) = self.infix()?.filter(|(_, strength, _)| *strength >= least) {
+        while let Some(infix) = self.infix()?.filter(|infix| infix.strength >= least) {
             let at = self.text.at();
             self.text.advance();
-            self.insert(start, numbers, at);
-            let right = self.binary(strength + 1)?;
+            self.insert(start, &infix.numbers, at);
+            let right = self.binary(infix.strength + 1)?;
             height = self.higher(height.max(right))?;
         }
         Ok(height)
     }
 
     fn infix(&self) -> Read<Option<Infix>> {
-        match self.text.token() {
-            Token::Symbol(">" | ">=") => self.text.fault("there is < and <=; exchange the operands"),
-            Token::Symbol("/") => self.text.fault("there is no division"),
-            Token::Symbol(symbol) => Ok(INFIX.into_iter().find(|(infix, ..)| *infix == symbol)),
-            _ => Ok(None),
-        }
+        let symbol = match self.text.token() {
+            Token::Symbol(">" | ">=") => return self.text.fault("there is < and <=; exchange the operands"),
+            Token::Symbol("/") => return self.text.fault("there is no division"),
+            Token::Symbol(symbol) => symbol,
+            _ => return Ok(None),
+        };
+        let numbers = operators::number(symbol).map_or(vec![CONCATENATION], |number| vec![BINARY, number]);
+        Ok(operators::strength(symbol).map(|strength| Infix { strength, numbers }))
     }
 
     /// The height of a tree one above; a long row of operators makes a high one without nesting in the text.
@@ -69,15 +59,15 @@ impl<'a> Maker<'a> {
         match (self.text.token(), self.text.ahead(1)) {
             (Token::Symbol("!"), _) => {
                 self.text.advance();
-                self.push(7, at);
+                self.push(NOT, at);
             }
             (Token::Symbol("~"), _) => {
                 self.text.advance();
-                self.push(8, at);
+                self.push(COMPLEMENT, at);
             }
             (Token::Symbol("("), Token::Word("bit")) => {
                 self.text.advance();
-                self.push(10, at);
+                self.push(CAST, at);
                 self.text.expect_word("bit")?;
                 let width = self.width()?;
                 self.push(width, at);
@@ -105,7 +95,7 @@ impl<'a> Maker<'a> {
             self.text.expect(":")?;
             let low = self.text.number("a slice's low bound")?;
             self.text.expect("]")?;
-            self.insert(start, &[11, high, low], at);
+            self.insert(start, &[SLICE, high, low], at);
             height = self.higher(height)?;
         }
     }
@@ -115,19 +105,19 @@ impl<'a> Maker<'a> {
         match self.text.token() {
             Token::Literal(width, value) => {
                 self.text.advance();
-                [1, width, value].into_iter().for_each(|number| self.push(number, at));
+                [BITS, width, value].into_iter().for_each(|number| self.push(number, at));
                 Ok(1)
             }
             Token::Word(word @ ("true" | "false")) => {
                 self.text.advance();
-                self.push(0, at);
+                self.push(BOOL, at);
                 self.push(u64::from(word == "true"), at);
                 Ok(1)
             }
             Token::Word("bool") => self.bool_literal(),
             Token::Symbol("(") => {
                 self.text.advance();
-                let height = self.deeper(|maker| maker.binary(0))?;
+                let height = self.expression()?;
                 self.text.expect(")")?;
                 Ok(height)
             }
@@ -141,7 +131,7 @@ impl<'a> Maker<'a> {
         let at = self.text.at();
         self.text.advance();
         self.text.expect("(")?;
-        self.push(0, at);
+        self.push(BOOL, at);
         let number = self.text.number("a bool literal's number")?;
         self.push(number, at);
         self.text.expect(")")?;
@@ -154,12 +144,12 @@ impl<'a> Maker<'a> {
         let name = self.text.name("an expression")?;
         match self.text.token() {
             Token::Symbol("(") => {
-                self.push(13, at);
+                self.push(CALL, at);
                 return self.call(name, at);
             }
             Token::Symbol(".") if self.is_method("isValid") => {
                 self.method()?;
-                self.push(6, at);
+                self.push(VALID, at);
                 let global = self.names.global(name, at)?;
                 self.push(global, at);
             }
@@ -180,7 +170,7 @@ impl<'a> Maker<'a> {
         let field_at = self.text.at();
         let field = self.text.name("a field")?;
         let field = self.names.field(global, field, field_at)?;
-        self.push(5, at);
+        self.push(FIELD, at);
         self.push(global, at);
         self.push(field, field_at);
         Ok(())
@@ -201,11 +191,10 @@ impl<'a> Maker<'a> {
 
     /// A callable, whose name is read already, and its arguments; how high the call's tree is.
     pub fn call(&mut self, name: &'a str, at: usize) -> Read<usize> {
-        self.push_name(Value::Callable(name), at);
+        self.push_name(Sort::Function, name, at);
         let mut highest = 0;
         self.bracketed(|maker| {
-            let height = maker.deeper(|maker| maker.binary(0))?;
-            highest = highest.max(height);
+            highest = maker.expression()?.max(highest);
             Ok(())
         })?;
         self.higher(highest)

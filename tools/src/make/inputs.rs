@@ -1,7 +1,7 @@
 //! Entries and store, from text to numbers, and the numbers that are cut into neither.
 
 use super::tokens::Token;
-use super::{Maker, Read, Value};
+use super::{Maker, Read};
 use crate::source::Fault;
 use second::tree::*;
 
@@ -38,7 +38,7 @@ impl Maker<'_> {
         let dots = self.text.takes("...");
         self.text.expect("}")?;
         match (stated, dots) {
-            (None, false) => self.items[index].value = Value::Number(count),
+            (None, false) => self.items[index].number = count,
             (Some(_), true) => {}
             (None, true) => return Err(Fault::new(at, "entries that end in '...' say their count: entries 5 {")),
             (Some(_), false) => return Err(Fault::new(at, "only entries that end in '...' say their count")),

@@ -6,8 +6,10 @@ mod inputs;
 mod names;
 mod program;
 mod statements;
+mod tags;
 mod tokens;
 
+use crate::names::Sort;
 use crate::source::Fault;
 use cursor::Cursor;
 use names::Names;
@@ -41,30 +43,25 @@ struct Maker<'a> {
 
 /// A number of the file, and where the text says it.
 struct Item<'a> {
-    value: Value<'a>,
+    number: u64,
     at: usize,
-}
-
-#[derive(Clone, Copy)]
-enum Value<'a> {
-    Number(u64),
-    /// Names of what may be declared further down.
-    Callable(&'a str),
-    Table(&'a str),
+    /// What the number is looked up by, once all callables and tables are declared.
+    name: Option<(Sort, &'a str)>,
 }
 
 impl<'a> Maker<'a> {
     fn push(&mut self, number: u64, at: usize) {
-        self.items.push(Item { value: Value::Number(number), at });
+        self.items.push(Item { number, at, name: None });
     }
 
-    fn push_name(&mut self, value: Value<'a>, at: usize) {
-        self.items.push(Item { value, at });
+    /// The number of a callable or a table.
+    fn push_name(&mut self, sort: Sort, name: &'a str, at: usize) {
+        self.items.push(Item { number: 0, at, name: Some((sort, name)) });
     }
 
     /// Put numbers before those that begin at an index.
     fn insert(&mut self, index: usize, numbers: &[u64], at: usize) {
-        let items = numbers.iter().map(|&number| Item { value: Value::Number(number), at });
+        let items = numbers.iter().map(|&number| Item { number, at, name: None });
         self.items.splice(index..index, items);
     }
 
@@ -76,7 +73,7 @@ impl<'a> Maker<'a> {
         while member(self)? {
             count += 1;
         }
-        self.items[index].value = Value::Number(count);
+        self.items[index].number = count;
         Ok(())
     }
 
@@ -106,24 +103,20 @@ impl<'a> Maker<'a> {
         outcome
     }
 
-    /// Turn the names of callables and tables into numbers, now that all are declared.
+    /// Look up the names of callables and tables, now that all are declared.
     fn resolve(&mut self) -> Read<()> {
         for item in &mut self.items {
-            item.value = Value::Number(match item.value {
-                Value::Number(number) => number,
-                Value::Callable(name) => self.names.callable(name, item.at)?,
-                Value::Table(name) => self.names.table(name, item.at)?,
-            });
+            item.number = match item.name {
+                None => item.number,
+                Some((Sort::Table, name)) => self.names.table(name, item.at)?,
+                Some((_, name)) => self.names.callable(name, item.at)?,
+            };
         }
         Ok(())
     }
 
     fn numbers(&self) -> Vec<u64> {
-        let number = |item: &Item| match item.value {
-            Value::Number(number) => Some(number),
-            Value::Callable(_) | Value::Table(_) => None,
-        };
-        self.items.iter().filter_map(number).collect()
+        self.items.iter().map(|item| item.number).collect()
     }
 
     /// The program's tree, if the numbers so far keep to the lists and the depth that a file may have.

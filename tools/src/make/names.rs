@@ -1,5 +1,6 @@
 //! What names stand for: what is declared under them, or else the number of a regular name.
 
+use super::tags::expression::{GLOBAL, LOCAL, PARAMETER};
 use super::Read;
 use crate::names::Sort;
 use crate::source::Fault;
@@ -48,9 +49,9 @@ impl<'a> Names<'a> {
 
     /// Tag and number of a local, a parameter or a global.
     pub fn variable(&self, name: &str, at: usize) -> Read<(u64, u64)> {
-        let lists = [(2, &self.locals), (3, &self.parameters), (4, &self.globals)];
+        let lists = [(LOCAL, &self.locals), (PARAMETER, &self.parameters), (GLOBAL, &self.globals)];
         let declared = lists.iter().find_map(|(tag, list)| Some((*tag, position(list, name)?)));
-        let sorts = [(2, Sort::Local), (3, Sort::Parameter), (4, Sort::Global)];
+        let sorts = [(LOCAL, Sort::Local), (PARAMETER, Sort::Parameter), (GLOBAL, Sort::Global)];
         let regular = || sorts.iter().find_map(|(tag, sort)| Some((*tag, sort.number(name)?)));
         let fault = || Fault::new(at, format!("there is no local, parameter or global '{name}'"));
         declared.or_else(regular).ok_or_else(fault)

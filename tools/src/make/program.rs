@@ -1,6 +1,7 @@
 //! Header types, globals, callables, tables and the apply body, from text to numbers.
 
 use super::names::declare;
+use super::tags::statement::BLOCK;
 use super::tokens::Token;
 use super::{Maker, Read};
 use crate::source::Fault;
@@ -174,7 +175,7 @@ impl<'a> Maker<'a> {
             count += 1;
         }
         if count != 1 {
-            self.insert(start, &[3, count], at);
+            self.insert(start, &[BLOCK, count], at);
         }
         Ok(())
     }

@@ -1,7 +1,9 @@
 //! Statements, from text to numbers.
 
+use super::tags::statement::*;
 use super::tokens::Token;
-use super::{Maker, Read, Value};
+use super::{Maker, Read};
+use crate::names::Sort;
 
 impl<'a> Maker<'a> {
     pub fn statement(&mut self) -> Read<()> {
@@ -12,18 +14,18 @@ impl<'a> Maker<'a> {
         let at = self.text.at();
         match self.text.token() {
             Token::Symbol(";") => {
-                self.push(0, at);
+                self.push(EMPTY, at);
                 self.text.semicolon()
             }
             Token::Symbol("{") => {
-                self.push(3, at);
+                self.push(BLOCK, at);
                 self.block()
             }
             Token::Word("if") => self.choice(),
             Token::Word("return") => self.ending(),
             Token::Word("exit") => {
                 self.text.advance();
-                self.push(8, at);
+                self.push(EXIT, at);
                 self.text.semicolon()
             }
             Token::Word("bit" | "bool") => self.text.fault("locals stand at the head of an action or a function"),
@@ -46,7 +48,7 @@ impl<'a> Maker<'a> {
     fn choice(&mut self) -> Read<()> {
         let at = self.text.at();
         self.text.expect_word("if")?;
-        self.push(2, at);
+        self.push(IF, at);
         self.text.expect("(")?;
         self.expression()?;
         self.text.expect(")")?;
@@ -54,7 +56,7 @@ impl<'a> Maker<'a> {
         if self.text.takes_word("else") {
             self.statement()
         } else {
-            self.push(0, at);
+            self.push(EMPTY, at);
             Ok(())
         }
     }
@@ -63,10 +65,10 @@ impl<'a> Maker<'a> {
         let at = self.text.at();
         self.text.expect_word("return")?;
         if self.text.takes(";") {
-            self.push(7, at);
+            self.push(RETURN, at);
             return Ok(());
         }
-        self.push(6, at);
+        self.push(RETURN_VALUE, at);
         self.expression()?;
         self.text.semicolon()
     }
@@ -76,18 +78,18 @@ impl<'a> Maker<'a> {
         let at = self.text.at();
         let name = self.text.name("a statement")?;
         if self.text.token() == Token::Symbol("(") {
-            self.push(4, at);
+            self.push(CALL, at);
             self.call(name, at)?;
         } else if self.is_method("apply") {
             self.method()?;
-            self.push(5, at);
-            self.push_name(Value::Table(name), at);
+            self.push(APPLY, at);
+            self.push_name(Sort::Table, name, at);
         } else if self.is_method("setValid") {
-            self.set(name, 9, at)?;
+            self.set(name, SET_VALID, at)?;
         } else if self.is_method("setInvalid") {
-            self.set(name, 10, at)?;
+            self.set(name, SET_INVALID, at)?;
         } else {
-            self.push(1, at);
+            self.push(ASSIGN, at);
             self.place(name, at)?;
             self.text.expect("=")?;
             self.expression()?;

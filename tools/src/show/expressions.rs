@@ -2,10 +2,11 @@
 
 use super::{Part, Writer};
 use crate::names::Sort;
+use crate::operators::{symbol, CONCATENATION};
 use second::numbers::Number;
 use second::tree::*;
 
-/// Whether an expression binds its operands as tightly as its place asks, from loose to tight.
+/// How tightly an expression holds together, from loose to tight.
 #[derive(PartialEq, PartialOrd)]
 enum Binding {
     Binary,
@@ -82,7 +83,7 @@ impl Writer<'_> {
         self.name(self.callable_sort(call.callable), call.callable);
         self.page.write("(");
         for (index, argument) in call.arguments.iter().enumerate() {
-            self.page.write(if index > 0 { ", " } else { "" });
+            self.page.comma_before(index);
             self.expression(argument);
         }
         self.page.write(")");
@@ -94,28 +95,6 @@ impl Writer<'_> {
             Some(CallableKind::Action) => Sort::Action,
             Some(CallableKind::Function(_)) | None => Sort::Function,
         }
-    }
-}
-
-const CONCATENATION: &str = "++";
-
-pub fn symbol(operator: Operator) -> &'static str {
-    use Operator::*;
-    match operator {
-        Plus => "+",
-        Minus => "-",
-        Times => "*",
-        And => "&",
-        Or => "|",
-        Xor => "^",
-        ShiftLeft => "<<",
-        ShiftRight => ">>",
-        Equal => "==",
-        Unequal => "!=",
-        Less => "<",
-        LessOrEqual => "<=",
-        Both => "&&",
-        Either => "||",
     }
 }
 

@@ -16,8 +16,8 @@ impl Writer<'_> {
         let Some(count) = entries.count else { return };
         self.entries(count, &entries, length);
         if !entries.are_all_there() {
-            let table_is_bad = entries.members.iter().all(|entry| entry.arguments.is_some());
-            let first = if table_is_bad { Part::EntryTable } else { Part::Uncut };
+            let at_an_entry = entries.members.iter().all(|entry| entry.arguments.is_some());
+            let first = if at_an_entry { Part::EntryTable } else { Part::Uncut };
             return self.numbers(entries.rest, first, Part::Uncut, length);
         }
         let store = cut::store(self.program, entries.rest);
@@ -58,7 +58,7 @@ impl Writer<'_> {
         self.page.write_marked(&Sort::Table.name(entry.table.value), entry.table.place, Part::EntryTable);
         self.page.write(" (");
         for (index, pattern) in entry.patterns.iter().enumerate() {
-            self.page.write(if index > 0 { ", " } else { "" });
+            self.page.comma_before(index);
             self.pattern(pattern);
         }
         self.page.write("): ");
@@ -115,7 +115,7 @@ impl Writer<'_> {
                 self.page.write_marked(&mark_text(mark.value), mark.place, Part::ValidMark);
                 self.page.write(" { ");
                 for (index, field) in fields.iter().enumerate() {
-                    self.page.write(if index > 0 { ", " } else { "" });
+                    self.page.comma_before(index);
                     self.page.write_marked(&field.value.to_string(), field.place, Part::StoreField);
                 }
                 self.page.write(" }");

@@ -111,6 +111,13 @@ impl Page {
         self.mark(place, part, start);
     }
 
+    /// What separates the member of a list at an index from the one before.
+    pub fn comma_before(&mut self, index: usize) {
+        if index > 0 {
+            self.write(", ");
+        }
+    }
+
     pub fn new_line(&mut self) {
         self.text.push('\n');
         self.text.push_str(&INDENT.repeat(self.depth));

@@ -141,7 +141,7 @@ impl Writer<'_> {
     pub fn plain_arguments(&mut self, arguments: &[Number], kinds: &[Type], part: Part) {
         self.page.write("(");
         for (index, argument) in arguments.iter().enumerate() {
-            self.page.write(if index > 0 { ", " } else { "" });
+            self.page.comma_before(index);
             let value = plain_value(argument.value, kinds.get(index).copied());
             self.page.write_marked(&value, argument.place, part);
         }
