@@ -23,10 +23,10 @@ pub use library::answer;
 mod library {
     use super::{answer_of, Words};
     use second::answer::Answer;
+    use second::run::WORKING_SLOTS;
 
     /// A store has at most 32 headers, each with a mark and 16 fields.
     const RESULT_SLOTS: usize = 32 * 17;
-    const WORKING_SLOTS: usize = 8_192;
 
     #[link(name = "calls", kind = "static")]
     extern "C" {

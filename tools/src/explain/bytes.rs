@@ -3,11 +3,11 @@
 use super::{place_line, rule_line, rules};
 use crate::paint::Paint;
 use second::answer::Refusal;
-use second::{numbers, shape};
+use second::numbers::{self, MOST_BYTES_OF_A_NUMBER};
+use second::shape;
 
 /// How many bytes are shown on each side of the number at fault.
 const AROUND: usize = 8;
-const MOST_BYTES_OF_A_NUMBER: usize = 10;
 
 pub fn explain_bytes(bytes: &[u8], refusal: Refusal, paint: Paint) -> String {
     let rule = rule_line(refusal, rules::general(refusal.number));
