@@ -11,6 +11,7 @@
 
 use crate::answer::{marked, unjudged, Answer};
 use crate::numbers;
+use std::path::Path;
 
 pub struct Example {
     pub about: String,
@@ -24,6 +25,19 @@ pub struct Example {
 pub fn read(file: &str) -> Result<Example, String> {
     let text = std::fs::read_to_string(file).map_err(|error| format!("{file}: {error}"))?;
     Example::parse(&text).map_err(|fault| format!("{file}: {fault}"))
+}
+
+/// Name and example of each file of the corpus.
+pub fn corpus() -> Result<Vec<(String, Example)>, String> {
+    let folder = Path::new(env!("CARGO_MANIFEST_DIR")).join("corpus");
+    let files = std::fs::read_dir(&folder).map_err(|error| format!("{}: {error}", folder.display()))?;
+    let mut examples = Vec::new();
+    for file in files {
+        let path = file.map_err(|error| error.to_string())?.path();
+        let name = path.file_stem().unwrap_or_default().to_string_lossy().into_owned();
+        examples.push((name, read(&path.to_string_lossy())?));
+    }
+    Ok(examples)
 }
 
 impl Example {

@@ -4,6 +4,7 @@
 pub mod answer;
 pub mod ceiling;
 pub mod census;
+pub mod cut;
 pub mod example;
 pub mod generate;
 pub mod inputs;

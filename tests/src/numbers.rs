@@ -3,7 +3,8 @@
 use crate::answer::Refusal;
 
 pub const MOST_BYTES: usize = 4096;
-const MOST_BYTES_OF_A_NUMBER: usize = 10;
+/// A tenth byte ends its number.
+pub const MOST_BYTES_OF_A_NUMBER: usize = 10;
 
 /// A number of the stream and the offset of its first byte.
 #[derive(Clone, Copy, Debug, PartialEq, Eq)]

@@ -132,6 +132,24 @@ pub enum Operator {
     Either,
 }
 
+/// All operators, in the file's order.
+pub const OPERATORS: [Operator; 14] = [
+    Operator::Plus,
+    Operator::Minus,
+    Operator::Times,
+    Operator::And,
+    Operator::Or,
+    Operator::Xor,
+    Operator::ShiftLeft,
+    Operator::ShiftRight,
+    Operator::Equal,
+    Operator::Unequal,
+    Operator::Less,
+    Operator::LessOrEqual,
+    Operator::Both,
+    Operator::Either,
+];
+
 pub struct Statement {
     /// The tag's place.
     pub place: usize,

@@ -12,7 +12,7 @@ mod scope;
 use crate::numbers::MOST_BYTES;
 use draft::Draft;
 use program::Builder;
-use random::Random;
+pub use random::Random;
 
 /// The bench file of a seed and a number; `largest` limits its bytes, where no fault lengthens it.
 pub fn bench_file(seed: u64, number: u64, largest: usize) -> Vec<u8> {

@@ -1,0 +1,9 @@
+//! Where the linker finds the proved judge and runner, if they are asked for.
+
+fn main() {
+    println!("cargo:rerun-if-changed=build.rs");
+    if std::env::var_os("CARGO_FEATURE_LIBRARY").is_some() {
+        let folder = std::env::var("CARGO_MANIFEST_DIR").expect("cargo names the package's folder");
+        println!("cargo:rustc-link-search=native={folder}/../target/staticlib");
+    }
+}

@@ -1,0 +1,78 @@
+//! What the proved judge and runner answer, through their C calls. Everything else here takes the answer as given.
+
+use second::answer::{Answer, Refusal, Signal};
+
+/// What a call answers: 1 (done) or 2 (exit), steps, ceiling, store length and 0; or 0, a refusal's number, its place.
+pub type Words = [u64; 5];
+
+/// The answer that a call's words stand for, with the result slots that it filled.
+pub fn answer_of(words: Words, results: &[u64]) -> Answer {
+    let [first, second, third, length, _] = words;
+    let signal = match first {
+        0 => return Answer::Refused(Refusal::at(second as u8, third as usize)),
+        1 => Signal::Done,
+        _ => Signal::Exit,
+    };
+    Answer::Finished { signal, steps: second, ceiling: third, store: results[..length as usize].to_vec() }
+}
+
+#[cfg(feature = "library")]
+pub use library::answer;
+
+#[cfg(feature = "library")]
+mod library {
+    use super::{answer_of, Words};
+    use second::answer::Answer;
+    use second::run::WORKING_SLOTS;
+
+    /// A store has at most 32 headers, each with a mark and 16 fields.
+    const RESULT_SLOTS: usize = 32 * 17;
+
+    #[link(name = "calls", kind = "static")]
+    extern "C" {
+        fn nentuvar_run(
+            bytes: *const u8,
+            length: usize,
+            results: *mut u64,
+            result_count: usize,
+            working: *mut u64,
+            working_count: usize,
+            answer: *mut Words,
+        );
+    }
+
+    /// The judge's refusal of a file, or the runner's answer.
+    pub fn answer(bytes: &[u8]) -> Answer {
+        let mut results = [0; RESULT_SLOTS];
+        let mut working = vec![0; WORKING_SLOTS];
+        let mut words: Words = [0; 5];
+        // The call reads and writes only the slices that it is lent, by their lengths.
+        unsafe {
+            nentuvar_run(
+                bytes.as_ptr(),
+                bytes.len(),
+                results.as_mut_ptr(),
+                results.len(),
+                working.as_mut_ptr(),
+                working.len(),
+                &mut words,
+            )
+        };
+        answer_of(words, &results)
+    }
+}
+
+#[cfg(test)]
+mod tests {
+    use super::answer_of;
+    use second::answer::{Answer, Refusal, Signal};
+
+    #[test]
+    fn words_stand_for_answers() {
+        assert_eq!(answer_of([0, 7, 14, 0, 0], &[]), Answer::Refused(Refusal::at(7, 14)));
+        let done = Answer::Finished { signal: Signal::Done, steps: 4, ceiling: 5, store: vec![1, 6, 9] };
+        assert_eq!(answer_of([1, 4, 5, 3, 0], &[1, 6, 9, 0, 0]), done);
+        let exit = Answer::Finished { signal: Signal::Exit, steps: 1, ceiling: 1, store: vec![] };
+        assert_eq!(answer_of([2, 1, 1, 0, 0], &[7]), exit);
+    }
+}

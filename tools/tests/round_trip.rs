@@ -1,0 +1,72 @@
+//! Every file that passes refusals 1 to 5 is shown, and the text makes the same bytes again.
+
+mod wild;
+
+use second::answer::{judged, Refusal};
+use second::example;
+use second::generate::bench_file;
+use second::numbers::{self, MOST_BYTES};
+use second::shape;
+use sheet::make::make;
+use sheet::show::show;
+use wild::wild_file;
+
+/// Whether a file passes refusals 1 to 5.
+fn passes(bytes: &[u8]) -> bool {
+    numbers::read(bytes).is_ok_and(|numbers| shape::read(&numbers, bytes.len()).is_ok())
+}
+
+/// Show a file and make it again; whether it could be shown.
+fn goes_round(name: &str, bytes: &[u8]) -> bool {
+    let Ok(sheet) = show(bytes) else {
+        assert!(!passes(bytes), "{name} is not shown");
+        return false;
+    };
+    match make(&sheet.text) {
+        Ok(made) => assert_eq!(made, bytes, "{name}\n{}", sheet.text),
+        Err(fault) => panic!("{name}: {}\n{}", fault.told("shown", &sheet.text), sheet.text),
+    }
+    true
+}
+
+#[test]
+fn the_corpus_goes_round() {
+    let shown = example::corpus()
+        .expect("the corpus")
+        .iter()
+        .filter(|(name, example)| goes_round(name, &example.bytes))
+        .count();
+    assert!(shown > 350, "{shown}");
+}
+
+/// Generated files, damaged ones among them; how many are shown, and how many of these the judge refuses.
+fn generated(seed: u64, count: u64, largest: usize) -> (u64, u64) {
+    let (mut shown, mut refused) = (0, 0);
+    for number in 0..count {
+        let bytes = bench_file(seed, number, largest);
+        if goes_round(&format!("file {number} of seed {seed}"), &bytes) {
+            shown += 1;
+            refused += u64::from(matches!(judged(&bytes), Err(Refusal { number: 6..=12, .. })));
+        }
+    }
+    (shown, refused)
+}
+
+#[test]
+fn small_generated_files_go_round() {
+    let (shown, refused) = generated(11, 20_000, 160);
+    assert!(shown > 15_000 && refused > 4_000, "{shown} shown, {refused} of them refused");
+}
+
+#[test]
+fn large_generated_files_go_round() {
+    let (shown, refused) = generated(12, 2_000, MOST_BYTES);
+    assert!(shown > 1_500 && refused > 300, "{shown} shown, {refused} of them refused");
+}
+
+#[test]
+fn files_that_keep_to_no_rule_of_form_go_round() {
+    for seed in 0..20_000 {
+        assert!(goes_round(&format!("wild file {seed}"), &wild_file(seed)), "wild file {seed} does not pass");
+    }
+}
