@@ -6,10 +6,10 @@
 //! ```
 
 use second::answer::judged;
+use second::example;
 use second::generate::bench_file;
 use second::inputs::store_numbers;
 use second::numbers::{self, MOST_BYTES};
-use second::example;
 use std::collections::BTreeMap;
 use std::process::ExitCode;
 
@@ -90,5 +90,9 @@ fn main() -> ExitCode {
         println!("{answer}: {count}");
     }
     println!("{} differences", tally.differences);
-    if tally.differences == 0 && !tally.answers.is_empty() { ExitCode::SUCCESS } else { ExitCode::FAILURE }
+    if tally.differences == 0 && !tally.answers.is_empty() {
+        ExitCode::SUCCESS
+    } else {
+        ExitCode::FAILURE
+    }
 }
