@@ -1,2 +1,4 @@
 pub mod Judging
+mod Lent
+mod Running
 pub mod Promises

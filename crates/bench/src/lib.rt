@@ -1,18 +1,27 @@
-// What users call: numbers read and written, bench files judged. No operation asks anything of what it is given.
+// What users call: numbers read and written, bench files judged and run. No operation asks anything of what it is given.
 use judge::Verdict;
 use rules::JudgeAnswer;
 use rules::ReadAnswer;
 use rules::Refusal;
+use rules::RunAnswer;
 use rules::WriteAnswer;
+use steps::operands::COUNTER;
+use store::STORE;
+use store::fill::clear;
+use store::fill::copy;
 ghost use mathlib.Core.Path.{_≡_};
 ghost use lib.ListN.{length};
 ghost use Rattle.rules.specs.Numbers.{streamOf, numbers};
 ghost use Rattle.rules.specs.Answers.{ofJudge, judgeSays};
 ghost use Rattle.numbers.specs.Parts.{Roomy};
 ghost use Rattle.numbers.specs.Promises.{Reads, Writes};
+ghost use Rattle.bench.specs.Runs.{RunsFile, AsksAccepted, RunsAccepted, AsksLent};
 
 // A file of at most so many bytes is read into as many slots, which are set to 0 in less time than those of the longest.
 const SHORT: usize = 512;
+
+// The working slots that a run asks for, and which it leaves at 0.
+const WORKING: usize = 8192;
 
 // The bytes as numbers, into the slots from the first on: how many; or refused 1, 2, 3 or 13, with the slots as found.
 pub fn read(bytes: &[u8], slots: &mut [u64]) -> ReadAnswer
@@ -81,5 +90,149 @@ fn judge_numbers(bytes: &[u8], nums: &[u64]) -> JudgeAnswer
             let place = numbers::place_of(bytes, index);
             JudgeAnswer::Refused(Refusal { number, place })
         }
+    }
+}
+
+// The run of a bench file: how it ended, its steps, ceiling and store's length, with the final store in the result slots
+// and the working slots at 0; or refused 1 to 12 as the judge refuses it, or 13 where too few slots are lent, with all
+// slots as found.
+pub fn run(bytes: &[u8], results: &mut [u64], working: &mut [u64]) -> RunAnswer
+    ensures { λ r. ⌜ RunsFile (now (bytes .entry)) (now (results .entry)) (now (results .exit)) (now (working .entry)) (now (working .exit)) r ⌝ }
+{
+    if bytes.len() <= SHORT {
+        let mut slots = [0u64; SHORT];
+        run_in(bytes, &mut slots, results, working)
+    } else {
+        let mut slots = [0u64; shape::NUMBERS];
+        run_in(bytes, &mut slots, results, working)
+    }
+}
+
+// The same, with slots lent for all numbers that the bytes may hold.
+fn run_in(
+    bytes: &[u8],
+    slots: &mut [u64],
+    results: &mut [u64],
+    working: &mut [u64],
+) -> RunAnswer
+    requires { ⌜ Roomy (now bytes) (length (now slots)) ⌝ }
+    ensures { λ r. ⌜ RunsFile (now (bytes .entry)) (now (results .entry)) (now (results .exit)) (now (working .entry)) (now (working .exit)) r ⌝ }
+{
+    let answer = numbers::read(bytes, slots);
+    match answer {
+        ReadAnswer::Count(count) => run_numbers(bytes, &slots[..count], results, working),
+        ReadAnswer::Unread(refusal) => RunAnswer::Unrun(refusal),
+    }
+}
+
+// The same, for the numbers that the bytes hold.
+fn run_numbers(
+    bytes: &[u8],
+    nums: &[u64],
+    results: &mut [u64],
+    working: &mut [u64],
+) -> RunAnswer
+    requires { ⌜ streamOf (now bytes) ≡ numbers (now nums) ⌝ }
+    ensures { λ r. ⌜ RunsFile (now (bytes .entry)) (now (results .entry)) (now (results .exit)) (now (working .entry)) (now (working .exit)) r ⌝ }
+{
+    let mut directory = [0u64; shape::SLOTS];
+    let mut ends = [0u64; shape::NUMBERS];
+    let mut widths = [0u64; program::WIDTHS];
+    let mut entries = [0u64; lists::ENTRIES];
+    let mut offsets = [0u64; lists::OFFSETS];
+    let verdict = judge::judge(
+        nums,
+        &mut directory,
+        &mut ends,
+        &mut widths,
+        &mut entries,
+        &mut offsets,
+    );
+    match verdict {
+        Verdict::Accepted {
+            ceiling,
+            store,
+            length,
+        } => run_accepted(
+            nums, &ends, &directory, &offsets, &entries, &widths, ceiling, store, length, results, working,
+        ),
+        Verdict::Refused { number, index } => {
+            let place = numbers::place_of(bytes, index);
+            RunAnswer::Unrun(Refusal { number, place })
+        }
+    }
+}
+
+// The run of an accepted file, where the slots lent are enough.
+fn run_accepted(
+    nums: &[u64],
+    ends: &[u64],
+    directory: &[u64; shape::SLOTS],
+    offsets: &[u64; lists::OFFSETS],
+    entries: &[u64; lists::ENTRIES],
+    widths: &[u64; program::WIDTHS],
+    ceiling: u64,
+    store: usize,
+    length: usize,
+    results: &mut [u64],
+    working: &mut [u64],
+) -> RunAnswer
+    requires { ⌜ AsksAccepted (now nums) (now directory) (now ends) (now offsets) (now entries) (now widths) ceiling store length ⌝ }
+    ensures { λ r. ⌜ RunsAccepted (now (nums .entry)) (now (directory .entry)) (now (ends .entry)) (now (offsets .entry)) (now (entries .entry)) (now (widths .entry)) (now (results .entry)) (now (results .exit)) (now (working .entry)) (now (working .exit)) ceiling store length r ⌝ }
+{
+    if working.len() < WORKING {
+        RunAnswer::Unrun(Refusal {
+            number: 13,
+            place: 0,
+        })
+    } else if results.len() < length {
+        RunAnswer::Unrun(Refusal {
+            number: 13,
+            place: 0,
+        })
+    } else {
+        run_lent(
+            nums, ends, directory, offsets, entries, widths, ceiling, store, length, results, working,
+        )
+    }
+}
+
+// The run itself: frames in the working slots behind the store's length. The store is copied into the result slots.
+fn run_lent(
+    nums: &[u64],
+    ends: &[u64],
+    directory: &[u64; shape::SLOTS],
+    offsets: &[u64; lists::OFFSETS],
+    entries: &[u64; lists::ENTRIES],
+    widths: &[u64; program::WIDTHS],
+    ceiling: u64,
+    store: usize,
+    length: usize,
+    results: &mut [u64],
+    working: &mut [u64],
+) -> RunAnswer
+    requires { ⌜ AsksLent (now nums) (now directory) (now ends) (now offsets) (now entries) (now widths) (now results) (now working) ceiling store length ⌝ }
+    ensures { λ r. ⌜ RunsAccepted (now (nums .entry)) (now (directory .entry)) (now (ends .entry)) (now (offsets .entry)) (now (entries .entry)) (now (widths .entry)) (now (results .entry)) (now (results .exit)) (now (working .entry)) (now (working .exit)) ceiling store length r ⌝ }
+{
+    let mut slots = [0u64; STORE];
+    let signal = runner::run(
+        nums,
+        ends,
+        directory,
+        offsets,
+        entries,
+        widths,
+        store,
+        length,
+        &mut slots,
+        &mut working[length..WORKING],
+    );
+    copy(&slots, 0, length, results);
+    clear(0, WORKING, working);
+    RunAnswer::Ended {
+        signal,
+        steps: slots[COUNTER],
+        ceiling,
+        length,
     }
 }

@@ -14,11 +14,11 @@ use Rattle.lists.specs.Listing.{listing, listedOf}
 use Rattle.lists.proofs.Laid.{listing-made}
 use Rattle.judge.specs.Verdicts.{ofVerdict, toldBy, judgingSays, afterLists, afterCeiling, afterForm, afterShape}
 
-bench : Program → List Entry → List Cell → Bench
+abbrev pub bench : Program → List Entry → List Cell → Bench
 bench P entries store = record { program = P; entries = entries; store = store }
 
 -- what `judging` reads behind a program that is fine
-behind : Program → Reader Bench
+unfoldable pub behind : Program → Reader Bench
 behind P = readEntries true P >>= λ entries. readStore P >>= λ store. nothingLeft >>= λ ended. pure
     (bench P entries store)
 

@@ -1,3 +1,4 @@
 mod Bridge
 mod Passes
 pub mod Outcomes
+pub mod Left

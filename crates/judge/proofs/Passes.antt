@@ -92,7 +92,7 @@ pub program-asks : (nums directory ends widths : List ℕ) → AsksProgram nums 
     → SomeProgram nums directory ends
 program-asks nums directory ends widths a = record { program = a .program; end = a .end; stands = a .stands }
 
-fine-judged : (P : Program) → judgeProgram P ≡ ok tt → listsJudged P ≡ leb (ceilingOf P) mostSteps
+pub fine-judged : (P : Program) → judgeProgram P ≡ ok tt → listsJudged P ≡ leb (ceilingOf P) mostSteps
 unfolding listsJudged isFine
 fine-judged P e = rw (listsJudged, e)
 
@@ -151,7 +151,7 @@ pub ruleset formed = (program-asks, well-asks, well-judged, ill-judged)
 -- shape
 module _ (nums directory directory′ ends ends′ : List ℕ) (scan : Scan)
     (w : ScansProgram nums directory directory′ ends ends′ scan) where
-  record Found (end : ℕ) : Type 0 where
+  pub record Found (end : ℕ) : Type 0 where
     pub program : Program
     pub read : readProgram nums 0 ≡ got program (drop end nums) end
 
@@ -167,7 +167,7 @@ module _ (nums directory directory′ ends ends′ : List ℕ) (scan : Scan)
 
   -- the directory and the ends have as many slots as they had
   module _ (lent : Lent nums directory ends) where
-    stands : (end : ℕ) (f : Found end) → StandsProgram nums directory′ ends′ (f .program) end
+    pub stands : (end : ℕ) (f : Found end) → StandsProgram nums directory′ ends′ (f .program) end
     unfolding directoryLeft
     stands end f =
         let slots′ : length directory′ ≡ slotCount

@@ -12,8 +12,7 @@ use Rattle.rules.specs.Lists.{Entry, Cell, mostEntries, slotsOf, readEntries, r
 use Rattle.program.specs.Stands.{StandsProgram}
 use Rattle.program.proofs.Found.{member-in}
 use Rattle.lists.specs.declared.Listed.the-variants.{Fine}
-use Rattle.program.specs.Keys.{WidthsOf}
-use Rattle.lists.specs.Listing.{listing, startsFrom, behindEntries, offsetsFrom, listedOf, entriesLeft, offsetsLeft, ListsJudged, JudgesLists}
+use Rattle.lists.specs.Listing.{listing, startsFrom, behindEntries, offsetsFrom, listedOf, entriesLeft, offsetsLeft, ListsJudged}
 use Rattle.lists.specs.Stands.{ListsStand}
 use Rattle.lists.proofs.Places.{PlacedAt, ListsAt, StandCells, no-cell, a-cell, placed-listing, entry-stands, cell-stands, last-offset, store-stands}
 
@@ -39,15 +38,13 @@ laid-in : (slots vs : List ℕ) (i : ℕ) → length vs ≤ length slots → i <
 laid-in slots vs i h l = ap (λ (xs : List ℕ). getD xs i 0) (sets-eq vs slots 0 (omega arith))
     ∙ List·getD-append vs (drop (0 + length vs) slots) 0 i l
 
--- whatever program stands there, the slots tell where its lists stand
-pub lists-stand : (nums directory ends widths entries entries′ offsets offsets′ : List ℕ) (store size : ℕ)
-    → JudgesLists nums directory ends widths entries entries′ offsets offsets′ (Fine store size)
-    → length entries ≡ suc mostEntries → length offsets ≡ suc mostGlobals
-    → (P : Program) (end : ℕ) → StandsProgram nums directory ends P end → WidthsOf P widths
+-- the slots tell where the lists of a program stand
+pub lists-stand : (nums directory ends entries entries′ offsets offsets′ : List ℕ) (store size : ℕ) (P : Program)
+    (end : ℕ) → ListsJudged P end nums entries entries′ offsets offsets′ (Fine store size)
+    → length entries ≡ suc mostEntries → length offsets ≡ suc mostGlobals → StandsProgram nums directory ends P end
     → ListsStand P end nums entries′ offsets′ store size
 unfolding PlacedAt listedOf entriesLeft offsetsLeft
-lists-stand nums directory ends widths entries entries′ offsets offsets′ store size j room space P end s w =
-    let k : ListsJudged P end nums entries entries′ offsets offsets′ (Fine store size) = j .judged P end s w in
+lists-stand nums directory ends entries entries′ offsets offsets′ store size P end k room space s =
     go (listing P (drop end nums) end) refl (placed-listing P .placed nums end) (k .answer) (k .entriesAre)
     (k .offsetsAre)
   where
