@@ -1,11 +1,11 @@
 -- From an accepted file to its run, and from the run's slots to what the rules say and leave.
 use mathlib.Core.Bool.{true, false, _&&_}
-use mathlib.Core.Path.{_≡_, refl, sym, _∙_, ap}
+use mathlib.Core.Path.{_≡_, refl, sym, _∙_}
 use mathlib.Core.List.{List, [], _∷_, _++_}
 use Prim.Native.Nat.{ℕ, _+_, _-_, _*_, _≤_, _<_, _^_}
 use native.Mathlib.Omega.{arith}
 use lib.Dec.{leb}
-use lib.ListN.{length, getD, drop, replicate, length-replicate, getD-replicate}
+use lib.ListN.{length, drop, replicate, length-replicate, getD-replicate}
 use borrow.Author.Tests.{le-leb, lt-leb}
 use borrow.Rule.Slice.PartMut.{putMid, midOf, mid-len, same-len-mid}
 use Rattle.rules.specs.declared.Signal.{Signal}
@@ -14,13 +14,13 @@ use Rattle.rules.specs.declared.RunAnswer.{RunAnswer}
 use Rattle.rules.specs.declared.RunAnswer.the-variants.{Ended, Unrun}
 use Rattle.rules.specs.declared.ReadAnswer.{ReadAnswer}
 use Rattle.rules.specs.declared.ReadAnswer.the-variants.{Unread}
-use Rattle.rules.specs.Numbers.{numbers, broken, streamOf, placeOf}
+use Rattle.rules.specs.Numbers.{numbers, streamOf, placeOf}
 use Rattle.rules.specs.Syntax.{Program}
 use Rattle.rules.specs.Ceiling.{mostSteps, ceilingOf}
 use Rattle.rules.specs.Lists.{Entry, Cell, slotsOf}
-use Rattle.rules.specs.Running.{Seen, Out, done, full, runProgram}
-use Rattle.rules.specs.Answers.{Bench, ofRefusal, ofSignal, ofJudge, ofRun, judgeSays, toldByJudge, filled, judging, Judged, accepted, refused, placed, judgedStream, judged, Outcome, refusal, ended, outcomeOf, runBench, workingSlots, runWith, toldWith, toldByRun, resultsAfter, cleared, workingAfter, runOutcome, runSays, runLeavesResults, runLeavesWorking}
-use Rattle.rules.proofs.Fits.{StoreFits, store-length}
+use Rattle.rules.specs.Running.{Out, full}
+use Rattle.rules.specs.Answers.{Bench, ofRefusal, ofSignal, ofJudge, ofRun, judgeSays, toldByJudge, filled, Judged, accepted, refused, placed, judgedStream, judged, refusal, ended, outcomeOf, runBench, workingSlots, runWith, toldWith, toldByRun, resultsAfter, cleared, workingAfter, runOutcome, runSays, runLeavesResults, runLeavesWorking}
+use Rattle.rules.proofs.Fits.{store-length}
 use Rattle.rules.proofs.Accepted as accepts
 use Rattle.rules.proofs.Accepted.{BenchOk, judged-ok, Ends, accepted-ends}
 use Rattle.rules.proofs.Room.{accepted-not-full}
@@ -35,13 +35,13 @@ use Rattle.numbers.specs.Promises.{Reads}
 use Rattle.judge.specs.declared.Verdict.{Verdict}
 use Rattle.judge.specs.declared.Verdict.the-variants as verdicts
 use Rattle.judge.specs.Verdicts.{JudgesNumbers}
-use Rattle.judge.proofs.Left.{Leaves, accepted-leaves}
+use Rattle.judge.proofs.Left.{accepted-leaves}
 use Rattle.lookup.proofs.Judged.{entries-stand}
-use Rattle.store.specs.Mirrors.{counterSlot, mostStored, storeSlots, MirrorsStore}
+use Rattle.store.specs.Mirrors.{counterSlot, mostStored, storeSlots}
 use Rattle.store.proofs.Sizes.{store-most}
 use Rattle.store.specs.Fills.{AsksClear, Clears, AsksCopy, Copies}
 use Rattle.steps.specs.Outcomes.{Goes, goes, counterOf}
-use Rattle.runner.specs.Whole.{Ready, programRun, AsksRun, Ran, Runs}
+use Rattle.runner.specs.Whole.{Ready, programRun, AsksRun, RanWhole, RunsWhole}
 use Rattle.bench.specs.Runs.{RunsFile, Passed, AsksAccepted, RunsAccepted, AsksLent}
 use Rattle.bench.proofs.Judging.{numbers-few, numbers-refused, read-refused}
 use Rattle.bench.proofs.Lent.{first-filled, behind-part}
@@ -115,7 +115,7 @@ module _ {bytes nums directory ends offsets entries widths : List ℕ} {ceiling 
       record { says = rw o refl; resultsAre = rw o refl; workingAre = rw o refl }
 
   -- enough of them
-  module _ {signal : Signal} (slots : List ℕ) (r : Ran slots P (programRun P es cells) signal) where
+  module _ {signal : Signal} (slots : List ℕ) (r : RanWhole slots P (programRun P es cells) signal) where
     size-is : size ≡ length (slotsOf (r .cells))
     size-is = p .leaves .lists .sizeIs ∙ store-length P cells (r .cells) (known .store-fits) (r .fits)
 
@@ -147,8 +147,12 @@ module _ {bytes nums directory ends offsets entries widths : List ℕ} {ceiling 
         }
 
   size-most : size ≤ mostStored
-  size-most = omega (arith, p .leaves .lists .sizeIs, store-most nums directory ends P (p .leaves .end)
-      (p .leaves .stands) cells (known .store-fits))
+  size-most = omega (
+    arith,
+    p .leaves .lists .sizeIs,
+    store-most nums directory ends P (p .leaves .end)
+        (p .leaves .stands) cells (known .store-fits),
+  )
 
 -- the run with all slots lent: frames behind the store's length
 module _ (nums directory ends offsets entries widths results working : List ℕ) (ceiling store size : ℕ) where
@@ -182,9 +186,9 @@ module _ (nums directory ends offsets entries widths results working : List ℕ)
     lent-whole = a .frames
 
     module _ (slots : List ℕ) (signal : Signal)
-        (r : Runs nums directory ends offsets entries widths (replicate 545 0) slots frames store size signal) where
+        (r : RunsWhole nums directory ends offsets entries widths (replicate 545 0) slots frames store size signal) where
       ran : {bytes : List ℕ} (p : Passed bytes nums directory ends offsets entries widths ceiling store size)
-          → Ran slots (P p) (programRun (P p) (es p) (cells p)) signal
+          → RanWhole slots (P p) (programRun (P p) (es p) (cells p)) signal
       ran p = r .runs (P p) (es p) (cells p) (ready p (replicate 545 0) frames refl frames-room) (run-goes p)
 
       pub lent-copies : AsksCopy slots results 0 size

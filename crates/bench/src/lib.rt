@@ -109,12 +109,7 @@ pub fn run(bytes: &[u8], results: &mut [u64], working: &mut [u64]) -> RunAnswer
 }
 
 // The same, with slots lent for all numbers that the bytes may hold.
-fn run_in(
-    bytes: &[u8],
-    slots: &mut [u64],
-    results: &mut [u64],
-    working: &mut [u64],
-) -> RunAnswer
+fn run_in(bytes: &[u8], slots: &mut [u64], results: &mut [u64], working: &mut [u64]) -> RunAnswer
     requires { ⌜ Roomy (now bytes) (length (now slots)) ⌝ }
     ensures { λ r. ⌜ RunsFile (now (bytes .entry)) (now (results .entry)) (now (results .exit)) (now (working .entry)) (now (working .exit)) r ⌝ }
 {
@@ -126,12 +121,7 @@ fn run_in(
 }
 
 // The same, for the numbers that the bytes hold.
-fn run_numbers(
-    bytes: &[u8],
-    nums: &[u64],
-    results: &mut [u64],
-    working: &mut [u64],
-) -> RunAnswer
+fn run_numbers(bytes: &[u8], nums: &[u64], results: &mut [u64], working: &mut [u64]) -> RunAnswer
     requires { ⌜ streamOf (now bytes) ≡ numbers (now nums) ⌝ }
     ensures { λ r. ⌜ RunsFile (now (bytes .entry)) (now (results .entry)) (now (results .exit)) (now (working .entry)) (now (working .exit)) r ⌝ }
 {
@@ -154,7 +144,17 @@ fn run_numbers(
             store,
             length,
         } => run_accepted(
-            nums, &ends, &directory, &offsets, &entries, &widths, ceiling, store, length, results, working,
+            nums,
+            &ends,
+            &directory,
+            &offsets,
+            &entries,
+            &widths,
+            ceiling,
+            store,
+            length,
+            results,
+            working,
         ),
         Verdict::Refused { number, index } => {
             let place = numbers::place_of(bytes, index);
@@ -192,7 +192,17 @@ fn run_accepted(
         })
     } else {
         run_lent(
-            nums, ends, directory, offsets, entries, widths, ceiling, store, length, results, working,
+            nums,
+            ends,
+            directory,
+            offsets,
+            entries,
+            widths,
+            ceiling,
+            store,
+            length,
+            results,
+            working,
         )
     }
 }

@@ -1,18 +1,17 @@
 -- What the judge leaves of a file that it accepts: the program, entries and store of the rules, and where they stand.
 use mathlib.Core.Bool.{Bool, true, false}
-use mathlib.Core.Path.{_≡_, refl, sym, _∙_}
+use mathlib.Core.Path.{_≡_, refl, _∙_}
 use mathlib.Core.List.{List}
-use Prim.Native.Nat.{ℕ, suc, _*_, _≤_}
+use Prim.Native.Nat.{ℕ, suc}
 use native.Mathlib.Omega.{arith}
 use lib.Dec.{leb}
 use lib.ListN.{length, drop}
-use borrow.Author.Tests.{leb-true}
 use Rattle.rules.specs.Syntax.{Program}
 use Rattle.rules.specs.Reading.{Got, got, bad, andThen, _>>=_, pure, readProgram, mostGlobals}
 use Rattle.rules.specs.Form.{Res, ok, fault, need, judgeProgram}
 use Rattle.rules.specs.Ceiling.{mostSteps, ceilingOf}
 use Rattle.rules.specs.Lists.{Entry, Cell, mostEntries}
-use Rattle.rules.specs.Answers.{Bench, checked, judging}
+use Rattle.rules.specs.Answers.{checked, judging}
 use Rattle.rules.proofs.Readers.{Kept, keeps-program}
 use Rattle.shape.specs.Ends.{ScansProgram}
 use Rattle.shape.specs.Scans.{forget, scanOf}
@@ -26,7 +25,7 @@ use Rattle.lists.specs.Listing.{listing, listedOf, ListsJudged}
 use Rattle.lists.specs.Stands.{ListsStand}
 use Rattle.lists.proofs.Laid.{listing-made, lists-stand}
 use Rattle.judge.specs.declared.Verdict.{Verdict}
-use Rattle.judge.specs.declared.Verdict.the-variants.{Accepted, Refused}
+use Rattle.judge.specs.declared.Verdict.the-variants.{Accepted}
 use Rattle.judge.specs.Verdicts.{afterLists, afterCeiling, afterForm, afterShape, widthsAfter, listsJudged, entriesAfter, offsetsAfter, AsksJudge, JudgesNumbers}
 use Rattle.judge.proofs.Bridge.{bench, behind}
 use Rattle.judge.proofs.Passes.{stands, fine-judged}

@@ -1,15 +1,15 @@
 -- An action that a table lists: its arguments are copied into its frame, and its body runs.
-use mathlib.Core.Bool.{Bool, true, false, _&&_}
-use mathlib.Core.Option.{Option, none, some}
+use mathlib.Core.Bool.{_&&_}
+use mathlib.Core.Option.{some}
 use mathlib.Core.Path.{_≡_, refl, _∙_, sym}
-use mathlib.Core.List.{List, []}
-use Prim.Native.Nat.{ℕ, _+_, _*_, _≤_, _<_, _^_}
+use mathlib.Core.List.{List}
+use Prim.Native.Nat.{ℕ, _+_, _≤_, _<_, _^_}
 use native.Mathlib.Omega.{arith}
 use lib.ListN.{length, getD, getElem?}
 use Rattle.rules.specs.Syntax.{Callable, Numeral, Table, Program}
-use Rattle.rules.specs.Form.{listable, Scope, applyScope}
-use Rattle.rules.specs.Lists.{Entry, Cell}
-use Rattle.rules.specs.Running.{State, Ending, Out, done, M, _>>=_, pure, must, orStuck, withStore, onStore, afterCall, argumentsFit, runAction}
+use Rattle.rules.specs.Form.{listable, applyScope}
+use Rattle.rules.specs.Lists.{Entry}
+use Rattle.rules.specs.Running.{State, Ending, M, _>>=_, pure, withStore, onStore, afterCall, argumentsFit, runAction}
 use Rattle.rules.specs.Answers.{workingSlots}
 use Rattle.rules.proofs.Predicates.{and-both, All2}
 use Rattle.rules.proofs.Fits.{FitParameter, all2-length}
@@ -23,8 +23,8 @@ use Rattle.store.specs.Fills.{AsksCopy, Copies}
 use Rattle.store.proofs.Filling.{copy-asks, copied-is}
 use Rattle.store.proofs.Scenes.{scene-entered}
 use Rattle.steps.specs.declared.Ended.{Ended}
-use Rattle.steps.specs.Outcomes.{Goes, counterOf, Ran, Ends, Laid}
-use Rattle.steps.specs.Calls.{ownOf, AfterCall}
+use Rattle.steps.specs.Outcomes.{Goes, counterOf, Ran, Ends}
+use Rattle.steps.specs.Calls.{AfterCall}
 use Rattle.steps.proofs.Going.{Begun, then-goes, some-then-goes, must-then-goes, some-then-is, must-then-is, ran-here, ran-then}
 use Rattle.runner.specs.Runs.{callsOf, bodyIn, actionIn, Stage, Called, RanBody}
 use Rattle.runner.specs.Claims.{AsksBody, RunsBody, ActionAt, AsksAction, RunsAction}
@@ -68,10 +68,10 @@ module _ (P : Program) (used : ℕ) (T : Table) (position : ℕ) (ns : List ℕ)
       }
 
 -- at any stage
-module _ (P : Program) {nums directory ends scope offsets entries widths slots frame : List ℕ}
-    {actions position from : ℕ} {used : ℕ} {es : List Entry} {s : State} {T : Table} {ns : List ℕ}
+module _ (P : Program) (position : ℕ) {nums directory ends scope offsets entries widths slots frame : List ℕ}
+    {actions from : ℕ} {used : ℕ} {es : List Entry} {s : State} {T : Table} {ns : List ℕ}
     (st : Stage nums directory ends scope offsets entries widths slots frame (applyScope P) used es s)
-    (w : ActionAt nums actions position from T ns)
+    (w : ActionAt nums actions from T ns)
     (g : Goes (counterOf slots) (actionIn P used T position ns s)) where
   acts : Acting P used T position ns s (counterOf slots)
   acts = acting P used T position ns s (counterOf slots) g
@@ -168,8 +168,8 @@ module _ (nums directory ends scope offsets entries widths slots frame : List �
   number = getD nums (actions + 1 + position) 0
 
   module _ (a : AsksAction nums directory ends scope offsets entries widths slots frame actions position from) where
-    at-position : StandsNumeral nums (actions + 1 + position) (acts (a .program) (a .stage) (a .action) (a .going) .action)
-    at-position = listed-at (a .program) (a .stage) (a .action) (a .going)
+    at-position : StandsNumeral nums (actions + 1 + position) (acts (a .program) position (a .stage) (a .action) (a .going) .action)
+    at-position = listed-at (a .program) position (a .stage) (a .action) (a .going)
 
     pub action-inside : actions + 1 + position < length nums
     action-inside = at-position .holds .inside
@@ -186,49 +186,49 @@ module _ (nums directory ends scope offsets entries widths slots frame : List �
       program = a .program;
       end = a .stage .scene .scopes .end;
       stands = a .stage .scene .scopes .program;
-      inside = omega (arith, at-position .holds .is, below (a .program) (a .stage) (a .action) (a .going));
+      inside = omega (arith, at-position .holds .is, below (a .program) position (a .stage) (a .action) (a .going));
     }
 
     pub action-falls : (t : ℕ) → rank (getD scope 0 0) 1450 ≡ t → rank number 4000 < t
     unfolding applyScope
     action-falls t e = rank-callee t (getD scope 0 0) 1450 number 4000 e
-        (omega (arith, at-position .holds .is, below (a .program) (a .stage) (a .action) (a .going), a .stage .scene .scopes .reach))
+        (omega (arith, at-position .holds .is, below (a .program) position (a .stage) (a .action) (a .going), a .stage .scene .scopes .reach))
         (omega arith)
 
   module _ (kind returns parameters count : ℕ)
       (head : Finds callablesOf (FoundHead nums kind returns parameters count) nums directory ends number) where
     module _ (P : Program) {used : ℕ} {es : List Entry} {s : State} {T : Table} {ns : List ℕ}
         (st : Stage nums directory ends scope offsets entries widths slots frame (applyScope P) used es s)
-        (w : ActionAt nums actions position from T ns)
+        (w : ActionAt nums actions from T ns)
         (g : Goes (counterOf slots) (actionIn P used T position ns s)) where
-      count-is : count ≡ length (c P st w g .parameters)
+      count-is : count ≡ length (c P position st w g .parameters)
       unfolding callablesOf applyScope
-      count-is = head .finds P (st .scene .scopes .end) (c P st w g) (st .scene .scopes .program)
-          (rw (listed-at P st w g .holds .is) (acts P st w g .is)) .countIs
+      count-is = head .finds P (st .scene .scopes .end) (c P position st w g) (st .scene .scopes .program)
+          (rw (listed-at P position st w g .holds .is) (acts P position st w g .is)) .countIs
 
       action-body-ran : {slots₁ frame₁ frame₂ : List ℕ} {ended : Ended} → Copies nums frame frame₁ from count
           → RunsBody nums directory ends offsets entries widths slots slots₁ frame₁ frame₂ number ended
-          → RanBody slots slots₁ frame₁ frame₂ P (c P st w g) (bodyIn P (f P st w g) (c P st w g) used ns (s .store)) ended
+          → RanBody slots slots₁ frame₁ frame₂ P (c P position st w g) (bodyIn P (f P position st w g) (c P position st w g) used ns (s .store)) ended
       action-body-ran {slots₁} {frame₁} {frame₂} {ended} z b =
-          let there : RunsBody nums directory ends offsets entries widths slots slots₁ frame₁ frame₂ (f P st w g) ended
-          = rw (listed-at P st w g .holds .is) at b in
-          there .runs P (c P st w g) used es ns (s .store) (action-called P st w g count-is z) (callee-goes P st w g)
+          let there : RunsBody nums directory ends offsets entries widths slots slots₁ frame₁ frame₂ (f P position st w g) ended
+          = rw (listed-at P position st w g .holds .is) at b in
+          there .runs P (c P position st w g) used es ns (s .store) (action-called P position st w g count-is z) (callee-goes P position st w g)
 
     module _ (a : AsksAction nums directory ends scope offsets entries widths slots frame actions position from) where
       pub action-copies : AsksCopy nums frame from count
-      action-copies = action-copy (a .program) (a .stage) (a .action) (a .going) count (count-is (a .program) (a .stage) (a .action) (a .going))
+      action-copies = action-copy (a .program) position (a .stage) (a .action) (a .going) count (count-is (a .program) (a .stage) (a .action) (a .going))
 
       pub action-body : (frame₁ : List ℕ) → Copies nums frame frame₁ from count
           → AsksBody nums directory ends offsets entries widths slots frame₁ number
       action-body frame₁ z = rw (at-position a .holds .is) (record {
         program = a .program;
-        found = c (a .program) (a .stage) (a .action) (a .going);
+        found = c (a .program) position (a .stage) (a .action) (a .going);
         used = a .used;
         entryList = a .entryList;
         given = a .numbers;
         cells = a .state .store;
-        called = action-called (a .program) (a .stage) (a .action) (a .going) (count-is (a .program) (a .stage) (a .action) (a .going)) z;
-        going = callee-goes (a .program) (a .stage) (a .action) (a .going);
+        called = action-called (a .program) position (a .stage) (a .action) (a .going) (count-is (a .program) (a .stage) (a .action) (a .going)) z;
+        going = callee-goes (a .program) position (a .stage) (a .action) (a .going);
       })
 
     pub action-runs : (slots₁ frame₁ frame₂ : List ℕ) (ended r : Ended) → Copies nums frame frame₁ from count
@@ -236,7 +236,7 @@ module _ (nums directory ends scope offsets entries widths slots frame : List �
         → AfterCall ended r
         → RunsAction nums directory ends scope offsets entries widths slots slots₁ frame frame₂ actions position from r
     action-runs slots₁ frame₁ frame₂ ended r z b k = record {
-      runs = λ P used es s T ns st w g. action-ran P st w g (count-is P st w g) z (action-body-ran P st w g z b) k;
+      runs = λ P used es s T ns st w g. action-ran P position st w g (count-is P st w g) z (action-body-ran P st w g z b) k;
     }
 
 pub ruleset actionRuns = (

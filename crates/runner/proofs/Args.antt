@@ -1,33 +1,31 @@
 -- Arguments: what goes in for one parameter, then for all of them.
-use mathlib.Core.Bool.{Bool, true, false, not, _||_}
-use mathlib.Core.Option.{Option, none, some}
-use mathlib.Core.Path.{_≡_, refl, _∙_, sym, ap}
+use mathlib.Core.Bool.{true, false, not, _||_}
+use mathlib.Core.Option.{none, some}
+use mathlib.Core.Path.{_≡_, refl, _∙_, sym}
 use mathlib.Core.List.{List, [], _∷_}
-use Prim.Native.Nat.{ℕ, zero, suc, _+_, _-_, _*_, _≤_, _<_, _^_}
+use Prim.Native.Nat.{ℕ, zero, suc, _+_, _-_, _*_, _<_, _^_}
 use native.Mathlib.Omega.{arith}
 use lib.ListN.{length, getD, set, length-set}
 use lib.Seq.{getD-set-same, getD-set-other}
-use Rattle.rules.specs.Syntax.{Ty, Value, value, Direction, byNone, byIn, byOut, byInout, Expr, Args, noArgs, arg, Parameter, placeIn}
-use Rattle.rules.specs.Reading.{mostArguments}
+use Rattle.rules.specs.Syntax.{Value, value, Direction, byNone, byIn, byOut, byInout, Expr, Args, noArgs, arg, Parameter, placeIn}
 use Rattle.rules.specs.Form.{wantsPlace, goesIn, Scope}
 use Rattle.rules.specs.Lists.{Entry}
-use Rattle.rules.specs.Running.{State, Seen, Out, done, M, _>>=_, pure, tick, must, orStuck, numberOf, outPlace, takeIn, goIn, runArgs}
-use Rattle.rules.proofs.Predicates.{All2, nil, cons}
-use Rattle.rules.proofs.Fits.{Fit, FitParameter, zero-fits}
+use Rattle.rules.specs.Running.{State, done, M, _>>=_, pure, tick, orStuck, numberOf, outPlace, takeIn, goIn, runArgs}
+use Rattle.rules.proofs.Predicates.{nil, cons}
+use Rattle.rules.proofs.Fits.{zero-fits}
 use Rattle.program.specs.Codes.{tyOf, directionNumber, argCount}
-use Rattle.program.specs.Stands.{Holds, StandsExpr, StandsArgs, on-none, on-arg, StandsParameters}
+use Rattle.program.specs.Stands.{Holds, StandsExpr, StandsArgs, on-arg, StandsParameters}
 use Rattle.program.proofs.Views.{expr-begins}
 use Rattle.values.specs.declared.Value as values
-use Rattle.values.specs.Claims.{valueOf, IsValue}
-use Rattle.store.specs.Mirrors.{Scene}
-use Rattle.steps.specs.Outcomes.{Goes, counterOf, Ran, Gave, Laid, AsksCount, Counts}
-use Rattle.steps.specs.Calls.{ownOf, AsksKeep, Keeps}
-use Rattle.steps.proofs.Going.{Begun, Known, not-nowhere, then-goes, must-then-goes, must-then-is, some-goes, some-is, ran-here, ran-map, ran-then}
+use Rattle.values.specs.Claims.{valueOf}
+use Rattle.steps.specs.Outcomes.{Goes, counterOf, Ran, Gave, AsksCount, Counts}
+use Rattle.steps.specs.Calls.{AsksKeep, Keeps}
+use Rattle.steps.proofs.Going.{Begun, Known, not-nowhere, then-goes, must-then-goes, must-then-is, some-goes, some-is, ran-here, ran-then}
 use Rattle.steps.proofs.Backs.{value-is}
-use Rattle.runner.specs.Runs.{callsOf, exprIn, argsIn, Stage}
+use Rattle.runner.specs.Runs.{exprIn, argsIn, Stage}
 use Rattle.runner.specs.Claims.{AsksExpr, RunsExpr, argIn, AsksArg, Went, RunsArg, ArgsAt, AsksArgs, Laying, RunsArgs}
 use Rattle.runner.proofs.Rank.{rank, rank-lower}
-use Rattle.runner.proofs.Stages.{count-asks, stage-counted, going-counted, ran-counted, stage-ran, going-rest}
+use Rattle.runner.proofs.Stages.{count-asks, stage-counted, ran-counted, stage-ran, going-rest}
 use Rattle.runner.proofs.Exprs.{value-fits, fitting}
 use Rattle.runner.proofs.Parts.{scene-kept}
 

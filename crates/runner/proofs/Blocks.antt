@@ -1,20 +1,20 @@
 -- A block: its members one after the other, up to the first that does not go on.
 use mathlib.Core.Path.{_≡_, refl, _∙_, sym, ap}
-use mathlib.Core.List.{List, [], _∷_, _++_}
-use Prim.Native.Nat.{ℕ, _+_, _-_, _*_, _≤_, _<_, _^_}
+use mathlib.Core.List.{List, [], _++_}
+use Prim.Native.Nat.{ℕ, _+_, _-_, _*_, _<_}
 use native.Mathlib.Omega.{arith}
 use lib.ListN.{length, getD, length-append}
 use Rattle.rules.specs.Syntax.{Stmt, Stmts, noStmts, stmt}
 use Rattle.rules.specs.Form.{Scope}
 use Rattle.rules.specs.Lists.{Entry}
-use Rattle.rules.specs.Running.{State, Ending, onward, returned, returnedValue, exited, Seen, Out, done, M, more, _>>=_, pure, tick, andThenRun, runStmts}
+use Rattle.rules.specs.Running.{State, Ending, onward, Seen, done, M, more, _>>=_, pure, andThenRun, runStmts}
 use Rattle.program.specs.Codes.{memberCount}
 use Rattle.program.specs.Stands.{StandsStmt, StandsStmts}
 use Rattle.program.proofs.Views.{stmt-begins, BlockView, StmtView, stmt-view, MemberView, member-view, no-members}
 use Rattle.steps.specs.declared.Ended.{Ended}
 use Rattle.steps.specs.declared.Ended.the-variants.{Onward, Returned, ReturnedValue, Exited}
 use Rattle.steps.specs.Outcomes.{Goes, counterOf, Ran, Ends, ends-onward, ends-returned, ends-value, ends-exited, Counts}
-use Rattle.steps.proofs.Going.{Begun, then-goes, then-is, more-none, more-more, ran-map}
+use Rattle.steps.proofs.Going.{Begun, then-goes, then-is, more-none, more-more}
 use Rattle.runner.specs.Runs.{stmtIn, stmtsIn, Stage}
 use Rattle.runner.specs.Claims.{AsksStmt, RunsStmt, AsksTagged, AsksStmts, RunsStmts}
 use Rattle.runner.proofs.Rank.{rank, rank-lower}

@@ -1,33 +1,30 @@
 -- The body of a callable: its frame is made, its statement runs, and its parameters' numbers are left.
-use mathlib.Core.Bool.{Bool, true, false, false≢true}
+use mathlib.Core.Bool.{true, false, false≢true}
 use mathlib.Core.Option.{Option, none, some}
 use mathlib.Core.Path.{_≡_, refl, _∙_, sym, ap}
-use mathlib.Core.List.{List, [], _∷_}
+use mathlib.Core.List.{List}
 use Prim.Native.Nat.{ℕ, _+_, _*_, _≤_, _<_, _^_}
 use native.Mathlib.Omega.{arith}
 use lib.Dec.{leb}
-use lib.ListN.{length, getD, getElem?}
+use lib.ListN.{length, getD}
 use borrow.Author.Tests.{le-leb}
-use Rattle.rules.specs.Syntax.{Ty, Value, Callable, Program}
-use Rattle.rules.specs.Reading.{deepest}
-use Rattle.rules.specs.Form.{andLook, bodyOf, Scope, scopeOf, applyScope}
+use Rattle.rules.specs.Syntax.{Ty, Callable, Program}
+use Rattle.rules.specs.Form.{andLook, Scope, scopeOf}
 use Rattle.rules.specs.Lists.{Entry, Cell}
-use Rattle.rules.specs.Running.{State, Ending, onward, returned, returnedValue, exited, Seen, Out, done, stuck, full, M, nowhere, valueOf, bodyEnded, left, leave, fresh, runBody, runStmt, callsBelow}
+use Rattle.rules.specs.Running.{State, Ending, onward, returned, returnedValue, exited, Seen, Out, done, stuck, full, nowhere, valueOf, bodyEnded, left, leave, fresh, runBody}
 use Rattle.rules.specs.Answers.{workingSlots}
 use Rattle.rules.proofs.Fits.{all2-length}
 use Rattle.rules.proofs.Sound.{never}
 use Rattle.program.specs.Stands.{StandsCallable}
 use Rattle.program.specs.Looks.{Has, Finds, callablesOf, FoundHead, FoundFrame}
-use Rattle.program.specs.Scopes.{StandsScope}
 use Rattle.program.proofs.Found.{member-in}
 use Rattle.program.proofs.Seen.{callableScope, callable-scope}
-use Rattle.store.specs.Mirrors.{Scene}
 use Rattle.store.specs.Fills.{AsksClear, Clears}
 use Rattle.store.proofs.Scenes.{scene-fresh}
 use Rattle.steps.specs.declared.Ended.{Ended}
-use Rattle.steps.specs.Outcomes.{Goes, goes, counterOf, Ran, Ends, Laid}
-use Rattle.steps.specs.Calls.{ownOf, mostOwn}
-use Rattle.steps.proofs.Going.{Gone, gone, not-stuck, not-full}
+use Rattle.steps.specs.Outcomes.{Goes, goes, counterOf, Ran, Ends}
+use Rattle.steps.specs.Calls.{mostOwn}
+use Rattle.steps.proofs.Going.{gone, not-stuck, not-full}
 use Rattle.runner.specs.Runs.{callsOf, appliedIn, stmtIn, bodyIn, Stage, Called, RanBody}
 use Rattle.runner.specs.Claims.{AsksBody, RunsBody, AsksStmt, RunsStmt}
 use Rattle.runner.proofs.Rank.{rank, rank-lower}

@@ -1,20 +1,20 @@
 -- A callable by its number: what its body does, and what stands when it begins and has ended.
 use mathlib.Core.Bool.{Bool, true, false}
-use mathlib.Core.Option.{Option, none, some}
-use mathlib.Core.Path.{_≡_, refl, _∙_, sym, ap}
-use mathlib.Core.List.{List, [], map}
+use mathlib.Core.Option.{some}
+use mathlib.Core.Path.{_≡_, refl, _∙_}
+use mathlib.Core.List.{List}
 use Prim.Native.Nat.{ℕ, zero, suc, _+_, _-_, _≤_, _<_}
 use native.Mathlib.Omega.{arith}
 use lib.Dec.{ltb, leb, eqb}
-use lib.ListN.{length, getD, getElem?}
+use lib.ListN.{length, getElem?}
 use borrow.Author.Tests.{eqb-true, eqb-false, ltb-true, leb-true}
-use Rattle.rules.specs.Syntax.{Ty, Value, Callable, Program}
-use Rattle.rules.specs.Form.{onlyIf, andLook, callableBelow, Scope}
+use Rattle.rules.specs.Syntax.{Callable, Program}
+use Rattle.rules.specs.Form.{onlyIf, callableBelow, Scope}
 use Rattle.rules.specs.Lists.{Cell}
-use Rattle.rules.specs.Running.{State, Ending, Seen, Out, done, stuck, full, M, withStore, enter, onStore, bodyEnded, valueOf, returnedValue, left, leave, runBody, runNumber, callsBelow}
+use Rattle.rules.specs.Running.{State, Seen, Out, done, stuck, full, M, withStore, enter, onStore, runBody, runNumber, callsBelow}
 use Rattle.rules.specs.Answers.{workingSlots}
 use Rattle.steps.specs.Outcomes.{Goes, goes}
-use Rattle.steps.proofs.Going.{Gone, gone, not-stuck, not-full}
+use Rattle.steps.proofs.Going.{gone, not-stuck, not-full}
 use Rattle.runner.specs.Runs.{callsOf, bodyIn}
 
 -- one that is reached

@@ -1,29 +1,26 @@
 -- A call: its arguments, the callee's body in the slots behind the caller's own, and what comes back.
-use mathlib.Core.Bool.{Bool, true, false}
-use mathlib.Core.Option.{Option, none, some}
-use mathlib.Core.Path.{_≡_, refl, _∙_, sym, ap}
+use mathlib.Core.Path.{_≡_, refl, _∙_, ap}
 use mathlib.Core.List.{List, [], _∷_}
-use Prim.Native.Nat.{ℕ, zero, suc, _+_, _-_, _*_, _≤_, _<_, _^_}
+use Prim.Native.Nat.{ℕ, suc, _+_, _-_, _*_, _≤_, _<_, _^_}
 use native.Mathlib.Omega.{arith}
-use lib.ListN.{length, getD, getElem?}
-use Rattle.rules.specs.Syntax.{Args, noArgs, arg, Parameter, Callable, Program}
+use lib.ListN.{length, getD}
+use Rattle.rules.specs.Syntax.{Args, noArgs, arg, Parameter, Callable}
 use Rattle.rules.specs.Reading.{mostArguments}
 use Rattle.rules.specs.Form.{Scope}
 use Rattle.rules.specs.Lists.{Entry, Cell}
-use Rattle.rules.specs.Running.{State, Ending, Seen, Out, done, M, _>>=_, withStore, onStore, comeBack, afterBody, runCall, runArgs}
-use Rattle.rules.specs.Answers.{workingSlots}
+use Rattle.rules.specs.Running.{State, Ending, M, withStore, onStore, comeBack, afterBody, runCall, runArgs}
 use Rattle.rules.proofs.Predicates.{All2}
-use Rattle.rules.proofs.Fits.{FitParameter, StoreFits, all2-length}
+use Rattle.rules.proofs.Fits.{FitParameter, all2-length}
 use Rattle.program.specs.Codes.{argCount}
-use Rattle.program.specs.Stands.{StandsProgram, StandsParameters}
+use Rattle.program.specs.Stands.{StandsParameters}
 use Rattle.program.specs.Looks.{Has, Finds, callablesOf, FoundHead}
 use Rattle.program.proofs.Found.{member-in}
-use Rattle.store.specs.Mirrors.{MirrorsStore, Scene}
+use Rattle.store.specs.Mirrors.{Scene}
 use Rattle.store.proofs.Scenes.{scene-entered}
 use Rattle.steps.specs.declared.Ended.{Ended}
 use Rattle.steps.specs.Outcomes.{Goes, counterOf, Ran, Ends, Laid}
 use Rattle.steps.specs.Calls.{ownOf, mostOwn, AsksOwn, Owns, Left, AsksFinish, Finishes}
-use Rattle.steps.proofs.Going.{Begun, not-nowhere, then-goes, rest-from, ran-then}
+use Rattle.steps.proofs.Going.{Begun, not-nowhere, then-goes, ran-then}
 use Rattle.runner.specs.Runs.{callsOf, argsIn, callIn, bodyIn, Stage, Called, RanBody}
 use Rattle.runner.specs.Claims.{CallAt, AsksCall, RunsCall, ArgsAt, AsksArgs, Laying, RunsArgs, AsksBody, RunsBody}
 use Rattle.runner.proofs.Rank.{rank, rank-lower, rank-callee}

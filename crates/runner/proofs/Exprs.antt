@@ -1,18 +1,16 @@
 -- Expressions: what each part asks, and what the whole then comes to.
 use mathlib.Core.Bool.{Bool, true, false}
-use mathlib.Core.Option.{Option, none, some}
+use mathlib.Core.Option.{some}
 use mathlib.Core.Path.{_≡_, refl, _∙_, sym, ap}
 use mathlib.Core.List.{List, []}
 use Prim.Native.Nat.{ℕ, zero, suc, _+_, _-_, _*_, _≤_, _<_, _^_}
 use native.Mathlib.Omega.{arith}
 use lib.ListN.{length, getD}
 use borrow.Author.Tests.{ltb-true}
-use Rattle.rules.specs.Syntax.{Ty, bool, bits, Value, value, Operator, arithmetic, order, shift, equality, logic, Logic, both, either, Expr, boolLiteral, bitsLiteral, readOf, validOf, negation, complement, binary, cast, slice, concatenation, callExpr}
-use Rattle.rules.specs.Reading.{deepest}
+use Rattle.rules.specs.Syntax.{Ty, bool, bits, Value, value, arithmetic, order, shift, equality, logic, Logic, both, either, Expr, boolLiteral, bitsLiteral, readOf, validOf, negation, complement, binary, cast, slice, concatenation, callExpr}
 use Rattle.rules.specs.Form.{fits, Scope}
 use Rattle.rules.specs.Lists.{Entry, markOf}
-use Rattle.rules.specs.Running as rules
-use Rattle.rules.specs.Running.{State, Seen, Out, done, M, more, _>>=_, pure, tick, orStuck, choose, logicWith, aBool, binaryWith, truth, concatenationOn, runExpr}
+use Rattle.rules.specs.Running.{State, Seen, done, M, more, _>>=_, pure, tick, orStuck, choose, logicWith, aBool, binaryWith, truth}
 use Rattle.program.specs.Codes.{tyOf}
 use Rattle.program.specs.Stands.{StandsExpr}
 use Rattle.program.proofs.Views.{expr-begins}
@@ -20,7 +18,7 @@ use Rattle.values.specs.declared.Value as values
 use Rattle.values.specs.Claims.{valueOf, IsValue, Gives, binaryOn}
 use Rattle.steps.specs.Outcomes.{Goes, counterOf, Ran, Gave, AsksCount, Counts}
 use Rattle.steps.specs.Operands.{leafIn, onOne, settles, settledBy, operatorOn, stopsAt, onTwo, AsksLeaf, LeafGave, GivesLeaf, AsksOneOn, GivesOne, AsksStop, TellsStop, AsksTwoOn, GivesTwo}
-use Rattle.steps.proofs.Going.{Begun, Known, not-nowhere, then-goes, rest-from, then-is, some-goes, some-is, ran-here, ran-map, ran-then}
+use Rattle.steps.proofs.Going.{Begun, Known, not-nowhere, then-goes, rest-from, then-is, some-goes, some-is, ran-here, ran-then}
 use Rattle.runner.specs.Runs.{callsOf, exprIn, Stage}
 use Rattle.runner.specs.Forms.{LeafAt, OneIn, OneAt, pairWith, TwoIn, TwoAt}
 use Rattle.runner.specs.Claims.{AsksExpr, RunsExpr, AsksLeafAt, AsksOne, AsksTwo, AsksValue}

@@ -1,8 +1,7 @@
 -- The form of the construct at an index, by its tag.
-use mathlib.Core.Path.{_≡_, refl, _∙_, sym}
+use mathlib.Core.Path.{_≡_, refl}
 use mathlib.Core.List.{List}
 use Prim.Native.Nat.{ℕ, _+_, _-_}
-use native.Mathlib.Omega.{arith}
 use lib.ListN.{getD}
 use Rattle.rules.specs.Syntax.{Expr, negation, complement, binary, cast, slice, concatenation, Stmt}
 use Rattle.rules.specs.Form.{Scope}

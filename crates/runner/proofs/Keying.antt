@@ -1,16 +1,16 @@
 -- The keys of a table: each is worked out, and its number kept once those behind it are.
-use mathlib.Core.Option.{Option, none, some}
-use mathlib.Core.Path.{_≡_, refl, _∙_, sym}
+use mathlib.Core.Option.{some}
+use mathlib.Core.Path.{_≡_, refl, _∙_}
 use mathlib.Core.List.{List, [], _∷_}
-use Prim.Native.Nat.{ℕ, suc, _+_, _-_, _*_, _≤_, _<_, _^_}
+use Prim.Native.Nat.{ℕ, _+_, _-_, _*_, _<_, _^_}
 use native.Mathlib.Omega.{arith}
 use lib.ListN.{length, getD, set, length-set}
 use lib.Seq.{getD-set-same, getD-set-other}
 use Rattle.rules.specs.Syntax.{Ty, bool, bits, Value, value, Key, Program}
-use Rattle.rules.specs.Reading.{deepest, mostKeys}
-use Rattle.rules.specs.Form.{Scope, applyScope}
+use Rattle.rules.specs.Reading.{deepest}
+use Rattle.rules.specs.Form.{applyScope}
 use Rattle.rules.specs.Lists.{Entry}
-use Rattle.rules.specs.Running.{State, Out, done, M, _>>=_, pure, orStuck, Worked, worked, runKeys}
+use Rattle.rules.specs.Running.{State, done, M, _>>=_, pure, orStuck, Worked, worked, runKeys}
 use Rattle.program.specs.Codes.{tyOf}
 use Rattle.program.specs.Stands.{StandsExpr, StandsKeys}
 use Rattle.program.proofs.Views.{expr-begins}
@@ -18,7 +18,7 @@ use Rattle.values.specs.declared.Value as values
 use Rattle.values.specs.Claims.{valueOf}
 use Rattle.steps.specs.Outcomes.{Goes, counterOf, Ran, Gave}
 use Rattle.steps.proofs.Going.{Begun, Found, then-goes, some-then-goes, some-then-is, ran-here, ran-then}
-use Rattle.runner.specs.Runs.{callsOf, exprIn, keysIn, Stage}
+use Rattle.runner.specs.Runs.{exprIn, keysIn, Stage}
 use Rattle.runner.specs.Claims.{AsksExpr, RunsExpr, KeyNumbers, KeysAt, AsksKeys, RunsKeys}
 use Rattle.runner.proofs.Rank.{rank, rank-lower}
 use Rattle.runner.proofs.Stages.{stage-ran, going-rest}

@@ -1,5 +1,5 @@
 -- The slots that a call is lent: those of its caller's frame behind the caller's own. What it leaves in them is put back.
-use mathlib.Core.Path.{_≡_, refl, _∙_, sym, ap}
+use mathlib.Core.Path.{_≡_, _∙_, sym, ap}
 use mathlib.Core.List.{List, _++_}
 use Prim.Native.Nat.{ℕ, _+_, _-_, _≤_, _<_}
 use native.Mathlib.Omega.{arith}
@@ -10,7 +10,7 @@ use borrow.Rule.Slice.PartMut.{putMid, postOf, take-put, same-len-mid}
 use Rattle.rules.specs.Form.{Scope}
 use Rattle.rules.specs.Running.{State}
 use Rattle.rules.proofs.Fits.{all2-length}
-use Rattle.store.specs.Mirrors.{MirrorsFrame, Scene}
+use Rattle.store.specs.Mirrors.{Scene}
 use Rattle.steps.specs.Outcomes.{Laid}
 use Rattle.steps.specs.Calls.{ownOf}
 

@@ -1,16 +1,16 @@
 -- A stage as a run goes on: a step is counted, a construct has run.
-use mathlib.Core.Path.{_≡_, refl, _∙_, sym}
+use mathlib.Core.Path.{_≡_}
 use mathlib.Core.List.{List}
-use Prim.Native.Nat.{ℕ, _+_, _≤_}
+use Prim.Native.Nat.{ℕ, _+_}
 use native.Mathlib.Omega.{arith}
-use lib.ListN.{length, getD}
+use lib.ListN.{length}
 use Rattle.rules.specs.Form.{Scope}
 use Rattle.rules.specs.Lists.{Entry}
-use Rattle.rules.specs.Running.{State, Out, M, _>>=_, tick}
-use Rattle.store.specs.Mirrors.{storeSlots, Scene}
+use Rattle.rules.specs.Running.{State, Out, M, tick}
+use Rattle.store.specs.Mirrors.{storeSlots}
 use Rattle.store.proofs.Scenes.{scene-counted}
-use Rattle.steps.specs.Outcomes.{Goes, counterOf, Ran, ticked, AsksCount, Counts}
-use Rattle.steps.proofs.Going.{Begun, tick-goes, tick-below, then-goes, rest-from, counter-ticked, ran-tick}
+use Rattle.steps.specs.Outcomes.{Goes, counterOf, Ran, AsksCount, Counts}
+use Rattle.steps.proofs.Going.{Begun, tick-goes, tick-below, rest-from, counter-ticked, ran-tick}
 use Rattle.runner.specs.Runs.{Stage}
 
 module _ {nums directory ends scope offsets entries widths slots frame : List ℕ} {Γ : Scope} {used : ℕ}

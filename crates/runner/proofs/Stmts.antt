@@ -1,36 +1,33 @@
 -- Statements: what each part asks, and what the whole then comes to.
-use mathlib.Core.Bool.{Bool, true, false}
 use mathlib.Core.Option.{Option, none, some}
 use mathlib.Core.Path.{_≡_, refl, _∙_, sym, ap}
-use mathlib.Core.List.{List, []}
+use mathlib.Core.List.{List}
 use Prim.Native.Nat.{ℕ, zero, suc, _+_, _-_, _*_, _≤_, _<_, _^_}
 use native.Mathlib.Omega.{arith}
 use lib.ListN.{length, getD}
 use Rattle.rules.specs.Numbers.{mostBytes}
-use Rattle.rules.specs.Syntax.{Ty, bool, bits, Value, value, Place, Expr, Stmt, empty, assign, ifElse, block, callStmt, apply, returnValue, return, exit, setValid, setInvalid, Stmts, Program}
-use Rattle.rules.specs.Form.{andLook, Body, inFunction, inAction, inApply, isApply, Scope, applyScope}
+use Rattle.rules.specs.Syntax.{Ty, bool, bits, Value, value, Place, Expr, Stmt, empty, assign, ifElse, block, callStmt, apply, returnValue, return, exit, setValid, setInvalid, Stmts}
+use Rattle.rules.specs.Form.{andLook, Body, inFunction, inAction, inApply, Scope}
 use Rattle.rules.specs.Ceiling.{mostSteps}
 use Rattle.rules.specs.Lists.{Entry}
-use Rattle.rules.specs.Running as rules
-use Rattle.rules.specs.Running.{State, Ending, onward, returnedValue, Out, done, M, _>>=_, pure, nowhere, tick, puts, orStuck, choose, numberOf, put, declared, writeAt, returnedFrom, runStmt}
+use Rattle.rules.specs.Running.{State, Ending, onward, returnedValue, M, _>>=_, pure, tick, puts, orStuck, choose, numberOf, put, writeAt, returnedFrom, runStmt}
 use Rattle.rules.proofs.Fits.{Fit}
-use Rattle.program.specs.Codes.{tyOf, memberCount}
-use Rattle.program.specs.Stands.{StandsExpr, StandsStmt, StandsStmts}
-use Rattle.program.proofs.Views.{expr-begins, stmt-begins, AssignView, IfView, BlockView, NamedView, ReturnView, StmtView, stmt-view}
+use Rattle.program.specs.Codes.{tyOf}
+use Rattle.program.specs.Stands.{StandsStmt}
+use Rattle.program.proofs.Views.{expr-begins, stmt-begins, AssignView, IfView, ReturnView, StmtView, stmt-view}
 use Rattle.values.specs.declared.Value as values
 use Rattle.values.specs.Claims.{valueOf, IsValue}
-use Rattle.store.specs.Mirrors.{Scene}
 use Rattle.store.specs.Places.{NamesPlace}
 use Rattle.store.specs.Changes.{Becomes, AsksWrite, Writes}
 use Rattle.steps.specs.declared.Ended.{Ended}
 use Rattle.steps.specs.declared.Ended.the-variants.{Onward, ReturnedValue}
 use Rattle.steps.specs.Outcomes.{Goes, counterOf, Ran, Gave, Ends, ends-onward, ends-value, AsksCount, Counts}
 use Rattle.steps.specs.Singles.{singleIn, AsksSingle, RunsSingle}
-use Rattle.steps.proofs.Going.{Begun, Known, not-nowhere, tick-below, then-goes, some-goes, some-is, ran-here, ran-then, ran-becomes}
+use Rattle.steps.proofs.Going.{Begun, not-nowhere, tick-below, then-goes, some-goes, some-is, ran-here, ran-then, ran-becomes}
 use Rattle.steps.proofs.Backs.{Target, write-target, write-is, value-is}
-use Rattle.runner.specs.Runs.{callsOf, appliedIn, exprIn, stmtIn, stmtsIn, tableIn, Stage}
+use Rattle.runner.specs.Runs.{callsOf, appliedIn, exprIn, stmtIn, stmtsIn, Stage}
 use Rattle.runner.specs.Forms.{SingleAt}
-use Rattle.runner.specs.Claims.{AsksExpr, RunsExpr, AsksStmt, RunsStmt, AsksTagged, AsksPlain, AsksStmts, RunsStmts, AsksTable, RunsTable}
+use Rattle.runner.specs.Claims.{AsksExpr, RunsExpr, AsksStmt, RunsStmt, AsksTagged, AsksPlain}
 use Rattle.runner.proofs.Rank.{rank, rank-lower}
 use Rattle.runner.proofs.Stages.{store-count, count-asks, stage-counted, going-counted, ran-counted, stage-ran, going-rest}
 use Rattle.runner.proofs.Forming.{single-form}

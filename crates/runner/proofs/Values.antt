@@ -1,26 +1,25 @@
 -- A call as an expression and as a statement: its callable is found, it runs, and its ending is looked at.
-use mathlib.Core.Bool.{Bool, true, false}
-use mathlib.Core.Option.{Option, none, some}
-use mathlib.Core.Path.{_≡_, refl, _∙_, sym}
-use mathlib.Core.List.{List, []}
-use Prim.Native.Nat.{ℕ, _+_, _*_, _≤_, _<_}
+use mathlib.Core.Option.{Option, some}
+use mathlib.Core.Path.{_≡_, refl, _∙_}
+use mathlib.Core.List.{List}
+use Prim.Native.Nat.{ℕ, _+_, _*_, _<_}
 use native.Mathlib.Omega.{arith}
-use lib.ListN.{length, getD}
+use lib.ListN.{getD}
 use Rattle.rules.specs.Syntax.{Value, Expr, callExpr, Args, Stmt, callStmt, Callable}
 use Rattle.rules.specs.Form.{callableBelow, mayCall, Scope}
 use Rattle.rules.specs.Lists.{Entry}
-use Rattle.rules.specs.Running.{State, Ending, onward, returned, returnedValue, exited, Out, done, M, _>>=_, pure, tick, must, orStuck, valueOf, afterCall, runExpr, runCall, runStmt}
+use Rattle.rules.specs.Running.{State, Ending, onward, returned, returnedValue, exited, M, _>>=_, pure, tick, must, orStuck, valueOf, afterCall, runExpr, runCall, runStmt}
 use Rattle.program.specs.Stands.{StandsExpr, StandsStmt}
 use Rattle.program.proofs.Views.{expr-begins, CallView, ExprView, expr-view, stmt-begins, CallStmtView, StmtView, stmt-view}
 use Rattle.values.specs.declared.Value as values
 use Rattle.steps.specs.declared.Ended.{Ended}
 use Rattle.steps.specs.Outcomes.{Goes, counterOf, Ran, Gave, Ends, AsksCount, Counts}
 use Rattle.steps.specs.Calls.{AfterCall, Returns}
-use Rattle.steps.proofs.Going.{Begun, Known, Found, then-goes, some-then-goes, must-then-goes, some-goes, some-is, some-then-is, must-then-is, then-assoc, ran-here, ran-then}
+use Rattle.steps.proofs.Going.{Begun, Known, then-goes, some-then-goes, must-then-goes, some-goes, some-is, some-then-is, must-then-is, then-assoc, ran-here, ran-then}
 use Rattle.runner.specs.Runs.{callsOf, exprIn, argsIn, callIn, stmtIn, Stage}
-use Rattle.runner.specs.Claims.{AsksExpr, RunsExpr, AsksValue, CallAt, AsksCall, RunsCall, AsksStmt, RunsStmt, AsksTagged}
+use Rattle.runner.specs.Claims.{RunsExpr, AsksValue, CallAt, AsksCall, RunsCall, RunsStmt, AsksTagged}
 use Rattle.runner.proofs.Rank.{rank, rank-lower}
-use Rattle.runner.proofs.Stages.{count-asks, stage-counted, going-counted, ran-counted, stage-ran, going-rest}
+use Rattle.runner.proofs.Stages.{count-asks, stage-counted, going-counted, ran-counted, going-rest}
 
 -- an ending with a value
 value-of : (ending : Ending) (v : Value) → valueOf ending ≡ some v → ending ≡ returnedValue v

@@ -1,19 +1,18 @@
 -- The whole run: the store is copied, the apply body runs, and its ending is the signal.
 use mathlib.Core.Path.{_≡_, refl, _∙_, sym, ap}
-use mathlib.Core.List.{List, []}
-use Prim.Native.Nat.{ℕ, _+_, _*_, _≤_, _<_}
+use mathlib.Core.List.{List}
+use Prim.Native.Nat.{ℕ, _<_}
 use native.Mathlib.Omega.{arith}
 use lib.ListN.{length, getD, set}
 use lib.Seq.{getD-set-same}
 use Rattle.rules.specs.declared.Signal.{Signal}
 use Rattle.rules.specs.declared.Signal.the-variants.{Done, Exit}
 use Rattle.rules.specs.Syntax.{Program}
-use Rattle.rules.specs.Form.{isApply, Scope, applyScope}
+use Rattle.rules.specs.Form.{isApply, applyScope}
 use Rattle.rules.specs.Lists.{Entry, Cell, slotsOf}
-use Rattle.rules.specs.Running.{State, Ending, onward, returned, returnedValue, exited, Seen, Out, done, stuck, full, signalOf, finish, started, runProgram}
-use Rattle.program.specs.Stands.{StandsProgram}
+use Rattle.rules.specs.Running.{State, Ending, Seen, Out, done, stuck, full, signalOf, finish, started, runProgram}
 use Rattle.program.proofs.Seen.{applySlots, apply-scope}
-use Rattle.store.specs.Mirrors.{counterSlot, storeSlots, Scene}
+use Rattle.store.specs.Mirrors.{counterSlot}
 use Rattle.store.specs.Fills.{AsksCopy, Copies}
 use Rattle.store.proofs.Scenes.{start-copies, scene-start}
 use Rattle.steps.specs.declared.Ended.{Ended}
@@ -23,7 +22,7 @@ use Rattle.steps.specs.Outcomes.{Goes, goes, counterOf, Ends, ends-onward, ends
 use Rattle.steps.proofs.Going.{gone, not-stuck, not-full}
 use Rattle.runner.specs.Runs.{callsOf, appliedIn, stmtIn, Stage}
 use Rattle.runner.specs.Claims.{AsksStmt, RunsStmt}
-use Rattle.runner.specs.Whole.{Ready, programRun, AsksRun, Ran, Runs, TellsSignal}
+use Rattle.runner.specs.Whole.{Ready, programRun, AsksRun, RanWhole, RunsWhole, TellsSignal}
 
 -- the signal
 signal-told : (ended : Ended) (ending : Ending) → Ends ended ending → (r : Ended) → ended ≡ r → (x : Signal)
@@ -116,7 +115,7 @@ module _ (nums directory ends offsets entries widths slots frame : List ℕ) (st
       whole-ran : {slots₂ frame₂ : List ℕ} {ended : Ended} {r : Signal}
           → outcomes.Ran nums directory ends (applySlots directory) offsets (set slots₁ counterSlot 0) slots₂ frame frame₂
           (applyScope P) (bodyRun P es cells) (Ends ended)
-          → TellsSignal ended r → Ran slots₂ P (programRun P es cells) r
+          → TellsSignal ended r → RanWhole slots₂ P (programRun P es cells) r
       unfolding applyScope
       whole-ran {r = r} h t =
           let same : r ≡ signalOf (h .answer) = t .is (h .answer) (h .answers) in
@@ -160,7 +159,7 @@ module _ (nums directory ends offsets entries widths slots frame : List ℕ) (st
       → RunsStmt nums directory ends (applySlots directory) offsets entries widths (set slots₁ counterSlot 0) slots₂ frame
       frame₂ 32 (getD directory 68 0) ended
       → TellsSignal ended r
-      → Runs nums directory ends offsets entries widths slots slots₂ frame store size r
+      → RunsWhole nums directory ends offsets entries widths slots slots₂ frame store size r
   run-runs slots₁ slots₂ frame₂ ended r c q t = record {
     runs = λ P es cells w g. whole-ran w g c (q .runs (applyScope P) (length (slotsOf cells)) es (started cells)
         (P .body) (first-stage w g c) (w .stands .body) (first-goes w g c)) t;

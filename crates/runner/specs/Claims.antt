@@ -3,8 +3,8 @@
 use mathlib.Core.Option.{some}
 use mathlib.Core.Path.{_≡_}
 use mathlib.Core.List.{List, [], _∷_}
-use Prim.Native.Nat.{ℕ, _+_, _-_, _*_, _≤_, _<_}
-use lib.ListN.{length, getD, getElem?}
+use Prim.Native.Nat.{ℕ, _+_, _-_, _≤_, _<_}
+use lib.ListN.{length, getD}
 use Rattle.rules.specs.Syntax.{Expr, Args, Stmt, Stmts, Parameter, Callable, Key, Table, Program, placeIn}
 use Rattle.rules.specs.Reading.{deepest, mostKeys, mostArguments}
 use Rattle.rules.specs.Form.{callableBelow, Scope, applyScope}
@@ -274,7 +274,7 @@ pub record RunsKeys (nums directory ends scope offsets entries widths slots slot
       (KeyNumbers keys′ j)
 
 -- an action that a table lists, by its position, with numbers of the file as its arguments
-pub record ActionAt (nums : List ℕ) (actions position from : ℕ) (T : Table) (ns : List ℕ) : Type 0 where
+pub record ActionAt (nums : List ℕ) (actions from : ℕ) (T : Table) (ns : List ℕ) : Type 0 where
   pub listed : StandsNumerals nums (actions + 1) (T .actions)
   pub given : HoldsAll nums from ns
 
@@ -287,13 +287,13 @@ pub record AsksAction (nums directory ends scope offsets entries widths slots fr
   pub table : Table
   pub numbers : List ℕ
   pub stage : Stage nums directory ends scope offsets entries widths slots frame (applyScope program) used entryList state
-  pub action : ActionAt nums actions position from table numbers
+  pub action : ActionAt nums actions from table numbers
   pub going : Goes (counterOf slots) (actionIn program used table position numbers state)
 
 pub record RunsAction (nums directory ends scope offsets entries widths slots slots′ frame frame′ : List ℕ)
     (actions position from : ℕ) (r : Ended) : Type 0 where
   pub runs : (P : Program) (used : ℕ) (es : List Entry) (s : State) (T : Table) (ns : List ℕ)
       → Stage nums directory ends scope offsets entries widths slots frame (applyScope P) used es s
-      → ActionAt nums actions position from T ns → Goes (counterOf slots) (actionIn P used T position ns s)
+      → ActionAt nums actions from T ns → Goes (counterOf slots) (actionIn P used T position ns s)
       → Ran nums directory ends scope offsets slots slots′ frame frame′ (applyScope P) (actionIn P used T position ns s)
       (Ends r)

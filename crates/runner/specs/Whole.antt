@@ -40,7 +40,7 @@ pub record AsksRun (nums directory ends offsets entries widths slots frame : Lis
   pub going : Goes 0 (programRun program entryList cells)
 
 -- the rules' signal and final store; the steps are counted
-pub record Ran (slots : List ℕ) (P : Program) (o : Out (List Cell) Signal) (r : Signal) : Type 0 where
+pub record RanWhole (slots : List ℕ) (P : Program) (o : Out (List Cell) Signal) (r : Signal) : Type 0 where
   pub cells : List Cell
   pub seen : Seen
   pub is : o ≡ done r cells seen
@@ -48,11 +48,11 @@ pub record Ran (slots : List ℕ) (P : Program) (o : Out (List Cell) Signal) (r 
   pub store : MirrorsStore slots cells
   pub counted : counterOf slots ≡ length seen
 
-pub record Runs (nums directory ends offsets entries widths slots slots′ frame : List ℕ) (store size : ℕ) (r : Signal)
+pub record RunsWhole (nums directory ends offsets entries widths slots slots′ frame : List ℕ) (store size : ℕ) (r : Signal)
     : Type 0 where
   pub runs : (P : Program) (es : List Entry) (cells : List Cell)
       → Ready nums directory ends offsets entries widths slots frame store size P es cells
-      → Goes 0 (programRun P es cells) → Ran slots′ P (programRun P es cells) r
+      → Goes 0 (programRun P es cells) → RanWhole slots′ P (programRun P es cells) r
 
 -- the signal of an ending
 pub record TellsSignal (ended : Ended) (r : Signal) : Type 0 where

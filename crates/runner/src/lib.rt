@@ -1,7 +1,7 @@
-// The runner: runs a judged program by the rules, from the numbers of its file and what the judge left. The store stands in
-// slots of its own, one for each number in file order, and the slot behind them counts steps; frames stand in the
-// working slots that are lent.
-ghost use Rattle.runner.specs.Whole.{AsksRun, Runs, TellsSignal};
+// The runner: runs a judged program by the rules, from the numbers of its file and what the judge left. The store stands
+// in slots of its own, one for each number in file order, and the last of them counts steps; frames stand in the working
+// slots that are lent.
+ghost use Rattle.runner.specs.Whole.{AsksRun, RunsWhole, TellsSignal};
 use rules::Signal;
 use shape::limits::DEEPEST;
 use steps::Ended;
@@ -38,7 +38,7 @@ pub fn run(
     frame: &mut [u64],
 ) -> Signal
     requires { ⌜ AsksRun (now nums) (now directory) (now ends) (now offsets) (now entries) (now widths) (now slots) (now frame) store size ⌝ }
-    ensures { λ r. ⌜ Runs (now (nums .entry)) (now (directory .entry)) (now (ends .entry)) (now (offsets .entry)) (now (entries .entry)) (now (widths .entry)) (now (slots .entry)) (now (slots .exit)) (now (frame .entry)) store size r ⌝ }
+    ensures { λ r. ⌜ RunsWhole (now (nums .entry)) (now (directory .entry)) (now (ends .entry)) (now (offsets .entry)) (now (entries .entry)) (now (widths .entry)) (now (slots .entry)) (now (slots .exit)) (now (frame .entry)) store size r ⌝ }
 {
     copy(nums, store, size, slots);
     slots[COUNTER] = 0;

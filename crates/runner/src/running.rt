@@ -5,6 +5,7 @@ ghost use Rattle.runner.specs.Claims.{AsksExpr, RunsExpr, AsksLeafAt, As
 use lookup::Lookup;
 use shape::limits::DEEPEST;
 use steps::Ended;
+use steps::calls::OUT;
 use steps::calls::after_call;
 use steps::calls::finish_call;
 use steps::calls::keep;
@@ -17,9 +18,6 @@ use store::fill::clear;
 use store::fill::copy;
 use store::write_place;
 use values::Value;
-
-// The direction of a parameter that takes nothing in.
-const OUT: u64 = 2;
 
 // The tags of statements that run other constructs.
 const ASSIGN: u64 = 1;
@@ -309,7 +307,8 @@ fn run_value(
     returned(ended)
 }
 
-// A call: its arguments from left to right, the callable's body in the slots behind the caller's own, then what comes back.
+// A call: its arguments from left to right, the callable's body in the slots behind the caller's own, then what comes
+// back.
 fn run_call(
     nums: &[u64],
     ends: &[u64],
@@ -373,7 +372,8 @@ fn run_call(
     )
 }
 
-// So many arguments, into the slots from one on. Each is kept once those behind it are worked out, so a call among them may use the slots.
+// So many arguments, into the slots from one on. Each is kept once those behind it are worked out, so a call among them
+// may use the slots.
 fn run_args(
     nums: &[u64],
     ends: &[u64],

@@ -2,26 +2,22 @@
 use mathlib.Core.Bool.{Bool, true, false}
 use mathlib.Core.Option.{Option, none, some}
 use mathlib.Core.Path.{_≡_, refl, _∙_, sym}
-use mathlib.Core.List.{List, [], _∷_}
-use Prim.Native.Nat.{ℕ, zero, suc, _+_, _-_, _≤_, _<_, _^_}
+use mathlib.Core.List.{List, []}
+use Prim.Native.Nat.{ℕ, _+_, _-_, _≤_, _<_}
 use native.Mathlib.Omega.{arith}
 use lib.ListN.{length, getD}
-use Rattle.rules.specs.Syntax.{Ty, Value, value, Direction, byNone, byIn, byOut, byInout, Place, Expr, readOf, Args, noArgs, arg, Parameter, placeIn}
+use Rattle.rules.specs.Syntax.{Ty, Value, value, Direction, byNone, byIn, byOut, byInout, Place, Expr, Parameter, placeIn}
 use Rattle.rules.specs.Form.{onlyIf, sameTy, comesBack, writable, Scope}
-use Rattle.rules.specs.Running.{State, Ending, onward, returned, returnedValue, exited, Out, done, M, _>>=_, pure, puts, numberOf, declared, put, writeAt, writeBack, inTurn, comeBack, afterBody, afterCall}
-use Rattle.rules.proofs.Predicates.{All2, nil, cons}
-use Rattle.rules.proofs.Fits.{Fit, FitParameter, sameTy-true, all2-length}
-use Rattle.program.specs.Codes.{placeTag, directionNumber, argCount}
-use Rattle.program.specs.Stands.{Holds, HoldsTag, StandsPlace, StandsExpr, on-bool, on-bits, on-place, on-valid, on-not, on-complement, on-binary, on-cast, on-slice, on-concatenation, on-call, StandsArgs, StandsParameters}
-use Rattle.program.proofs.Views.{expr-begins, ArgView, arg-view, no-args}
+use Rattle.rules.specs.Running.{State, done, pure, puts, numberOf, declared, put, writeAt, writeBack}
+use Rattle.rules.proofs.Fits.{Fit, sameTy-true, all2-length}
+use Rattle.program.specs.Codes.{directionNumber}
+use Rattle.program.specs.Stands.{StandsExpr, on-bool, on-bits, on-place, on-valid, on-not, on-complement, on-binary, on-cast, on-slice, on-concatenation, on-call}
 use Rattle.store.specs.Mirrors.{Scene}
-use Rattle.store.specs.Places.{NamesPlace, AsksPlace}
-use Rattle.store.specs.Changes.{KeepsFree, Becomes, AsksWrite, Writes}
-use Rattle.steps.specs.declared.Ended.{Ended}
-use Rattle.steps.specs.declared.Ended.the-variants.{Onward, Returned, ReturnedValue, Exited}
-use Rattle.steps.specs.Outcomes.{Goes, counterOf, Ran, Ends, ends-onward, ends-returned, ends-value, ends-exited, Laid}
-use Rattle.steps.specs.Calls.{ownOf, oneBack, LeftOne, AsksOneBack, RanBack, BacksOne, Left, AsksBack, Backs, AsksFinish, Finishes, AfterCall}
-use Rattle.steps.proofs.Going.{Known, Found, Begun, gone, not-nowhere, then-goes, some-then-goes, some-then-is, puts-goes, ran-here, ran-then, ran-becomes}
+use Rattle.store.specs.Places.{NamesPlace}
+use Rattle.store.specs.Changes.{Becomes, AsksWrite, Writes}
+use Rattle.steps.specs.Outcomes.{Goes}
+use Rattle.steps.specs.Calls.{ownOf, oneBack, AsksOneBack, RanBack, BacksOne}
+use Rattle.steps.proofs.Going.{Known, not-nowhere, some-then-goes, some-then-is, ran-here, ran-becomes}
 
 -- an argument that comes back names a place
 names-of : {nums ends : List ℕ} {depth at : ℕ} {e : Expr} (q : Place) → StandsExpr nums ends depth at e

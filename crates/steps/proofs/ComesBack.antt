@@ -1,25 +1,23 @@
 -- What comes back from all arguments of a call, from left to right, and how a call statement then goes on.
 use mathlib.Core.Bool.{Bool, true, false}
-use mathlib.Core.Option.{Option, none, some}
 use mathlib.Core.Path.{_≡_, refl, _∙_, sym}
 use mathlib.Core.List.{List, [], _∷_}
-use Prim.Native.Nat.{ℕ, zero, suc, _+_, _-_, _≤_, _<_, _^_}
+use Prim.Native.Nat.{ℕ, suc, _+_, _-_, _<_, _^_}
 use native.Mathlib.Omega.{arith}
 use lib.ListN.{length, getD}
-use Rattle.rules.specs.Syntax.{Value, Expr, Args, noArgs, arg, Parameter, placeIn, value}
+use Rattle.rules.specs.Syntax.{Value, Expr, Args, noArgs, arg, Parameter}
 use Rattle.rules.specs.Form.{comesBack, Scope}
-use Rattle.rules.specs.Running.{State, Ending, onward, returned, returnedValue, exited, Out, done, M, next, _>>=_, pure, writeBack, inTurn, comeBack, afterBody, afterCall}
-use Rattle.rules.proofs.Predicates.{All2, nil, cons}
+use Rattle.rules.specs.Running.{State, Ending, onward, returned, returnedValue, exited, Out, done, M, next, _>>=_, pure, inTurn, comeBack, afterBody, afterCall}
+use Rattle.rules.proofs.Predicates.{All2, cons}
 use Rattle.rules.proofs.Fits.{FitParameter}
 use Rattle.program.specs.Codes.{argCount}
-use Rattle.program.specs.Stands.{StandsExpr, StandsArgs, on-none, on-arg, StandsParameters}
+use Rattle.program.specs.Stands.{StandsExpr, StandsArgs, on-arg, StandsParameters}
 use Rattle.program.proofs.Views.{expr-begins, no-args}
 use Rattle.values.specs.Claims.{valueOf}
-use Rattle.store.specs.Mirrors.{Scene}
 use Rattle.steps.specs.declared.Ended.{Ended}
 use Rattle.steps.specs.declared.Ended.the-variants.{Onward, Returned, ReturnedValue, Exited}
-use Rattle.steps.specs.Outcomes.{Goes, counterOf, Ran, Gave, Ends, ends-onward, ends-returned, ends-value, ends-exited, Laid}
-use Rattle.steps.specs.Calls.{ownOf, oneBack, LeftOne, AsksOneBack, RanBack, BacksOne, Left, AsksBack, Backs, AsksFinish, Finishes, AfterCall, Returns}
+use Rattle.steps.specs.Outcomes.{Goes, Ran, Gave, Ends, ends-onward, ends-returned, ends-value, ends-exited}
+use Rattle.steps.specs.Calls.{oneBack, LeftOne, AsksOneBack, RanBack, BacksOne, Left, AsksBack, Backs, AsksFinish, Finishes, AfterCall, Returns}
 use Rattle.steps.proofs.Backs.{none-is}
 use Rattle.steps.proofs.Going.{Begun, not-nowhere, then-goes, rest-from, more-none, ran-here, ran-map, ran-then}
 

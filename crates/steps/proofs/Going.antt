@@ -5,15 +5,14 @@ use mathlib.Core.Path.{_≡_, refl, _∙_, sym, ap}
 use mathlib.Core.List.{List, [], _∷_, _++_, append-assoc}
 use Prim.Native.Nat.{ℕ, _+_, _≤_}
 use native.Mathlib.Omega.{arith}
-use lib.ListN.{length, getD, length-append, length-set}
+use lib.ListN.{length, length-append}
 use lib.Seq.{getD-set-same}
 use Rattle.rules.specs.Form.{Scope}
 use Rattle.rules.specs.Ceiling.{mostSteps}
-use Rattle.rules.specs.Running.{State, Seen, Out, done, stuck, full, M, more, next, _>>=_, pure, nowhere, tick, orStuck, must, gets, setTo, puts}
+use Rattle.rules.specs.Running.{State, Seen, Out, done, stuck, full, M, more, next, _>>=_, nowhere, tick, orStuck, must, gets, setTo, puts}
 use Rattle.store.specs.Mirrors.{counterSlot, storeSlots, Scene}
 use Rattle.store.specs.Changes.{Becomes}
-use Rattle.store.proofs.Scenes.{scene-counted}
-use Rattle.steps.specs.Outcomes.{Goes, goes, counterOf, Ran, ticked, AsksCount, Counts}
+use Rattle.steps.specs.Outcomes.{Goes, goes, counterOf, Ran, ticked}
 
 -- where a run comes to
 pub record Gone {S A : Type 0} (counted : ℕ) (o : Out S A) : Type 0 where
@@ -111,19 +110,6 @@ pub must-goes : {S : Type 0} {counted : ℕ} (b : Bool) (s : S) → Goes counted
 unfolding must
 must-goes true s g = refl
 must-goes false s g = not-stuck g
-
-pub gets-goes : {S A : Type 0} {counted : ℕ} (f : S → Option A) (s : S) → Goes counted (gets f s) → Known (f s)
-unfolding gets
-gets-goes f s g = some-goes (f s) s g
-
-set-goes : {S : Type 0} {counted : ℕ} (o : Option S) → Goes counted (setTo o) → Known o
-unfolding setTo
-set-goes none g = not-stuck g
-set-goes (some s) g = record { member = s; is = refl }
-
-pub puts-goes : {S : Type 0} {counted : ℕ} (f : S → Option S) (s : S) → Goes counted (puts f s) → Known (f s)
-unfolding puts
-puts-goes f s g = set-goes (f s) g
 
 -- where such a part comes first: what it found, and the rest from the same state
 pub record Found {S A B : Type 0} (counted : ℕ) (o : Option A) (k : A → M S B) (s : S) : Type 0 where

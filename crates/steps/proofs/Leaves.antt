@@ -1,29 +1,28 @@
 -- Expressions without operands: what their numbers are, and the value that they have by the rules.
 use mathlib.Core.Bool.{Bool, true, false}
-use mathlib.Core.Option.{Option, none, some}
-use mathlib.Core.Path.{_≡_, refl, sym, _∙_}
-use mathlib.Core.List.{List, []}
-use Prim.Native.Nat.{ℕ, suc, _+_, _≤_, _<_, _^_}
+use mathlib.Core.Option.{Option, some}
+use mathlib.Core.Path.{_≡_, refl, _∙_}
+use mathlib.Core.List.{List}
+use Prim.Native.Nat.{ℕ, _+_, _≤_, _<_, _^_}
 use native.Mathlib.Omega.{arith}
-use lib.ListN.{length, getD, getElem?}
+use lib.ListN.{length, getD}
 use Rattle.rules.specs.Words.{widest}
 use Rattle.rules.specs.Syntax.{Ty, bool, bits, Value, value, Place, Expr, boolLiteral, bitsLiteral, readOf, validOf}
 use Rattle.rules.specs.Form.{andLook, onlyIf, fits, Scope}
-use Rattle.rules.specs.Lists.{markOf}
-use Rattle.rules.specs.Running.{State, Out, done, pure, orStuck, truth, headerOnly, shapeFor, declared, held, validIn, readAt, validAt}
-use Rattle.rules.proofs.Fits.{Fit, mark-fits}
-use Rattle.program.specs.Codes.{tyOf, placeTag}
-use Rattle.program.specs.Stands.{Holds, StandsExpr, on-bool, on-bits, on-place, on-valid, on-not, on-complement, on-binary, on-cast, on-slice, on-concatenation, on-call}
+use Rattle.rules.specs.Running.{State, pure, orStuck, truth, headerOnly, shapeFor, declared, held, readAt, validAt}
+use Rattle.rules.proofs.Fits.{mark-fits}
+use Rattle.program.specs.Codes.{tyOf}
+use Rattle.program.specs.Stands.{StandsExpr, on-bool, on-bits, on-place, on-valid, on-not, on-complement, on-binary, on-cast, on-slice, on-concatenation, on-call}
 use Rattle.program.proofs.Views.{expr-begins, expr-view, ExprView, BoolView, BitsView, ValidView}
 use Rattle.program.proofs.Members.{bits-of}
-use Rattle.values.specs.Claims.{valueOf, IsValue}
+use Rattle.values.specs.Claims.{valueOf}
 use Rattle.values.specs.declared.Value as values
 use Rattle.store.specs.Mirrors.{Scene}
 use Rattle.store.specs.Places.{NamesPlace, AsksPlace, HeldAs, ReadsPlace}
 use Rattle.store.specs.Changes.{AsksHeader, Marked, ReadsMark}
 use Rattle.steps.specs.Outcomes.{Goes}
 use Rattle.steps.specs.Operands.{leafIn, AsksLeaf, LeafGave, GivesLeaf}
-use Rattle.steps.proofs.Going.{Known, Found, not-nowhere, some-goes, some-then-goes, gets-then-goes, some-is, some-then-is, gets-then-is}
+use Rattle.steps.proofs.Going.{Known, not-nowhere, some-goes, some-then-goes, some-is, some-then-is, gets-then-is}
 
 -- a literal that goes on fits its type
 only-known : {A : Type 0} (b : Bool) (o : Option A) → Known (onlyIf b o) → b ≡ true

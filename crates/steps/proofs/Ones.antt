@@ -2,7 +2,7 @@
 use mathlib.Core.Option.{Option, none, some}
 use mathlib.Core.Path.{_≡_, refl, _∙_, sym}
 use mathlib.Core.List.{List}
-use Prim.Native.Nat.{ℕ, _+_, _≤_, _<_, _^_}
+use Prim.Native.Nat.{ℕ, _+_, _<_, _^_}
 use native.Mathlib.Omega.{arith}
 use lib.ListN.{length, getD}
 use Rattle.rules.specs.Words.{widest}
@@ -10,7 +10,7 @@ use Rattle.rules.specs.Syntax.{Value, Expr, negation, complement, cast, slice}
 use Rattle.rules.specs.Running.{notOn, complementOn, castOn, sliceOn}
 use Rattle.program.specs.Stands.{Holds, HoldsWithin, StandsExpr, on-bool, on-bits, on-place, on-valid, on-not, on-complement, on-binary, on-cast, on-slice, on-concatenation, on-call}
 use Rattle.program.proofs.Views.{expr-begins}
-use Rattle.values.specs.Claims.{valueOf, IsValue, Gives, AsksOne, AsksCast}
+use Rattle.values.specs.Claims.{valueOf, Gives, AsksOne, AsksCast}
 use Rattle.steps.specs.Operands.{onOne, AsksOneOn, GivesOne}
 
 -- the expression at a tag, and what it makes of its operand

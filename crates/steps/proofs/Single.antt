@@ -1,22 +1,20 @@
 -- Statements that run no other construct, by their tags.
-use mathlib.Core.Bool.{Bool, true, false}
-use mathlib.Core.Option.{Option, some}
-use mathlib.Core.Path.{_≡_, refl, _∙_, sym}
+use mathlib.Core.Option.{Option}
+use mathlib.Core.Path.{_≡_, refl}
 use mathlib.Core.List.{List, []}
 use Prim.Native.Nat.{ℕ, _+_, _<_, _^_}
 use native.Mathlib.Omega.{arith}
 use lib.ListN.{length, getD}
 use Rattle.rules.specs.Syntax.{Stmt, empty, return, exit, setValid, setInvalid}
-use Rattle.rules.specs.Form.{andLook, Body, isFunction, Scope}
+use Rattle.rules.specs.Form.{andLook, Body, Scope}
 use Rattle.rules.specs.Lists.{Cell}
-use Rattle.rules.specs.Running.{State, Ending, onward, returned, exited, Out, done, M, _>>=_, pure, must, orStuck, puts, headerOnly, shapeFor, changeStore, makeValid, makeInvalid, changeHeader, notInFunction}
+use Rattle.rules.specs.Running.{State, Ending, onward, returned, exited, done, _>>=_, pure, puts, headerOnly, shapeFor, changeStore, makeValid, makeInvalid, changeHeader, notInFunction}
 use Rattle.program.specs.Stands.{Holds, StandsStmt, on-empty, on-assign, on-if, on-block, on-call-stmt, on-apply, on-return-value, on-return, on-exit, on-set-valid, on-set-invalid}
 use Rattle.program.proofs.Views.{stmt-begins}
 use Rattle.store.specs.Mirrors.{Scene}
 use Rattle.store.specs.Changes.{AsksHeader, ChangesHeader}
-use Rattle.steps.specs.declared.Ended.{Ended}
 use Rattle.steps.specs.declared.Ended.the-variants.{Onward, Returned, Exited}
-use Rattle.steps.specs.Outcomes.{Goes, counterOf, Ran, Ends, ends-onward, ends-returned, ends-exited}
+use Rattle.steps.specs.Outcomes.{Goes, Ran, Ends, ends-onward, ends-returned, ends-exited}
 use Rattle.steps.specs.Singles.{singleIn, AsksSingle, RunsSingle}
 use Rattle.steps.proofs.Going.{Known, Begun, not-nowhere, then-goes, some-then-goes, must-then-goes, must-then-is, some-then-is, ran-here, ran-then, ran-becomes}
 

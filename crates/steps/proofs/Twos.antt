@@ -1,14 +1,13 @@
 -- Expressions with two operands: whether the first settles them, and what they make of both.
-use mathlib.Core.Bool.{Bool, true, false}
-use mathlib.Core.Option.{Option, none, some}
+use mathlib.Core.Bool.{Bool, false}
+use mathlib.Core.Option.{some}
 use mathlib.Core.Path.{_≡_, refl, _∙_, sym}
 use mathlib.Core.List.{List}
 use Prim.Native.Nat.{ℕ, zero, suc, _+_, _≤_, _<_, _^_}
 use native.Mathlib.Omega.{arith}
 use lib.Dec.{eqb}
 use lib.ListN.{length, getD}
-use borrow.Author.Tests.{eq-eqb, ne-eqb}
-use Rattle.rules.specs.Syntax.{Ty, bool, bits, Value, value, Arithmetic, plus, minus, times, and, or, xor, Order, less, lessOrEqual, Shift, shiftLeft, shiftRight, Equality, equal, unequal, Logic, both, either}
+use Rattle.rules.specs.Syntax.{Ty, bool, bits, Value, value, plus, minus, times, and, or, xor, less, lessOrEqual, shiftLeft, shiftRight, equal, unequal, both, either}
 use Rattle.rules.specs.Syntax.{Operator, arithmetic, order, shift, equality, logic, Place, local, parameter, global, field, Expr, binary, concatenation}
 use Rattle.rules.specs.Running.{concatenationOn, aBool}
 use Rattle.program.specs.Codes.{tyOf, operatorNumber, placeTag}

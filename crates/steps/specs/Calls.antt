@@ -16,7 +16,7 @@ use Rattle.program.specs.Scopes.{StandsScope}
 use Rattle.store.specs.Mirrors.{Scene}
 use Rattle.store.specs.Changes.{KeepsFree}
 use Rattle.steps.specs.declared.Ended.{Ended}
-use Rattle.steps.specs.Outcomes.{Goes, counterOf, Ran, Gave, Ends, Laid}
+use Rattle.steps.specs.Outcomes.{Goes, Ran, Gave, Ends, Laid}
 
 -- the slots of a body's own
 abbrev pub ownOf : Scope → ℕ

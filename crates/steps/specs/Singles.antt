@@ -8,7 +8,7 @@ use Rattle.rules.specs.Running.{State, Ending, onward, returned, exited, M, pur
 use Rattle.program.specs.Stands.{StandsStmt}
 use Rattle.store.specs.Mirrors.{Scene}
 use Rattle.steps.specs.declared.Ended.{Ended}
-use Rattle.steps.specs.Outcomes.{Goes, counterOf, Ran, Ends}
+use Rattle.steps.specs.Outcomes.{Goes, Ran, Ends}
 
 -- what it does, its step counted
 unfoldable pub singleIn : Scope → Stmt → M State Ending

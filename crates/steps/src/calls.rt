@@ -5,8 +5,8 @@ use store::STORE;
 use store::write_place;
 use values::Value;
 
-// The direction from which on a number comes back.
-const OUT: u64 = 2;
+// The direction out: from it on a number comes back, and it alone takes nothing in.
+pub const OUT: u64 = 2;
 
 // How many slots a body's parameters and locals take: those behind them are free.
 pub fn own_slots(scope: &[u64; program::SCOPE]) -> usize
