@@ -1,4 +1,5 @@
 pub mod Judging
 mod Lent
 mod Running
+pub mod Ending
 pub mod Promises
