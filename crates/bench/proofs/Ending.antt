@@ -18,11 +18,12 @@ use Rattle.rules.proofs.Accepted.{Ends, accepted-ends}
 use Rattle.rules.proofs.Room.{accepted-not-full}
 use Rattle.bench.specs.Runs.{RunsFile}
 
--- done or exit, steps within the ceiling, and in the result slots a store that fits
+-- done or exit as by the rules, steps within the ceiling, and in the result slots a store that fits
 pub record EndsWell (b : Bench) (results results′ : List ℕ) (r : RunAnswer) : Type 0 where
   pub signal : Signal
   pub steps : ℕ
   pub store : List Cell
+  pub outcome : runBench workingSlots b ≡ ended signal steps (ceilingOf (b .program)) (slotsOf store)
   pub answer : ofRun r
       ≡ ofSignal signal ∷ steps ∷ ceilingOf (b .program) ∷ length (slotsOf store) ∷ []
   pub within : steps ≤ ceilingOf (b .program)
@@ -47,6 +48,7 @@ module _ (bytes results results′ working working′ : List ℕ) (r : RunAnswer
     signal = signal;
     steps = length seen;
     store = store;
+    outcome = rw e refl;
     answer = p .says ∙ rw (outcome-is, e) refl;
     within = q;
     fits = f;

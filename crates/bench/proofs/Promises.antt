@@ -11,9 +11,12 @@ use Rattle.rules.specs.declared.JudgeAnswer.{JudgeAnswer}
 use Rattle.rules.specs.declared.RunAnswer.{RunAnswer}
 use Rattle.rules.specs.Lists.{slotsOf}
 use Rattle.rules.specs.Answers.{ofJudge, judgeSays, Bench, judged, accepted, workingSlots, runSays, runLeavesResults, runLeavesWorking, ofRun}
+use Rattle.rules.specs.Lines.{printed}
 use Rattle.rules.proofs.Promises as rules
 use Rattle.numbers.specs.Promises.{Reads, Writes}
 use Rattle.numbers.proofs.Determined as numbers
+use Rattle.lines.specs.Promises.{Prints}
+use Rattle.lines.proofs.Determined as lines
 use Rattle.bench.specs.Runs.{RunsFile}
 use Rattle.bench.proofs.Ending.{EndsWell, ends-well}
 
@@ -37,6 +40,10 @@ run-determined bytes results working a b results₁ results₂ working₁ workin
   rules.run-determined bytes (length results) (length working) a b (p .says) (q .says),
   (p .resultsAre ∙ sym (q .resultsAre), p .workingAre ∙ sym (q .workingAre)),
 )
+
+pub lines-determined : (file bytes : List ℕ) (a b : WriteAnswer) (x y : List ℕ) → Prints (printed file) bytes a x
+    → Prints (printed file) bytes b y → (a ≡ b) × (x ≡ y)
+lines-determined file = lines.prints-determined (printed file)
 
 -- the run's answer, and what it leaves in both kinds of slots, are the rules'
 pub run-says : (bytes results results′ working working′ : List ℕ) (r : RunAnswer)

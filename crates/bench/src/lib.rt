@@ -1,4 +1,5 @@
-// What users call: numbers read and written, bench files judged and run. No operation asks anything of what it is given.
+// What users call: numbers read and written, bench files judged and run, their result lines. No operation asks anything of
+// what it is given.
 use judge::Verdict;
 use rules::JudgeAnswer;
 use rules::ReadAnswer;
@@ -13,8 +14,10 @@ ghost use mathlib.Core.Path.{_≡_};
 ghost use lib.ListN.{length};
 ghost use Rattle.rules.specs.Numbers.{streamOf, numbers};
 ghost use Rattle.rules.specs.Answers.{ofJudge, judgeSays};
+ghost use Rattle.rules.specs.Lines.{printed};
 ghost use Rattle.numbers.specs.Parts.{Roomy};
 ghost use Rattle.numbers.specs.Promises.{Reads, Writes};
+ghost use Rattle.lines.specs.Promises.{Prints};
 ghost use Rattle.bench.specs.Runs.{RunsFile, AsksAccepted, RunsAccepted, AsksLent};
 
 // A file of at most so many bytes is read into as many slots, which are set to 0 in less time than those of the longest.
@@ -244,5 +247,23 @@ fn run_lent(
         steps: slots[COUNTER],
         ceiling,
         length,
+    }
+}
+
+// The result lines of a bench file, into the bytes from the first on: how many; or refused 13, with the bytes as found.
+pub fn lines(file: &[u8], bytes: &mut [u8]) -> WriteAnswer
+    ensures { λ r. ⌜ Prints (printed (now (file .entry))) (now (bytes .entry)) r (now (bytes .exit)) ⌝ }
+{
+    let mut results = [0u64; STORE];
+    let mut working = [0u64; WORKING];
+    let answer = run(file, &mut results, &mut working);
+    match answer {
+        RunAnswer::Ended {
+            signal,
+            steps,
+            ceiling,
+            length,
+        } => lines::ended(signal, steps, ceiling, &results[..length], bytes),
+        RunAnswer::Unrun(refusal) => lines::refused(refusal.number, refusal.place, bytes),
     }
 }
