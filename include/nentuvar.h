@@ -3,8 +3,8 @@
  * every length (crate `calls`). docs/RULES.md has the rules.
  *
  * The answer. A call fills the five numbers of `answer`, whatever they held: with 1, or 2 where a run ends by exit, and
- * what it tells; or with 0, the number of a refusal and its place, a byte offset counted from 0. The numbers behind these
- * are 0.
+ * what it tells; or with 0, the number of a refusal and its place, a byte offset counted from 0. The numbers behind
+ * these are 0.
  *
  * What the caller owes. A pointer and the length behind it name so many bytes or numbers that are there, and `answer`
  * names five numbers. No pointer is null, even beside a length of 0. What a call may write to overlaps nothing else that
@@ -65,7 +65,8 @@ void nentuvar_judge(const uint8_t *bytes, size_t length, uint64_t answer[NENTUVA
  * refuses:
  *   1 to 12 at their places: as nentuvar_judge does;
  *   13 at place 0: fewer slots than that.
- * 13 comes last. What the slots held changes no answer.
+ * 13 comes last; 14 does not occur, since 8,192 working slots suffice for every file that is accepted. What the slots
+ * held changes no answer.
  * Leaves the final store in the first result slots and the first 8,192 working slots at 0, and the slots behind both as
  * found; refused, all slots as found.
  */
