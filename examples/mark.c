@@ -1,5 +1,5 @@
-/* Judges the bench file that is named, and prints what the judge answers: `accepted`, the ceiling and the store's
- * length; or `refused`, the refusal's number and its place.
+/* Marks the bench file that is named: judges and runs it, and prints the result lines. They are `done` or `exit`, steps
+ * and ceiling, then on a second line the store's numbers; or `refused`, the refusal's number and its place.
  *
  *   rt staticlib calls
  *   cc -I include -o mark examples/mark.c target/staticlib/libcalls.a
@@ -25,6 +25,14 @@ static long first_bytes(const char *name, uint8_t bytes[ROOM])
     return failed ? -1 : (long)length;
 }
 
+/* The second line: numbers with one blank between two. */
+static void print_store(const uint64_t *store, uint64_t length)
+{
+    for (uint64_t i = 0; i < length; i++)
+        printf("%s%" PRIu64, i == 0 ? "" : " ", store[i]);
+    printf("\n");
+}
+
 int main(int count, char **words)
 {
     if (count != 2) {
@@ -37,8 +45,12 @@ int main(int count, char **words)
         perror(words[1]);
         return 2;
     }
+    static uint64_t store[NENTUVAR_STORE], working[NENTUVAR_WORKING];
+    static const char *const first_words[] = {"refused", "done", "exit"};
     uint64_t answer[NENTUVAR_ANSWER];
-    nentuvar_judge(bytes, (size_t)length, answer);
-    printf("%s %" PRIu64 " %" PRIu64 "\n", answer[0] == 1 ? "accepted" : "refused", answer[1], answer[2]);
+    nentuvar_run(bytes, (size_t)length, store, NENTUVAR_STORE, working, NENTUVAR_WORKING, answer);
+    printf("%s %" PRIu64 " %" PRIu64 "\n", first_words[answer[0]], answer[1], answer[2]);
+    if (answer[0] != 0)
+        print_store(store, answer[3]);
     return 0;
 }

@@ -1,9 +1,10 @@
-/* The calls of Nentuvar for C: numbers read and written, bench files judged. They stand in libcalls.a, which
+/* The calls of Nentuvar for C: numbers read and written, bench files judged and run. They stand in libcalls.a, which
  * `rt staticlib calls` writes to target/staticlib/. What each call answers and leaves is proved, for every content and
  * every length (crate `calls`). docs/RULES.md has the rules.
  *
- * The answer. A call fills the five numbers of `answer`, whatever they held: with 1 and what it tells; or with 0, the
- * number of a refusal and its place, a byte offset counted from 0. The numbers behind these are 0.
+ * The answer. A call fills the five numbers of `answer`, whatever they held: with 1, or 2 where a run ends by exit, and
+ * what it tells; or with 0, the number of a refusal and its place, a byte offset counted from 0. The numbers behind
+ * these are 0.
  *
  * What the caller owes. A pointer and the length behind it name so many bytes or numbers that are there, and `answer`
  * names five numbers. No pointer is null, even beside a length of 0. What a call may write to overlaps nothing else that
@@ -22,6 +23,12 @@ extern "C" {
 
 /* How many numbers an answer has. */
 #define NENTUVAR_ANSWER 5
+
+/* How many working slots a run asks for. */
+#define NENTUVAR_WORKING 8192
+
+/* How many numbers a store has at most: a valid mark and 16 fields for each of 32 headers. */
+#define NENTUVAR_STORE 544
 
 /* Takes `length` bytes that hold numbers, and `count` slots for these.
  * Answers 1 and how many numbers the bytes hold. Or refuses:
@@ -51,6 +58,20 @@ void nentuvar_write(const uint64_t *numbers, size_t count, uint8_t *bytes, size_
  * Leaves everything but the answer as found.
  */
 void nentuvar_judge(const uint8_t *bytes, size_t length, uint64_t answer[NENTUVAR_ANSWER]);
+
+/* Takes the `length` bytes of a bench file, `count` result slots, as many at least as the store has numbers, and `room`
+ * working slots, 8,192 at least.
+ * Answers how the run ended, 1 done or 2 by exit, then its steps, the ceiling, and how many numbers the store has. Or
+ * refuses:
+ *   1 to 12 at their places: as nentuvar_judge does;
+ *   13 at place 0: fewer slots than that.
+ * 13 comes last; 14 does not occur, since 8,192 working slots suffice for every file that is accepted. What the slots
+ * held changes no answer.
+ * Leaves the final store in the first result slots and the first 8,192 working slots at 0, and the slots behind both as
+ * found; refused, all slots as found.
+ */
+void nentuvar_run(const uint8_t *bytes, size_t length, uint64_t *results, size_t count, uint64_t *working, size_t room,
+                  uint64_t answer[NENTUVAR_ANSWER]);
 
 #ifdef __cplusplus
 }

@@ -2,7 +2,7 @@
 
 use second::answer::{judged, marked, unjudged, Answer, Refusal, Signal};
 use second::census;
-use second::generate::bench_file;
+use second::generate::{bench_file, deepest_files};
 use second::inputs::{store_numbers, store_of};
 use second::numbers::{Number, MOST_BYTES};
 use second::tree::Program;
@@ -32,6 +32,18 @@ fn a_judged_file_is_never_stuck_and_stays_within_its_ceiling() {
                 assert!(is_store(&program, &store), "{bytes:?}");
             }
             other => panic!("{other:?} of {bytes:?}"),
+        }
+    }
+}
+
+#[test]
+fn the_deepest_files_are_done_after_as_many_steps_as_they_may_take() {
+    for (name, bytes) in deepest_files() {
+        let (program, _, ceiling) = judged(&bytes).unwrap_or_else(|refusal| panic!("{name}: {refusal:?}"));
+        assert_eq!(program.callables.len(), 16, "{name}");
+        match marked(&bytes) {
+            Answer::Finished { signal: Signal::Done, steps, .. } => assert_eq!(steps, ceiling, "{name}"),
+            other => panic!("{name}: {other:?}"),
         }
     }
 }

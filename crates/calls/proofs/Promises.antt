@@ -11,9 +11,12 @@ use Rattle.rules.specs.declared.WriteAnswer.{WriteAnswer}
 use Rattle.rules.specs.declared.WriteAnswer.the-variants.{Length, Unwritten}
 use Rattle.rules.specs.declared.JudgeAnswer.{JudgeAnswer}
 use Rattle.rules.specs.declared.JudgeAnswer.the-variants.{Accepted, Refused}
-use Rattle.rules.specs.Answers.{ofRefusal, ofRead, ofWrite, ofJudge, judgeSays}
-use Rattle.rules.proofs.Same.{read-same, write-same, judge-same}
-use Rattle.calls.specs.Promises.{inFive, TellsRead, TellsWrite}
+use Rattle.rules.specs.declared.Signal.the-variants.{Done, Exit}
+use Rattle.rules.specs.declared.RunAnswer.{RunAnswer}
+use Rattle.rules.specs.declared.RunAnswer.the-variants.{Ended, Unrun}
+use Rattle.rules.specs.Answers.{ofRefusal, ofRead, ofWrite, ofJudge, ofSignal, ofRun, judgeSays}
+use Rattle.rules.proofs.Same.{read-same, write-same, judge-same, run-same}
+use Rattle.calls.specs.Promises.{inFive, TellsRead, TellsWrite, TellsRun}
 
 pub read-determined : (bytes slots a b x y : List ℕ) → TellsRead bytes slots a x → TellsRead bytes slots b y →
     (a ≡ b) × (x ≡ y)
@@ -25,6 +28,11 @@ write-determined ns bytes a b x y p q = (p .says ∙ sym (q .says), p .leaves �
 
 pub judge-determined : (bytes a b : List ℕ) → a ≡ inFive (judgeSays bytes) → b ≡ inFive (judgeSays bytes) → a ≡ b
 judge-determined bytes a b p q = p ∙ sym q
+
+pub run-determined : (bytes results working a b x y u v : List ℕ) → TellsRun bytes results working a x u →
+    TellsRun bytes results working b y v → (a ≡ b) × (x ≡ y) × (u ≡ v)
+run-determined bytes results working a b x y u v p q =
+    (p .says ∙ sym (q .says), p .leavesResults ∙ sym (q .leavesResults), p .leavesWorking ∙ sym (q .leavesWorking))
 
 pub five-filled : (told : List ℕ) → length (inFive told) ≡ 5
 unfolding inFive
@@ -51,6 +59,12 @@ unfolding outOf inFive ofJudge ofRefusal
 judge-out (Accepted ceiling length) = refl
 judge-out (Refused refusal) = refl
 
+run-out : (a : RunAnswer) → outOf 4 (inFive (ofRun a)) ≡ ofRun a
+unfolding outOf inFive ofRun ofSignal ofRefusal
+run-out (Ended Done steps ceiling length) = refl
+run-out (Ended Exit steps ceiling length) = refl
+run-out (Unrun refusal) = refl
+
 pub read-kept : (a b : ReadAnswer) → inFive (ofRead a) ≡ inFive (ofRead b) → a ≡ b
 read-kept a b e = read-same a b (sym (read-out a) ∙ ap (outOf 2) e ∙ read-out b)
 
@@ -59,3 +73,6 @@ write-kept a b e = write-same a b (sym (write-out a) ∙ ap (outOf 2) e ∙ writ
 
 pub judge-kept : (a b : JudgeAnswer) → inFive (ofJudge a) ≡ inFive (ofJudge b) → a ≡ b
 judge-kept a b e = judge-same a b (sym (judge-out a) ∙ ap (outOf 3) e ∙ judge-out b)
+
+pub run-kept : (a b : RunAnswer) → inFive (ofRun a) ≡ inFive (ofRun b) → a ≡ b
+run-kept a b e = run-same a b (sym (run-out a) ∙ ap (outOf 4) e ∙ run-out b)

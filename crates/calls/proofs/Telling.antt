@@ -9,9 +9,14 @@ use Rattle.rules.specs.declared.WriteAnswer.{WriteAnswer}
 use Rattle.rules.specs.declared.WriteAnswer.the-variants.{Length, Unwritten}
 use Rattle.rules.specs.declared.JudgeAnswer.{JudgeAnswer}
 use Rattle.rules.specs.declared.JudgeAnswer.the-variants.{Accepted, Refused}
-use Rattle.rules.specs.Answers.{ofRefusal, ofRead, ofWrite, ofJudge, judgeSays}
+use Rattle.rules.specs.declared.Signal.{Signal}
+use Rattle.rules.specs.declared.Signal.the-variants.{Done, Exit}
+use Rattle.rules.specs.declared.RunAnswer.{RunAnswer}
+use Rattle.rules.specs.declared.RunAnswer.the-variants.{Ended, Unrun}
+use Rattle.rules.specs.Answers.{ofRefusal, ofRead, ofWrite, ofJudge, ofSignal, ofRun, judgeSays}
 use Rattle.numbers.specs.Promises.{Reads, Writes}
-use Rattle.calls.specs.Promises.{inFive, TellsRead, TellsWrite}
+use Rattle.bench.specs.Runs.{RunsFile}
+use Rattle.calls.specs.Promises.{inFive, TellsRead, TellsWrite, TellsRun}
 
 pub refusal-five : (refusal : Refusal) → 0 ∷ refusal .number ∷ refusal .place ∷ 0 ∷ 0 ∷ [] ≡ inFive (ofRefusal refusal)
 unfolding inFive ofRefusal
@@ -30,6 +35,10 @@ module _ (told : List ℕ) (refusal : Refusal) (five : told ≡ inFive (ofRefusa
   unfolding ofJudge
   refused-five a e = rw e five
 
+  pub unrun-five : (a : RunAnswer) → a ≡ Unrun refusal → told ≡ inFive (ofRun a)
+  unfolding ofRun
+  unrun-five a e = rw e five
+
 pub count-five : (a : ReadAnswer) (count : ℕ) → a ≡ Count count → 1 ∷ count ∷ 0 ∷ 0 ∷ 0 ∷ [] ≡ inFive (ofRead a)
 unfolding inFive ofRead
 count-five a count e = rw e
@@ -43,7 +52,32 @@ pub accepted-five : (a : JudgeAnswer) (ceiling size : ℕ) → a ≡ Accepted ce
 unfolding inFive ofJudge
 accepted-five a ceiling size e = rw e
 
-pub ruleset cases = (refusal-five, unread-five, unwritten-five, refused-five, count-five, length-five, accepted-five)
+pub ended-five : (a : RunAnswer) (signal : Signal) (first steps ceiling size : ℕ) → a ≡ Ended signal steps ceiling size →
+    first ≡ ofSignal signal → first ∷ steps ∷ ceiling ∷ size ∷ 0 ∷ [] ≡ inFive (ofRun a)
+unfolding inFive ofRun
+ended-five a signal first steps ceiling size e f = rw e (rw f)
+
+pub done-told : (signal : Signal) → signal ≡ Done → 1 ≡ ofSignal signal
+unfolding ofSignal
+done-told signal e = rw e
+
+pub exit-told : (signal : Signal) → signal ≡ Exit → 2 ≡ ofSignal signal
+unfolding ofSignal
+exit-told signal e = rw e
+
+pub ruleset cases = (
+  refusal-five,
+  unread-five,
+  unwritten-five,
+  refused-five,
+  unrun-five,
+  count-five,
+  length-five,
+  accepted-five,
+  ended-five,
+  done-told,
+  exit-told,
+)
 
 module _ (told : List ℕ) where
   pub read-tells : (bytes slots left : List ℕ) (a : ReadAnswer) → Reads bytes slots a left → told ≡ inFive (ofRead a) →
@@ -58,4 +92,10 @@ module _ (told : List ℕ) where
       told ≡ inFive (judgeSays bytes)
   judge-tells bytes a p e = e ∙ ap inFive p
 
-pub ruleset calls = (read-tells, write-tells, judge-tells)
+  pub run-tells : (bytes results left working still : List ℕ) (a : RunAnswer) →
+      RunsFile bytes results left working still a → told ≡ inFive (ofRun a) →
+      TellsRun bytes results working told left still
+  run-tells bytes results left working still a p e =
+      record { says = e ∙ ap inFive (p .says); leavesResults = p .resultsAre; leavesWorking = p .workingAre }
+
+pub ruleset calls = (read-tells, write-tells, judge-tells, run-tells)

@@ -3,10 +3,12 @@
 use rules::JudgeAnswer;
 use rules::ReadAnswer;
 use rules::Refusal;
+use rules::RunAnswer;
+use rules::Signal;
 use rules::WriteAnswer;
 ghost use mathlib.Core.Path.{_≡_};
-ghost use Rattle.rules.specs.Answers.{ofRefusal, ofRead, ofWrite, ofJudge, judgeSays};
-ghost use Rattle.calls.specs.Promises.{inFive, TellsRead, TellsWrite};
+ghost use Rattle.rules.specs.Answers.{ofRefusal, ofRead, ofWrite, ofJudge, ofSignal, ofRun, judgeSays};
+ghost use Rattle.calls.specs.Promises.{inFive, TellsRead, TellsWrite, TellsRun};
 
 // The slots of an answer: the numbers that are told, then 0.
 const ANSWER: usize = 5;
@@ -38,6 +40,21 @@ pub extern "C" fn nentuvar_judge(bytes: &[u8], answer: &mut [u64; ANSWER])
     *answer = of_judge(told);
 }
 
+// The run of a bench file: 1 where it is done or 2 where it ends by exit, its steps, its ceiling and its store's length,
+// with the final store in the result slots and the working slots at 0; or 0 and the refusal, with all slots as found.
+#[no_mangle]
+pub extern "C" fn nentuvar_run(
+    bytes: &[u8],
+    results: &mut [u64],
+    working: &mut [u64],
+    answer: &mut [u64; ANSWER],
+)
+    ensures { λ r. ⌜ TellsRun (now (bytes .entry)) (now (results .entry)) (now (working .entry)) (now (answer .exit)) (now (results .exit)) (now (working .exit)) ⌝ }
+{
+    let told = bench::run(bytes, results, working);
+    *answer = of_run(told);
+}
+
 // The cases of the answers in the paper's numbers: 1 and what is told, or 0 and the refusal.
 fn of_read(answer: ReadAnswer) -> [u64; ANSWER]
     ensures { λ r. ⌜ r ≡ inFive (ofRead answer) ⌝ }
@@ -63,6 +80,29 @@ fn of_judge(answer: JudgeAnswer) -> [u64; ANSWER]
     match answer {
         JudgeAnswer::Accepted { ceiling, length } => [1, ceiling, length as u64, 0, 0],
         JudgeAnswer::Refused(refusal) => of_refusal(refusal),
+    }
+}
+
+fn of_run(answer: RunAnswer) -> [u64; ANSWER]
+    ensures { λ r. ⌜ r ≡ inFive (ofRun answer) ⌝ }
+{
+    match answer {
+        RunAnswer::Ended {
+            signal,
+            steps,
+            ceiling,
+            length,
+        } => [of_signal(signal), steps, ceiling, length as u64, 0],
+        RunAnswer::Unrun(refusal) => of_refusal(refusal),
+    }
+}
+
+fn of_signal(signal: Signal) -> u64
+    ensures { λ r. ⌜ r ≡ ofSignal signal ⌝ }
+{
+    match signal {
+        Signal::Done => 1,
+        Signal::Exit => 2,
     }
 }
 

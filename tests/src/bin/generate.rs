@@ -2,10 +2,11 @@
 //!
 //! ```text
 //! generate SEED COUNT DIR [BYTES]     writes DIR/SEED-NUMBER.bin, of at most so many bytes before damage
+//! generate --deepest DIR              writes the files that nest deepest when they run
 //! ```
 
 use second::answer::{marked, unjudged, Answer, Signal};
-use second::generate::bench_file;
+use second::generate::{bench_file, deepest_files};
 use second::numbers::MOST_BYTES;
 use std::collections::BTreeMap;
 use std::path::Path;
@@ -13,7 +14,11 @@ use std::process::ExitCode;
 
 fn main() -> ExitCode {
     let arguments: Vec<String> = std::env::args().skip(1).collect();
-    match write_files(&arguments) {
+    let written = match arguments.as_slice() {
+        [mode, folder] if mode == "--deepest" => write_deepest(folder),
+        _ => write_files(&arguments),
+    };
+    match written {
         Ok(counts) => {
             for (answer, count) in counts {
                 println!("{answer}: {count}");
@@ -34,14 +39,27 @@ fn write_files(arguments: &[String]) -> Result<BTreeMap<String, u64>, String> {
     let mut counts = BTreeMap::new();
     for index in 0..count {
         let bytes = bench_file(seed, index, largest);
-        let path = Path::new(folder).join(format!("{seed}-{index:06}.bin"));
-        std::fs::write(&path, &bytes).map_err(|error| format!("{}: {error}", path.display()))?;
+        write(folder, &format!("{seed}-{index:06}.bin"), &bytes)?;
         *counts.entry(answer_name(&marked(&bytes))).or_default() += 1;
         if unjudged(&bytes) == Answer::Stuck {
             *counts.entry("stuck when unjudged".to_string()).or_default() += 1;
         }
     }
     Ok(counts)
+}
+
+fn write_deepest(folder: &str) -> Result<BTreeMap<String, u64>, String> {
+    let mut counts = BTreeMap::new();
+    for (name, bytes) in deepest_files() {
+        write(folder, &name, &bytes)?;
+        *counts.entry(answer_name(&marked(&bytes))).or_default() += 1;
+    }
+    Ok(counts)
+}
+
+fn write(folder: &str, name: &str, bytes: &[u8]) -> Result<(), String> {
+    let path = Path::new(folder).join(name);
+    std::fs::write(&path, bytes).map_err(|error| format!("{}: {error}", path.display()))
 }
 
 fn number(word: &str) -> Result<u64, String> {

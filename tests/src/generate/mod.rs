@@ -2,6 +2,7 @@
 
 mod body;
 mod damage;
+mod deepest;
 mod draft;
 mod inputs;
 mod plan;
@@ -10,6 +11,7 @@ mod random;
 mod scope;
 
 use crate::numbers::MOST_BYTES;
+pub use deepest::deepest_files;
 use draft::Draft;
 use program::Builder;
 pub use random::Random;
