@@ -1,5 +1,5 @@
 -- How the run of an accepted file ends that is lent the slots that it asks for.
-use mathlib.Core.Bool.{true, _&&_}
+use mathlib.Core.Bool.{true}
 use mathlib.Core.Path.{_≡_, refl, _∙_}
 use mathlib.Core.List.{List, [], _∷_}
 use Prim.Native.Nat.{ℕ, _≤_}
@@ -10,8 +10,8 @@ use Rattle.rules.specs.declared.Signal.{Signal}
 use Rattle.rules.specs.declared.RunAnswer.{RunAnswer}
 use Rattle.rules.specs.Ceiling.{ceilingOf}
 use Rattle.rules.specs.Lists.{Cell, slotsOf}
-use Rattle.rules.specs.Running.{Out, done, full, runProgram}
-use Rattle.rules.specs.Answers.{Bench, ofSignal, ofRun, filled, judged, accepted, Outcome, ended, outcomeOf, runBench, workingSlots, runWith, toldWith, toldByRun, resultsAfter, runOutcome, runSays, runLeavesResults}
+use Rattle.rules.specs.Running.{Out, full, runProgram}
+use Rattle.rules.specs.Answers.{Bench, ofSignal, ofRun, filled, judged, accepted, ended, outcomeOf, runBench, workingSlots, runWith, toldWith, toldByRun, resultsAfter, runOutcome, runSays, runLeavesResults}
 use Rattle.rules.proofs.Fits.{StoreFits}
 use Rattle.rules.proofs.Accepted as accepts
 use Rattle.rules.proofs.Accepted.{Ends, accepted-ends}

@@ -10,7 +10,7 @@ use Rattle.rules.specs.declared.WriteAnswer.{WriteAnswer}
 use Rattle.rules.specs.declared.JudgeAnswer.{JudgeAnswer}
 use Rattle.rules.specs.declared.RunAnswer.{RunAnswer}
 use Rattle.rules.specs.Lists.{slotsOf}
-use Rattle.rules.specs.Answers.{ofJudge, judgeSays, Bench, judged, accepted, workingSlots, runSays, runLeavesResults, runLeavesWorking, ofRun}
+use Rattle.rules.specs.Answers.{ofJudge, judgeSays, Bench, judged, accepted, workingSlots, runSays, ofRun}
 use Rattle.rules.specs.Lines.{printed}
 use Rattle.rules.proofs.Promises as rules
 use Rattle.numbers.specs.Promises.{Reads, Writes}
