@@ -1,0 +1,2 @@
+pub mod Most
+mod Marking
