@@ -1,8 +1,9 @@
-//! The verified run beside the second interpreter's, on the corpus, on generated files and on the deepest files.
-//! `tests/run-agree` links it to the proved code.
+//! The verified run beside the second interpreter's, on the corpus, on every change of one byte in its shortest files, on
+//! all strings of at most two bytes, on the deepest files and on generated ones. `tests/run-agree` links it to the proved
+//! code.
 //!
 //! ```text
-//! run_agree SEED COUNT [EXAMPLE...]   COUNT generated files of SEED, the deepest files, and the examples
+//! run_agree SEED COUNT [EXAMPLE...]   COUNT generated files of SEED, the examples, and the others
 //! ```
 
 use second::answer::{marked, Answer, Signal};
@@ -15,6 +16,8 @@ use std::process::ExitCode;
 
 /// Slots behind those that are lent, which no run may touch.
 const BEHIND: usize = 16;
+/// Examples of at most so many bytes are changed.
+const SHORTEST: usize = 8;
 /// The store's length that is taken for a file without a store.
 const SOME: usize = 5;
 
@@ -134,6 +137,28 @@ impl Tally {
         }
     }
 
+    /// Every change of one byte.
+    fn compare_changed(&mut self, name: &str, bytes: &[u8]) {
+        for place in 0..bytes.len() {
+            for value in (0..=u8::MAX).filter(|&value| value != bytes[place]) {
+                let mut changed = bytes.to_vec();
+                changed[place] = value;
+                self.compare(&format!("{name} with {value} at {place}"), &changed);
+            }
+        }
+    }
+
+    /// All strings of at most two bytes.
+    fn compare_strings(&mut self) {
+        self.compare("no bytes", &[]);
+        for first in 0..=u8::MAX {
+            self.compare(&format!("byte {first}"), &[first]);
+            for second in 0..=u8::MAX {
+                self.compare(&format!("bytes {first} {second}"), &[first, second]);
+            }
+        }
+    }
+
     fn compare_lent(&mut self, name: &str, bytes: &[u8], answer: &Answer, lent: Lent) {
         self.runs += 1;
         let found = lent.poisoned();
@@ -161,8 +186,13 @@ fn tell_first(kind: &str, theirs: &[u64], ours: &[u64]) {
 fn compare_all(seed: u64, count: u64, examples: &[String]) -> Result<Tally, String> {
     let mut tally = Tally::default();
     for file in examples {
-        tally.compare(file, &example::read(file)?.bytes);
+        let bytes = example::read(file)?.bytes;
+        tally.compare(file, &bytes);
+        if bytes.len() <= SHORTEST {
+            tally.compare_changed(file, &bytes);
+        }
     }
+    tally.compare_strings();
     for (name, bytes) in deepest_files() {
         tally.compare(&name, &bytes);
     }
