@@ -1,5 +1,5 @@
 -- What is put into bytes that suffice for every file.
-use mathlib.Core.Path.{_≡_, refl, sym, ap, _∙_}
+use mathlib.Core.Path.{_≡_, sym, ap, _∙_}
 use mathlib.Core.List.{List, [], _∷_, _++_}
 use Prim.Native.Nat.{ℕ, _≤_}
 use native.Mathlib.Omega.{arith}
@@ -13,10 +13,10 @@ use Rattle.rules.specs.Lines.{printed}
 use Rattle.rules.proofs.Same.{write-same}
 use Rattle.numbers.proofs.Room.{room-told, filled-there}
 use Rattle.lines.specs.Promises.{Prints}
-use Rattle.mark.specs.Marks.{Marks}
+use Rattle.mark.specs.Marks.{mostPrinted, Marks}
 use Rattle.mark.proofs.Most.{printed-most}
 
-module _ (file lent left : List ℕ) (r : WriteAnswer) (room : 12288 ≤ length lent)
+module _ (file lent left : List ℕ) (r : WriteAnswer) (room : mostPrinted ≤ length lent)
     (p : Prints (printed file) lent r left) where
   fits : length (printed file) ≤ length lent
   fits = omega (arith, printed-most file, room)

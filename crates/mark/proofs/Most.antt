@@ -1,21 +1,21 @@
 -- How many bytes the result lines of a file take at most: two numbers on a line, and a store of at most 544.
-use mathlib.Core.Path.{_≡_, refl, sym, ap, _∙_}
-use mathlib.Core.List.{List, [], _∷_, _++_}
+use mathlib.Core.Path.{_≡_, refl, ap}
+use mathlib.Core.List.{List, [], _∷_}
 use Prim.Native.Nat.{ℕ, _+_, _*_, _≤_}
 use native.Mathlib.Omega.{arith}
 use lib.ListN.{length, length-append}
 use Rattle.rules.specs.declared.Signal.{Signal}
-use Rattle.rules.specs.declared.Signal.the-variants.{Done, Exit}
 use Rattle.rules.specs.Lists.{Cell, slotsOf}
 use Rattle.rules.specs.Running.{Out, runProgram}
-use Rattle.rules.specs.Answers.{Bench, Judged, accepted, refused, judged, refusal, ended, fills, sticks, outcomeOf, runBench, fileOutcome, workingSlots}
-use Rattle.rules.specs.Lines.{blank, newline, decimal, behindBlanks, betweenBlanks, wordOf, refusedWord, refusedLine, linesOf, printed}
+use Rattle.rules.specs.Answers.{Bench, Judged, accepted, refused, judged, ended, fills, outcomeOf, runBench, fileOutcome, workingSlots}
+use Rattle.rules.specs.Lines.{decimal, behindBlanks, betweenBlanks, wordOf, refusedWord, refusedLine, linesOf, printed}
 use Rattle.rules.proofs.Accepted as accepts
 use Rattle.rules.proofs.Accepted.{judged-ok, Ends, accepted-ends}
 use Rattle.rules.proofs.Limits.{store-limited}
 use Rattle.lines.specs.Parts.{wordLine, storeLine}
 use Rattle.lines.proofs.Decimals.{decimal-few}
 use Rattle.lines.proofs.Texts.{length-store, length-word, refused-text, ended-text, signal-letters}
+use Rattle.mark.specs.Marks.{mostPrinted}
 
 -- a number takes at most 20 digits, and its blank
 behind-most : (ns : List ℕ) → length (behindBlanks ns) ≤ 21 * length ns
@@ -51,7 +51,7 @@ ended-most signal steps ceiling store = omega (
 
 module _ (file : List ℕ) where
   run-most : (b : Bench) → judged file ≡ accepted b → (o : Out (List Cell) Signal) → Ends (b .program) o → (ceiling : ℕ)
-      → length (linesOf (outcomeOf ceiling o)) ≤ 12288
+      → length (linesOf (outcomeOf ceiling o)) ≤ mostPrinted
   unfolding outcomeOf linesOf
   run-most b j o (accepts.ends signal store seen q f) ceiling = omega (
     arith,
@@ -60,12 +60,12 @@ module _ (file : List ℕ) where
   )
   run-most b j o accepts.fills ceiling = omega (arith, refused-most 14 0)
 
-  go : (x : Judged) → judged file ≡ x → length (linesOf (fileOutcome workingSlots x)) ≤ 12288
+  go : (x : Judged) → judged file ≡ x → length (linesOf (fileOutcome workingSlots x)) ≤ mostPrinted
   unfolding fileOutcome runBench linesOf
   go (accepted b) j = run-most b j (runProgram workingSlots (b .program) (b .entries) (b .store))
       (accepted-ends workingSlots file b j) _
   go (refused number place) j = omega (arith, refused-most number place)
 
-  pub printed-most : length (printed file) ≤ 12288
+  pub printed-most : length (printed file) ≤ mostPrinted
   unfolding printed
   printed-most = go (judged file) refl

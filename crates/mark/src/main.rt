@@ -1,6 +1,6 @@
 // The marking program: a bench file on standard input, its result lines on standard output. It moves bytes and decides
 // nothing.
-ghost use Rattle.mark.specs.Marks.{Marks};
+ghost use Rattle.mark.specs.Marks.{mostPrinted, Marks};
 ghost use Prim.Native.Nat.{_≤_};
 ghost use lib.ListN.{length};
 use libc::STDIN_FILENO;
@@ -25,7 +25,7 @@ fn mark(file: &[u8]) {
 
 // The result lines of a file, into the bytes from the first on: how many. All of them fit.
 fn lines(file: &[u8], bytes: &mut [u8]) -> usize
-    requires { ⌜ 12288 ≤ length (now bytes) ⌝ }
+    requires { ⌜ mostPrinted ≤ length (now bytes) ⌝ }
     ensures { λ r. ⌜ Marks (now (file .entry)) r (now (bytes .exit)) ⌝ }
 {
     let answer = bench::lines(file, bytes);
