@@ -35,12 +35,15 @@ use Rattle.numbers.specs.Promises.{Reads}
 use Rattle.judge.specs.declared.Verdict.{Verdict}
 use Rattle.judge.specs.declared.Verdict.the-variants as verdicts
 use Rattle.judge.specs.Verdicts.{JudgesNumbers}
-use Rattle.judge.proofs.Left.{accepted-leaves}
+use Rattle.judge.proofs.Left.{Leaves, accepted-leaves}
+use Rattle.judge.proofs.Long.{judged-long}
 use Rattle.lookup.proofs.Judged.{entries-stand}
 use Rattle.store.specs.Mirrors.{counterSlot, mostStored, storeSlots}
 use Rattle.store.proofs.Sizes.{store-most}
 use Rattle.store.specs.Fills.{AsksClear, Clears, AsksCopy, Copies}
 use Rattle.steps.specs.Outcomes.{Goes, goes, counterOf}
+use Rattle.runner.specs.Prepares.{AsksPrepare, Prepares}
+use Rattle.runner.proofs.Prepared.{program-kept, offsets-laid, tables-laid}
 use Rattle.runner.specs.Whole.{Ready, programRun, AsksRun, RanWhole, RunsWhole}
 use Rattle.bench.specs.Runs.{RunsFile, Passed, AsksAccepted, RunsAccepted, AsksLent}
 use Rattle.bench.proofs.Judging.{numbers-few, numbers-refused, read-refused}
@@ -55,8 +58,8 @@ told-four : (x : ℕ) {a b c a′ b′ c′ : ℕ} → a ≡ a′ → b ≡ b′
     → x ∷ a ∷ b ∷ c ∷ [] ≡ x ∷ a′ ∷ b′ ∷ c′ ∷ []
 told-four x e f g = rw (e, f, g) refl
 
-module _ {bytes nums directory ends offsets entries widths : List ℕ} {ceiling store size : ℕ}
-    (p : Passed bytes nums directory ends offsets entries widths ceiling store size) where
+module _ {bytes nums directory ends : List ℕ} {ceiling store size : ℕ}
+    (p : Passed bytes nums directory ends ceiling store size) where
   abbrev P : Program
   P = p .leaves .program
 
@@ -81,18 +84,17 @@ module _ {bytes nums directory ends offsets entries widths : List ℕ} {ceiling 
       (accepted-not-full bytes file judged-is) (known .bounded)
 
   ready : (slots frame : List ℕ) → length slots ≡ storeSlots → size + length frame ≡ workingSlots
-      → Ready nums directory ends offsets entries widths slots frame store size P es cells
+      → Ready nums directory ends slots frame store size P es cells
   ready slots frame n r = record {
     end = p .leaves .end;
-    stands = p .leaves .stands;
-    offset = record { is = p .leaves .lists .offset };
-    tables = record {
-      judged = p .leaves .formed;
-      stand = entries-stand (p .leaves .lists);
-      count = p .leaves .lists .count;
-      few = p .leaves .lists .few;
-      wide = p .leaves .wide;
-    };
+    stands = program-kept (p .prepared) (p .leaves .stands);
+    offset = offsets-laid (p .prepared) (p .leaves .stands .globals .few) (record {
+      is = λ g h.
+          let first : 0 + g ≡ g = omega arith in
+          rw first (p .leaves .lists .offset g h);
+    });
+    tables = tables-laid (p .prepared) (p .leaves .stands) (p .leaves .formed) (entries-stand (p .leaves .lists))
+        (p .leaves .lists .count) (p .leaves .lists .few) (p .leaves .wide);
     fits = known .store-fits;
     numbers = p .leaves .lists .stands;
     sized = p .leaves .lists .sizeIs;
@@ -150,16 +152,16 @@ module _ {bytes nums directory ends offsets entries widths : List ℕ} {ceiling 
   size-most = omega (
     arith,
     p .leaves .lists .sizeIs,
-    store-most nums directory ends P (p .leaves .end)
+    store-most nums (p .parts) ends P (p .leaves .end)
         (p .leaves .stands) cells (known .store-fits),
   )
 
 -- the run with all slots lent: frames behind the store's length
-module _ (nums directory ends offsets entries widths results working : List ℕ) (ceiling store size : ℕ) where
+module _ (nums directory ends results working : List ℕ) (ceiling store size : ℕ) where
   abbrev frames : List ℕ
   frames = midOf size (workingSlots - size) working
 
-  module _ (a : AsksLent nums directory ends offsets entries widths results working ceiling store size) where
+  module _ (a : AsksLent nums directory ends results working ceiling store size) where
     small : size ≤ mostStored
     small = size-most (a .asks .passed)
 
@@ -167,7 +169,7 @@ module _ (nums directory ends offsets entries widths results working : List ℕ)
     frames-room = omega (arith, mid-len size workingSlots working (a .frames), small)
 
     pub lent-asks : (slots frame : List ℕ) → slots ≡ replicate 545 0 → frame ≡ frames
-        → AsksRun nums directory ends offsets entries widths slots frame store size
+        → AsksRun nums directory ends slots frame store size
     lent-asks slots frame e q = rw (e, q) (record {
       program = P (a .asks .passed);
       entryList = es (a .asks .passed);
@@ -186,8 +188,8 @@ module _ (nums directory ends offsets entries widths results working : List ℕ)
     lent-whole = a .frames
 
     module _ (slots : List ℕ) (signal : Signal)
-        (r : RunsWhole nums directory ends offsets entries widths (replicate 545 0) slots frames store size signal) where
-      ran : {bytes : List ℕ} (p : Passed bytes nums directory ends offsets entries widths ceiling store size)
+        (r : RunsWhole nums directory ends (replicate 545 0) slots frames store size signal) where
+      ran : {bytes : List ℕ} (p : Passed bytes nums directory ends ceiling store size)
           → RanWhole slots (P p) (programRun (P p) (es p) (cells p)) signal
       ran p = r .runs (P p) (es p) (cells p) (ready p (replicate 545 0) frames refl frames-room) (run-goes p)
 
@@ -221,7 +223,7 @@ module _ (nums directory ends offsets entries widths results working : List ℕ)
               λ i l. z .behind i l
               ∙ rw e (behind-part size workingSlots working part (omega (arith, small)) (a .frames) same i l)
 
-          results-are : {bytes : List ℕ} (p : Passed bytes nums directory ends offsets entries widths ceiling store size)
+          results-are : {bytes : List ℕ} (p : Passed bytes nums directory ends ceiling store size)
               → results′ ≡ slotsOf (ran p .cells) ++ drop (length (slotsOf (ran p .cells))) results
           results-are p = first-filled (length (slotsOf (ran p .cells))) (slotsOf (ran p .cells)) results results′ refl
               (omega (arith, size-is p slots (ran p), a .room)) (c .same)
@@ -231,7 +233,7 @@ module _ (nums directory ends offsets entries widths results working : List ℕ)
               λ i l. c .behind i (omega (arith, size-is p slots (ran p)))
 
           pub lent-runs : (steps : ℕ) → steps ≡ counterOf slots
-              → RunsAccepted nums directory ends offsets entries widths results results′ working working′ ceiling store
+              → RunsAccepted nums directory ends results results′ working working′ ceiling store
               size (Ended signal steps ceiling size)
           lent-runs steps n = record {
             runs = λ bytes p. run-told p slots (ran p) results results′ working working′ steps (a .frames) (a .room) n
@@ -241,16 +243,16 @@ module _ (nums directory ends offsets entries widths results working : List ℕ)
 pub ruleset lents = (lent-asks, lent-scaled, lent-up, lent-whole, lent-copies, lent-count, lent-counter, lent-clears, lent-runs)
 
 -- whether the slots are enough
-module _ (nums directory ends offsets entries widths results working : List ℕ) (ceiling store size : ℕ) where
+module _ (nums directory ends results working : List ℕ) (ceiling store size : ℕ) where
   pub few-working : length working < workingSlots
-      → RunsAccepted nums directory ends offsets entries widths results results working working ceiling store size
+      → RunsAccepted nums directory ends results results working working ceiling store size
       (Unrun (record { number = 13; place = 0 }))
   few-working h = record {
     runs = λ bytes p. few-runs p results working (rw (lt-leb workingSlots (length working) h) refl);
   }
 
   pub few-results : workingSlots ≤ length working → length results < size
-      → RunsAccepted nums directory ends offsets entries widths results results working working ceiling store size
+      → RunsAccepted nums directory ends results results working working ceiling store size
       (Unrun (record { number = 13; place = 0 }))
   few-results w h = record {
     runs = λ bytes p.
@@ -259,9 +261,9 @@ module _ (nums directory ends offsets entries widths results working : List ℕ)
         few-runs p results working (rw (le-leb workingSlots (length working) w, few) refl);
   }
 
-  pub enough : AsksAccepted nums directory ends offsets entries widths ceiling store size
+  pub enough : AsksAccepted nums directory ends ceiling store size
       → workingSlots ≤ length working → size ≤ length results
-      → AsksLent nums directory ends offsets entries widths results working ceiling store size
+      → AsksLent nums directory ends results working ceiling store size
   enough a w s = record { asks = a; frames = w; room = s }
 
 pub ruleset rooms = (few-working, few-results, enough)
@@ -288,7 +290,7 @@ unread-runs bytes slots results working r left p room x e =
 -- the judge's verdict on the numbers
 module _ (bytes nums results working : List ℕ) (reads : streamOf bytes ≡ numbers nums)
     (directory ends widths entries offsets : List ℕ) (v : Verdict)
-    (j : JudgesNumbers nums (replicate 70 0) directory (replicate 4096 0) ends (replicate 32 0) widths (replicate 65 0)
+    (j : JudgesNumbers nums (replicate 200 0) directory (replicate 4096 0) ends (replicate 32 0) widths (replicate 65 0)
     entries (replicate 33 0) offsets v) where
   -- the ends have as many slots as they had
   pub verdict-ends : length ends ≡ 4096
@@ -297,9 +299,9 @@ module _ (bytes nums results working : List ℕ) (reads : streamOf bytes ≡ num
     where
       go : (x : Got Program) → readProgram nums 0 ≡ x → length ends ≡ 4096
       go (got p left end) q =
-          let w : ScansProgram nums (replicate 70 0) directory (replicate 4096 0) ends (Past end)
+          let w : ScansProgram nums (replicate 200 0) directory (replicate 4096 0) ends (Past end)
           = record { answer = rw q refl; parts = j .directoryIs; laid = j .endsAre } in
-          scan-long nums (replicate 70 0) directory (replicate 4096 0) ends (Past end) p left end w q
+          scan-long nums (replicate 200 0) directory (replicate 4096 0) ends (Past end) p left end w q
       go (bad number index) q =
           let e : ends ≡ replicate 4096 0 = rw q at (j .endsAre) in
           rw e refl
@@ -307,26 +309,46 @@ module _ (bytes nums results working : List ℕ) (reads : streamOf bytes ≡ num
   pub verdict-refused : (number index place : ℕ) → v ≡ verdicts.Refused number index → place ≡ placeOf bytes index
       → RunsFile bytes results results working working (Unrun (record { number = number; place = place }))
   verdict-refused number index place e q = refused-runs bytes results working (record { number = number; place = place })
-      (numbers-refused bytes nums reads (replicate 70 0) directory (replicate 4096 0) ends (replicate 32 0) widths
+      (numbers-refused bytes nums reads (replicate 200 0) directory (replicate 4096 0) ends (replicate 32 0) widths
       (replicate 65 0) entries (replicate 33 0) offsets v j number index place e q)
 
   module _ (ceiling store size : ℕ) (e : v ≡ verdicts.Accepted ceiling store size) where
-    passes : Passed bytes nums directory ends offsets entries widths ceiling store size
-    passes = record {
+    leaves : Leaves nums directory ends widths entries offsets ceiling store size
+    leaves = accepted-leaves nums (replicate 200 0) directory (replicate 4096 0) ends (replicate 32 0) widths
+        (replicate 65 0) entries (replicate 33 0) offsets ceiling store size (rw e at j) (record {
+          lent = record { few = numbers-few bytes nums reads; slots = refl; room = refl };
+          keys = refl;
+        }) refl refl
+
+    passes : (ready : List ℕ) → Prepares offsets entries widths directory ready
+        → Passed bytes nums ready ends ceiling store size
+    passes ready q = record {
       reads = reads;
-      leaves = accepted-leaves nums (replicate 70 0) directory (replicate 4096 0) ends (replicate 32 0) widths
-          (replicate 65 0) entries (replicate 33 0) offsets ceiling store size (rw e at j) (record {
-            lent = record { few = numbers-few bytes nums reads; slots = refl; room = refl };
-            keys = refl;
-          }) refl refl;
+      parts = directory;
+      offsets = offsets;
+      entries = entries;
+      widths = widths;
+      leaves = leaves;
+      prepared = q;
     }
 
-    pub verdict-accepted : AsksAccepted nums directory ends offsets entries widths ceiling store size
-    verdict-accepted = record { bytes = bytes; passed = passes }
+    pub verdict-prepares : AsksPrepare offsets entries widths directory
+    verdict-prepares =
+        let long = judged-long j in
+        record {
+          globals = long .globals;
+          entry = long .entry;
+          keys = long .keys;
+          slots = leaves .stands .slots;
+        }
 
-    pub verdict-runs : (results′ working′ : List ℕ) (r : RunAnswer)
-        → RunsAccepted nums directory ends offsets entries widths results results′ working working′ ceiling store size r
-        → RunsFile bytes results results′ working working′ r
-    verdict-runs results′ working′ r k = k .runs bytes passes
+    module _ (ready : List ℕ) (q : Prepares offsets entries widths directory ready) where
+      pub verdict-accepted : AsksAccepted nums ready ends ceiling store size
+      verdict-accepted = record { bytes = bytes; passed = passes ready q }
 
-pub ruleset runs = (unread-runs, numbers-few, verdict-ends, verdict-refused, verdict-accepted, verdict-runs)
+      pub verdict-runs : (results′ working′ : List ℕ) (r : RunAnswer)
+          → RunsAccepted nums ready ends results results′ working working′ ceiling store size r
+          → RunsFile bytes results results′ working working′ r
+      verdict-runs results′ working′ r k = k .runs bytes (passes ready q)
+
+pub ruleset runs = (unread-runs, numbers-few, verdict-ends, verdict-refused, verdict-prepares, verdict-accepted, verdict-runs)

@@ -6,7 +6,8 @@ use rules::ReadAnswer;
 use rules::Refusal;
 use rules::RunAnswer;
 use rules::WriteAnswer;
-use steps::operands::COUNTER;
+use runner::prepare;
+use store::COUNTER;
 use store::STORE;
 use store::fill::clear;
 use store::fill::copy;
@@ -146,19 +147,19 @@ fn run_numbers(bytes: &[u8], nums: &[u64], results: &mut [u64], working: &mut [u
             ceiling,
             store,
             length,
-        } => run_accepted(
-            nums,
-            &ends,
-            &directory,
-            &offsets,
-            &entries,
-            &widths,
-            ceiling,
-            store,
-            length,
-            results,
-            working,
-        ),
+        } => {
+            prepare(&offsets, &entries, &widths, &mut directory);
+            run_accepted(
+                nums,
+                &ends,
+                &directory,
+                ceiling,
+                store,
+                length,
+                results,
+                working,
+            )
+        }
         Verdict::Refused { number, index } => {
             let place = numbers::place_of(bytes, index);
             RunAnswer::Unrun(Refusal { number, place })
@@ -171,17 +172,14 @@ fn run_accepted(
     nums: &[u64],
     ends: &[u64],
     directory: &[u64; shape::SLOTS],
-    offsets: &[u64; lists::OFFSETS],
-    entries: &[u64; lists::ENTRIES],
-    widths: &[u64; program::WIDTHS],
     ceiling: u64,
     store: usize,
     length: usize,
     results: &mut [u64],
     working: &mut [u64],
 ) -> RunAnswer
-    requires { ⌜ AsksAccepted (now nums) (now directory) (now ends) (now offsets) (now entries) (now widths) ceiling store length ⌝ }
-    ensures { λ r. ⌜ RunsAccepted (now (nums .entry)) (now (directory .entry)) (now (ends .entry)) (now (offsets .entry)) (now (entries .entry)) (now (widths .entry)) (now (results .entry)) (now (results .exit)) (now (working .entry)) (now (working .exit)) ceiling store length r ⌝ }
+    requires { ⌜ AsksAccepted (now nums) (now directory) (now ends) ceiling store length ⌝ }
+    ensures { λ r. ⌜ RunsAccepted (now (nums .entry)) (now (directory .entry)) (now (ends .entry)) (now (results .entry)) (now (results .exit)) (now (working .entry)) (now (working .exit)) ceiling store length r ⌝ }
 {
     if working.len() < WORKING {
         RunAnswer::Unrun(Refusal {
@@ -198,9 +196,6 @@ fn run_accepted(
             nums,
             ends,
             directory,
-            offsets,
-            entries,
-            widths,
             ceiling,
             store,
             length,
@@ -215,26 +210,20 @@ fn run_lent(
     nums: &[u64],
     ends: &[u64],
     directory: &[u64; shape::SLOTS],
-    offsets: &[u64; lists::OFFSETS],
-    entries: &[u64; lists::ENTRIES],
-    widths: &[u64; program::WIDTHS],
     ceiling: u64,
     store: usize,
     length: usize,
     results: &mut [u64],
     working: &mut [u64],
 ) -> RunAnswer
-    requires { ⌜ AsksLent (now nums) (now directory) (now ends) (now offsets) (now entries) (now widths) (now results) (now working) ceiling store length ⌝ }
-    ensures { λ r. ⌜ RunsAccepted (now (nums .entry)) (now (directory .entry)) (now (ends .entry)) (now (offsets .entry)) (now (entries .entry)) (now (widths .entry)) (now (results .entry)) (now (results .exit)) (now (working .entry)) (now (working .exit)) ceiling store length r ⌝ }
+    requires { ⌜ AsksLent (now nums) (now directory) (now ends) (now results) (now working) ceiling store length ⌝ }
+    ensures { λ r. ⌜ RunsAccepted (now (nums .entry)) (now (directory .entry)) (now (ends .entry)) (now (results .entry)) (now (results .exit)) (now (working .entry)) (now (working .exit)) ceiling store length r ⌝ }
 {
     let mut slots = [0u64; STORE];
     let signal = runner::run(
         nums,
         ends,
         directory,
-        offsets,
-        entries,
-        widths,
         store,
         length,
         &mut slots,

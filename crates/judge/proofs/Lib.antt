@@ -2,3 +2,4 @@ mod Bridge
 mod Passes
 pub mod Outcomes
 pub mod Left
+pub mod Long

@@ -18,7 +18,7 @@ use Rattle.lookup.specs.declared.Match.{Match}
 use Rattle.lookup.specs.declared.Match.the-variants.{Yes, No}
 
 -- keys of which some are left have a first
-record First (nums ends widths keys : List ℕ) (from count slot j at : ℕ) (ks : List Key) (ws : List Worked)
+record First (nums ends directory keys : List ℕ) (from count slot j at : ℕ) (ks : List Key) (ws : List Worked)
     (ps : List Pattern) : Type 0 where
   pub key : Key
   pub keyList : List Key
@@ -28,21 +28,21 @@ record First (nums ends widths keys : List ℕ) (from count slot j at : ℕ) (ks
   pub patterns : List Pattern
   pub sameWorked : ws ≡ worked ∷ workedList
   pub samePatterns : ps ≡ pattern ∷ patterns
-  pub first : KeyPattern nums widths keys from slot j at (key .kind) worked pattern
+  pub first : KeyPattern nums directory keys from slot j at (key .kind) worked pattern
   pub begins : from + 1 < length nums
-  pub rest : KeyPatterns nums ends widths keys (getD ends (from + 1) 0) (count - 1) (slot + 1) (j + 1)
+  pub rest : KeyPatterns nums ends directory keys (getD ends (from + 1) 0) (count - 1) (slot + 1) (j + 1)
       (at + patternSize pattern) keyList workedList patterns
 
-first-of : (nums ends widths keys : List ℕ) (from count slot j at : ℕ) (ks : List Key) (ws : List Worked)
-    (ps : List Pattern) → KeyPatterns nums ends widths keys from count slot j at ks ws ps → (count ≡ 0 → ⊥)
-    → First nums ends widths keys from count slot j at ks ws ps
+first-of : (nums ends directory keys : List ℕ) (from count slot j at : ℕ) (ks : List Key) (ws : List Worked)
+    (ps : List Pattern) → KeyPatterns nums ends directory keys from count slot j at ks ws ps → (count ≡ 0 → ⊥)
+    → First nums ends directory keys from count slot j at ks ws ps
 unfolding StandsKeys StandsAllWorked patternsFit widthsOf
-first-of nums ends widths keys from count slot j at ks ws ps h more =
+first-of nums ends directory keys from count slot j at ks ws ps h more =
     go ks ws ps (h .keysStand) (h .counts) (h .worked) (h .patterns) (h .fits)
   where
     go : (ks : List Key) (ws : List Worked) (ps : List Pattern) → StandsKeys nums ends from ks → count ≡ length ks
-        → StandsAllWorked widths keys slot j ws → StandsPatterns nums at ks ps → patternsFit (widthsOf ws) ps ≡ true
-        → First nums ends widths keys from count slot j at ks ws ps
+        → StandsAllWorked directory keys slot j ws → StandsPatterns nums at ks ps → patternsFit (widthsOf ws) ps ≡ true
+        → First nums ends directory keys from count slot j at ks ws ps
     go [] ws ps s c w p f = absurd (more c)
     go (k ∷ ks) (w ∷ ws) (p ∷ ps) s c v (on-pattern q r) f =
         let b : (patternFits (w .width) p ≡ true) × (patternsFit (widthsOf ws) ps ≡ true)
@@ -69,14 +69,14 @@ first-of nums ends widths keys from count slot j at ks ws ps h more =
     go (k ∷ ks) [] (p ∷ ps) s c v q f = absurd (false≢true f)
 
 -- what the step over a key asks
-module _ (nums ends widths keys : List ℕ) (from count slot j at : ℕ)
-    (h : AsksMatch nums ends widths keys from count slot j at) (more : count ≡ 0 → ⊥)
+module _ (nums ends directory keys : List ℕ) (from count slot j at : ℕ)
+    (h : AsksMatch nums ends directory keys from count slot j at) (more : count ≡ 0 → ⊥)
   where
-    asked-first : First nums ends widths keys from count slot j at (h .keyList) (h .worked) (h .patterns)
+    asked-first : First nums ends directory keys from count slot j at (h .keyList) (h .worked) (h .patterns)
     asked-first =
-        first-of nums ends widths keys from count slot j at (h .keyList) (h .worked) (h .patterns) (h .stand) more
+        first-of nums ends directory keys from count slot j at (h .keyList) (h .worked) (h .patterns) (h .stand) more
 
-    pub one-asked : AsksOne nums widths keys from slot j at
+    pub one-asked : AsksOne nums directory keys from slot j at
     one-asked = record {
       kind = asked-first .key .kind;
       key = asked-first .worked;
@@ -99,8 +99,8 @@ module _ (nums ends widths keys : List ℕ) (from count slot j at : ℕ)
     pub place-next : j + 1 < 2 ^ 64
     place-next = omega (arith, h .place, more)
 
-    pub others-asked : (m l : Bool) (next prefix : ℕ) → TellsOne nums widths keys from slot j at m next l prefix
-        → AsksMatch nums ends widths keys (getD ends (from + 1) 0) (count - 1) (slot + 1) (j + 1) next
+    pub others-asked : (m l : Bool) (next prefix : ℕ) → TellsOne nums directory keys from slot j at m next l prefix
+        → AsksMatch nums ends directory keys (getD ends (from + 1) 0) (count - 1) (slot + 1) (j + 1) next
     others-asked m l next prefix t = record {
       keyList = asked-first .keyList;
       worked = asked-first .workedList;
@@ -113,8 +113,8 @@ module _ (nums ends widths keys : List ℕ) (from count slot j at : ℕ)
     }
 
 -- what the steps tell
-module _ (nums ends widths keys : List ℕ) (from count slot j at : ℕ) where
-  pub none-told : count ≡ 0 → TellsMatch nums ends widths keys from count slot j at (Yes 0 at)
+module _ (nums ends directory keys : List ℕ) (from count slot j at : ℕ) where
+  pub none-told : count ≡ 0 → TellsMatch nums ends directory keys from count slot j at (Yes 0 at)
   unfolding matchesAll prefixOf patternsSize
   none-told e = record { told = λ ks ws ps h. go ks ws ps (h .counts) (h .patterns) }
     where
@@ -125,48 +125,48 @@ module _ (nums ends widths keys : List ℕ) (from count slot j at : ℕ) where
       go (k ∷ ks) ws ps c p = absurd (omega (arith, e, c))
 
   pub first-unmatched : (m l : Bool) (next prefix : ℕ) → (count ≡ 0 → ⊥)
-      → TellsOne nums widths keys from slot j at m next l prefix → m ≡ false
-      → TellsMatch nums ends widths keys from count slot j at No
+      → TellsOne nums directory keys from slot j at m next l prefix → m ≡ false
+      → TellsMatch nums ends directory keys from count slot j at No
   unfolding matchesAll
   first-unmatched m l next prefix more t e = record { told = go }
     where
       missed : {ks : List Key} {ws : List Worked} {ps : List Pattern}
-          → (o : First nums ends widths keys from count slot j at ks ws ps) → matchesAll ws ps ≡ false
+          → (o : First nums ends directory keys from count slot j at ks ws ps) → matchesAll ws ps ≡ false
       missed o = rw (o .sameWorked, o .samePatterns, ← t .told _ _ _ (o .first), e) refl
 
       go : (ks : List Key) (ws : List Worked) (ps : List Pattern)
-          → KeyPatterns nums ends widths keys from count slot j at ks ws ps → Matched at ws ps No
-      go ks ws ps h = unmatched (missed (first-of nums ends widths keys from count slot j at ks ws ps h more))
+          → KeyPatterns nums ends directory keys from count slot j at ks ws ps → Matched at ws ps No
+      go ks ws ps h = unmatched (missed (first-of nums ends directory keys from count slot j at ks ws ps h more))
 
   -- the first matches, and the others tell the rest
   module _ (m l : Bool) (next prefix : ℕ) (more : count ≡ 0 → ⊥)
-      (t : TellsOne nums widths keys from slot j at m next l prefix) (e : m ≡ true) (r : Match)
-      (u : TellsMatch nums ends widths keys (getD ends (from + 1) 0) (count - 1) (slot + 1) (j + 1) next r)
+      (t : TellsOne nums directory keys from slot j at m next l prefix) (e : m ≡ true) (r : Match)
+      (u : TellsMatch nums ends directory keys (getD ends (from + 1) 0) (count - 1) (slot + 1) (j + 1) next r)
     where
       others-told : (ks : List Key) (ws : List Worked) (ps : List Pattern)
-          → KeyPatterns nums ends widths keys from count slot j at ks ws ps
-          → (o : First nums ends widths keys from count slot j at ks ws ps) × Matched next (o .workedList) (o .patterns) r
+          → KeyPatterns nums ends directory keys from count slot j at ks ws ps
+          → (o : First nums ends directory keys from count slot j at ks ws ps) × Matched next (o .workedList) (o .patterns) r
       others-told ks ws ps h =
-          let o : First nums ends widths keys from count slot j at ks ws ps
-          = first-of nums ends widths keys from count slot j at ks ws ps h more in
+          let o : First nums ends directory keys from count slot j at ks ws ps
+          = first-of nums ends directory keys from count slot j at ks ws ps h more in
           (o, u .told (o .keyList) (o .workedList) (o .patterns) (rw (t .nextIs _ _ _ (o .first)) (o .rest)))
 
       all-as-others : {ks : List Key} {ws : List Worked} {ps : List Pattern}
-          → (o : First nums ends widths keys from count slot j at ks ws ps)
+          → (o : First nums ends directory keys from count slot j at ks ws ps)
           → matchesAll ws ps ≡ matchesAll (o .workedList) (o .patterns)
       unfolding matchesAll
       all-as-others o = rw (o .sameWorked, o .samePatterns, ← t .told _ _ _ (o .first), e) refl
 
       prefix-as : {ks : List Key} {ws : List Worked} {ps : List Pattern}
-          → (o : First nums ends widths keys from count slot j at ks ws ps)
+          → (o : First nums ends directory keys from count slot j at ks ws ps)
           → prefixOf ps ≡ prefixBehind l prefix (prefixOf (o .patterns))
       prefix-as o = rw (o .samePatterns) (t .prefixIs _ _ _ (o .first) (o .patterns))
 
-      pub others-unmatched : r ≡ No → TellsMatch nums ends widths keys from count slot j at No
+      pub others-unmatched : r ≡ No → TellsMatch nums ends directory keys from count slot j at No
       others-unmatched q = record { told = λ ks ws ps h. go (others-told ks ws ps h) }
         where
           go : {ks : List Key} {ws : List Worked} {ps : List Pattern}
-              → (o : First nums ends widths keys from count slot j at ks ws ps) × Matched next (o .workedList) (o .patterns) r
+              → (o : First nums ends directory keys from count slot j at ks ws ps) × Matched next (o .workedList) (o .patterns) r
               → Matched at ws ps No
           go (o, s) = unmatched (all-as-others o ∙ no (rw q at s))
             where
@@ -178,18 +178,18 @@ module _ (nums ends widths keys : List ℕ) (from count slot j at : ℕ) where
       yes-all (matched f g n) = (f, (g, n))
 
       behind-all : {ks : List Key} {ws : List Worked} {ps : List Pattern}
-          → (o : First nums ends widths keys from count slot j at ks ws ps) (last : ℕ)
+          → (o : First nums ends directory keys from count slot j at ks ws ps) (last : ℕ)
           → last ≡ next + patternsSize (o .patterns) → last ≡ at + patternsSize ps
       unfolding patternsSize
       behind-all o last q = rw (o .samePatterns) (omega (arith, q, t .nextIs _ _ _ (o .first)))
 
       pub own-prefix : (p last : ℕ) → r ≡ Yes p last → l ≡ true
-          → TellsMatch nums ends widths keys from count slot j at (Yes prefix last)
+          → TellsMatch nums ends directory keys from count slot j at (Yes prefix last)
       unfolding prefixBehind
       own-prefix p last q k = record { told = λ ks ws ps h. go (others-told ks ws ps h) }
         where
           go : {ks : List Key} {ws : List Worked} {ps : List Pattern}
-              → (o : First nums ends widths keys from count slot j at ks ws ps)
+              → (o : First nums ends directory keys from count slot j at ks ws ps)
               × Matched next (o .workedList) (o .patterns) r → Matched at ws ps (Yes prefix last)
           go {ps = ps} (o, s) =
               let y : _ = yes-all (rw q at s) in
@@ -197,12 +197,12 @@ module _ (nums ends widths keys : List ℕ) (from count slot j at : ℕ) where
               matched (all-as-others o ∙ y .0) same (behind-all o last (y .1 .1))
 
       pub others-prefix : (p last : ℕ) → r ≡ Yes p last → l ≡ false
-          → TellsMatch nums ends widths keys from count slot j at (Yes p last)
+          → TellsMatch nums ends directory keys from count slot j at (Yes p last)
       unfolding prefixBehind
       others-prefix p last q k = record { told = λ ks ws ps h. go (others-told ks ws ps h) }
         where
           go : {ks : List Key} {ws : List Worked} {ps : List Pattern}
-              → (o : First nums ends widths keys from count slot j at ks ws ps)
+              → (o : First nums ends directory keys from count slot j at ks ws ps)
               × Matched next (o .workedList) (o .patterns) r → Matched at ws ps (Yes p last)
           go {ps = ps} (o, s) =
               let y : _ = yes-all (rw q at s) in

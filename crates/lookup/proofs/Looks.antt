@@ -14,6 +14,7 @@ use Rattle.rules.specs.Running.{Worked, patternsFit, argumentsGiven, matchesAll
 use Rattle.rules.specs.Running as rules
 use Rattle.rules.proofs.Callables.{some-same}
 use Rattle.rules.proofs.Predicates.{and-both}
+use Rattle.shape.specs.Directory.{entriesSlot}
 use Rattle.lists.specs.Listing.{patternsSize}
 use Rattle.lookup.specs.Matching.{widthsOf, KeyPatterns, AsksMatch, Matched, matched, unmatched, TellsMatch}
 use Rattle.lookup.specs.LookingUp.{AsksKeys, TellsLongest, BestStands, entry, none, TellsBetter, Sought, AsksStep, TellsStep, settledAs, StandsEntries, SoughtIn, AsksLook, TellsLook, Looked, entry-found, nothing-found, TellsLookUp}
@@ -66,11 +67,11 @@ own-fits P T widths e es h =
     let a : (patternsFit widths (e .patterns) ≡ true) × _ = and-both (patternsFit widths (e .patterns)) _ h in
     (a .0, and-both (argumentsGiven (actionAt P T (e .position)) (e .arguments)) _ (a .1))
 
-module _ (nums ends widths keys : List ℕ) (t table at : ℕ) where
+module _ (nums ends directory keys : List ℕ) (t table at : ℕ) where
   -- an entry of the table asks of its keys
   own-patterns : {P : Program} {T : Table} {ws : List Worked} {e : Lists.Entry}
-      → Sought nums ends widths keys t table at P T ws e → getD nums at 0 ≡ t
-      → KeyPatterns nums ends widths keys (table + 1) (getD nums table 0) (4 * t) 0 (at + 1) (T .keys) ws (e .patterns)
+      → Sought nums ends directory keys t table at P T ws e → getD nums at 0 ≡ t
+      → KeyPatterns nums ends directory keys (table + 1) (getD nums table 0) (168 + 4 * t) 0 (at + 1) (T .keys) ws (e .patterns)
   own-patterns {P = P} {T = T} {ws = ws} {e = e} h q =
       let own : e .table ≡ t = sym (h .entryStands .number .is) ∙ q in
       let same : h .entryStands .table ≡ T
@@ -83,7 +84,7 @@ module _ (nums ends widths keys : List ℕ) (t table at : ℕ) where
         fits = own-fits P T (widthsOf ws) e [] (rw (own-alone t e own) at (h .fits)) .0;
       }
 
-  module _ (h : AsksStep nums ends widths keys t table at) where
+  module _ (h : AsksStep nums ends directory keys t table at) where
     pub entry-inside : at < length nums
     entry-inside = h .sought .entryStands .number .inside
 
@@ -100,7 +101,7 @@ module _ (nums ends widths keys : List ℕ) (t table at : ℕ) where
     entry-next = omega (arith, entry-inside, h .numbers)
 
     pub match-asked : getD nums at 0 ≡ t
-        → AsksMatch nums ends widths keys (table + 1) (getD nums table 0) (4 * t) 0 (at + 1)
+        → AsksMatch nums ends directory keys (table + 1) (getD nums table 0) (168 + 4 * t) 0 (at + 1)
     match-asked q = record {
       keyList = h .tableAt .keys;
       worked = h .worked;
@@ -113,22 +114,22 @@ module _ (nums ends widths keys : List ℕ) (t table at : ℕ) where
     }
 
   module _ (longest : Bool) (best : Best) where
-    pub step-other : (getD nums at 0 ≡ t → ⊥) → TellsStep nums ends widths keys t table longest at best best
+    pub step-other : (getD nums at 0 ≡ t → ⊥) → TellsStep nums ends directory keys t table longest at best best
     step-other n = record {
       told = λ P T ws e h f s. rw (other-alone t e (λ q. n (h .entryStands .number .is ∙ q)), look-none longest ws f) s;
     }
 
     module _ (q : getD nums at 0 ≡ t) (m : Match)
-        (u : TellsMatch nums ends widths keys (table + 1) (getD nums table 0) (4 * t) 0 (at + 1) m)
+        (u : TellsMatch nums ends directory keys (table + 1) (getD nums table 0) (168 + 4 * t) 0 (at + 1) m)
       where
-        pub step-unmatched : m ≡ No → TellsStep nums ends widths keys t table longest at best best
+        pub step-unmatched : m ≡ No → TellsStep nums ends directory keys t table longest at best best
         step-unmatched n = record { told = go }
           where
             missed : {ws : List Worked} {ps : List Pattern} → Matched (at + 1) ws ps No → matchesAll ws ps ≡ false
             missed (unmatched k) = k
 
             go : (P : Program) (T : Table) (ws : List Worked) (e : Lists.Entry)
-                → Sought nums ends widths keys t table at P T ws e → (f : rules.Found) → BestStands nums f best
+                → Sought nums ends directory keys t table at P T ws e → (f : rules.Found) → BestStands nums f best
                 → BestStands nums (lookUp longest ws f (entriesOf t (e ∷ []))) best
             go P T ws e h f s =
                 let own : e .table ≡ t = sym (h .entryStands .number .is) ∙ q in
@@ -137,7 +138,7 @@ module _ (nums ends widths keys : List ℕ) (t table at : ℕ) where
                 rw (own-alone t e own, look-unmatched longest ws f e [] k, look-none longest ws f) s
 
         pub step-matched : (prefix next : ℕ) (r : Best) → m ≡ Yes prefix next → TellsBetter longest best next prefix r
-            → TellsStep nums ends widths keys t table longest at best r
+            → TellsStep nums ends directory keys t table longest at best r
         step-matched prefix next r n b = record { told = go }
           where
             all : {ws : List Worked} {ps : List Pattern} → Matched (at + 1) ws ps (Yes prefix next)
@@ -145,7 +146,7 @@ module _ (nums ends widths keys : List ℕ) (t table at : ℕ) where
             all (matched k p l) = (k, (p, l))
 
             go : (P : Program) (T : Table) (ws : List Worked) (e : Lists.Entry)
-                → Sought nums ends widths keys t table at P T ws e → (f : rules.Found) → BestStands nums f best
+                → Sought nums ends directory keys t table at P T ws e → (f : rules.Found) → BestStands nums f best
                 → BestStands nums (lookUp longest ws f (entriesOf t (e ∷ []))) r
             go P T ws e h f s =
                 let own : e .table ≡ t = sym (h .entryStands .number .is) ∙ q in
@@ -172,13 +173,13 @@ pub ruleset steps = (
 )
 
 -- entries of which some are left have a first
-record First (nums ends entries widths keys : List ℕ) (t table i left : ℕ) (P : Program) (T : Table)
+record First (nums ends directory keys : List ℕ) (t table i left : ℕ) (P : Program) (T : Table)
     (ws : List Worked) (es : List Lists.Entry) : Type 0 where
   pub entry : Lists.Entry
   pub others : List Lists.Entry
   pub same : es ≡ entry ∷ others
-  pub first : Sought nums ends widths keys t table (getD entries i 0) P T ws entry
-  pub rest : SoughtIn nums ends entries widths keys t table (i + 1) (left - 1) P T ws others
+  pub first : Sought nums ends directory keys t table (getD directory i 0) P T ws entry
+  pub rest : SoughtIn nums ends directory keys t table (i + 1) (left - 1) P T ws others
 
 -- what fits one behind the other fits apart
 fit-apart : (P : Program) (T : Table) (widths : List ℕ) (t : ℕ) (e : Lists.Entry) (es : List Lists.Entry)
@@ -196,12 +197,12 @@ fit-apart P T widths t e es h = go (eqb (e .table) t) h
         (rw (entriesFit, f .0, f .1 .0) refl, f .1 .1)
     go false k = (refl, k)
 
-first-of : (nums ends entries widths keys : List ℕ) (t table i left : ℕ) (P : Program) (T : Table) (ws : List Worked)
-    (es : List Lists.Entry) → SoughtIn nums ends entries widths keys t table i left P T ws es → (left ≡ 0 → ⊥)
-    → First nums ends entries widths keys t table i left P T ws es
+first-of : (nums ends directory keys : List ℕ) (t table i left : ℕ) (P : Program) (T : Table) (ws : List Worked)
+    (es : List Lists.Entry) → SoughtIn nums ends directory keys t table i left P T ws es → (left ≡ 0 → ⊥)
+    → First nums ends directory keys t table i left P T ws es
 unfolding StandsEntries
-first-of nums ends entries widths keys t table i left P T ws [] h more = absurd (more (h .counts))
-first-of nums ends entries widths keys t table i left P T ws (e ∷ es) h more =
+first-of nums ends directory keys t table i left P T ws [] h more = absurd (more (h .counts))
+first-of nums ends directory keys t table i left P T ws (e ∷ es) h more =
     let f : _ = fit-apart P T (widthsOf ws) t e es (h .fits) in
     record {
       entry = e;
@@ -263,20 +264,20 @@ look-on longest ws f t e es = go (eqb (e .table) t)
     go true = own (matchesAll ws (e .patterns))
     go false = refl
 
-module _ (nums ends entries widths keys : List ℕ) (t table i left : ℕ) where
-  module _ (h : AsksLook nums ends entries widths keys t table i left) (more : left ≡ 0 → ⊥) where
-    asked-first : First nums ends entries widths keys t table i left (h .program) (h .tableAt) (h .worked) (h .entryList)
+module _ (nums ends directory keys : List ℕ) (t table i left : ℕ) where
+  module _ (h : AsksLook nums ends directory keys t table i left) (more : left ≡ 0 → ⊥) where
+    asked-first : First nums ends directory keys t table i left (h .program) (h .tableAt) (h .worked) (h .entryList)
     asked-first =
-        first-of nums ends entries widths keys t table i left (h .program) (h .tableAt) (h .worked) (h .entryList)
+        first-of nums ends directory keys t table i left (h .program) (h .tableAt) (h .worked) (h .entryList)
         (h .sought) more
 
-    pub slot-inside : i < 65
+    pub slot-inside : i < 200
     slot-inside = omega (arith, h .slots, more)
 
     pub slot-next : i + 1 < 2 ^ 64
     slot-next = omega (arith, h .slots, more)
 
-    pub step-asked : AsksStep nums ends widths keys t table (getD entries i 0)
+    pub step-asked : AsksStep nums ends directory keys t table (getD directory i 0)
     step-asked = record {
       program = h .program;
       tableAt = h .tableAt;
@@ -288,7 +289,7 @@ module _ (nums ends entries widths keys : List ℕ) (t table i left : ℕ) where
       few = h .few;
     }
 
-    pub look-asked : AsksLook nums ends entries widths keys t table (i + 1) (left - 1)
+    pub look-asked : AsksLook nums ends directory keys t table (i + 1) (left - 1)
     look-asked = record {
       program = h .program;
       tableAt = h .tableAt;
@@ -302,7 +303,7 @@ module _ (nums ends entries widths keys : List ℕ) (t table i left : ℕ) where
     }
 
   module _ (longest : Bool) (best : Best) where
-    pub look-ended : left ≡ 0 → TellsLook nums ends entries widths keys t table longest i left best best
+    pub look-ended : left ≡ 0 → TellsLook nums ends directory keys t table longest i left best best
     unfolding lookUp entriesOf
     look-ended e = record { told = λ P T ws es h f s. go ws es (h .counts) f s }
       where
@@ -312,13 +313,13 @@ module _ (nums ends entries widths keys : List ℕ) (t table i left : ℕ) where
         go ws (x ∷ es) c f s = absurd (omega (arith, e, c))
 
     pub look-settled : (a : Best) (b : Bool) → (left ≡ 0 → ⊥)
-        → TellsStep nums ends widths keys t table longest (getD entries i 0) best a → b ≡ settledAs longest a
-        → b ≡ true → TellsLook nums ends entries widths keys t table longest i left best a
+        → TellsStep nums ends directory keys t table longest (getD directory i 0) best a → b ≡ settledAs longest a
+        → b ≡ true → TellsLook nums ends directory keys t table longest i left best a
     look-settled a b more u q k =
-        record { told = λ P T ws es h f s. go (first-of _ _ _ _ _ _ _ _ _ P T ws es h more) f s }
+        record { told = λ P T ws es h f s. go (first-of _ _ _ _ _ _ _ _ P T ws es h more) f s }
       where
         go : {P : Program} {T : Table} {ws : List Worked} {es : List Lists.Entry}
-            → First nums ends entries widths keys t table i left P T ws es → (f : rules.Found)
+            → First nums ends directory keys t table i left P T ws es → (f : rules.Found)
             → BestStands nums f best → BestStands nums (lookUp longest ws f (entriesOf t es)) a
         go {P = P} {T = T} {ws = ws} o f s =
             let here : BestStands nums (lookUp longest ws f (entriesOf t (o .entry ∷ []))) a
@@ -331,14 +332,14 @@ module _ (nums ends entries widths keys : List ℕ) (t table i left : ℕ) where
             here
 
     pub look-further : (a b r : Best) → (left ≡ 0 → ⊥)
-        → TellsStep nums ends widths keys t table longest (getD entries i 0) best a
-        → TellsLook nums ends entries widths keys t table longest (i + 1) (left - 1) a b → b ≡ r
-        → TellsLook nums ends entries widths keys t table longest i left best r
+        → TellsStep nums ends directory keys t table longest (getD directory i 0) best a
+        → TellsLook nums ends directory keys t table longest (i + 1) (left - 1) a b → b ≡ r
+        → TellsLook nums ends directory keys t table longest i left best r
     look-further a b r more u v q =
-        record { told = λ P T ws es h f s. rw (← q) (go (first-of _ _ _ _ _ _ _ _ _ P T ws es h more) f s) }
+        record { told = λ P T ws es h f s. rw (← q) (go (first-of _ _ _ _ _ _ _ _ P T ws es h more) f s) }
       where
         go : {P : Program} {T : Table} {ws : List Worked} {es : List Lists.Entry}
-            → First nums ends entries widths keys t table i left P T ws es → (f : rules.Found)
+            → First nums ends directory keys t table i left P T ws es → (f : rules.Found)
             → BestStands nums f best → BestStands nums (lookUp longest ws f (entriesOf t es)) b
         go {P = P} {T = T} {ws = ws} o f s =
             rw (o .same, look-on longest ws f t (o .entry) (o .others))
@@ -348,8 +349,8 @@ module _ (nums ends entries widths keys : List ℕ) (t table i left : ℕ) where
 pub ruleset looks = (slot-inside, slot-next, step-asked, look-asked, look-ended, look-settled, look-further)
 
 -- the whole look-up
-module _ (nums ends entries widths keys : List ℕ) (t table : ℕ) where
-  module _ (h : AsksLook nums ends entries widths keys t table 1 (getD entries 0 0)) where
+module _ (nums ends directory keys : List ℕ) (t table : ℕ) where
+  module _ (h : AsksLook nums ends directory keys t table (entriesSlot + 1) (getD directory entriesSlot 0)) where
     pub count-inside : table < length nums
     count-inside = h .sought .stands .keyCount .holds .inside
 
@@ -366,9 +367,9 @@ module _ (nums ends entries widths keys : List ℕ) (t table : ℕ) where
     }
 
   looked-up : (longest : Bool) (best b : Best) → TellsLongest nums ends (table + 1) (getD nums table 0) longest
-      → best ≡ Nothing → TellsLook nums ends entries widths keys t table longest 1 (getD entries 0 0) best b
+      → best ≡ Nothing → TellsLook nums ends directory keys t table longest (entriesSlot + 1) (getD directory entriesSlot 0) best b
       → (P : Program) (T : Table) (ws : List Worked) (es : List Lists.Entry)
-      → SoughtIn nums ends entries widths keys t table 1 (getD entries 0 0) P T ws es
+      → SoughtIn nums ends directory keys t table (entriesSlot + 1) (getD directory entriesSlot 0) P T ws es
       → BestStands nums (lookUp (longestWins (T .keys)) ws rules.nothing (entriesOf t es)) b
   looked-up longest best b l n u P T ws es h =
       let same : longest ≡ longestWins (T .keys)
@@ -376,10 +377,10 @@ module _ (nums ends entries widths keys : List ℕ) (t table : ℕ) where
       rw (← same) (u .told P T ws es h rules.nothing (rw n none))
 
   module _ (longest : Bool) (best b : Best) (l : TellsLongest nums ends (table + 1) (getD nums table 0) longest)
-      (n : best ≡ Nothing) (u : TellsLook nums ends entries widths keys t table longest 1 (getD entries 0 0) best b)
+      (n : best ≡ Nothing) (u : TellsLook nums ends directory keys t table longest (entriesSlot + 1) (getD directory entriesSlot 0) best b)
     where
       pub found-told : (action prefix : ℕ) → b ≡ Entry action prefix
-          → TellsLookUp nums ends entries widths keys t table (Found action)
+          → TellsLookUp nums ends directory keys t table (Found action)
       found-told action prefix q = record {
         told = λ P T ws es h. go (rw q at (looked-up longest best b l n u P T ws es h));
       }
@@ -387,7 +388,7 @@ module _ (nums ends entries widths keys : List ℕ) (t table : ℕ) where
           go : {f : rules.Found} → BestStands nums f (Entry action prefix) → Looked nums f (Found action)
           go (entry p a k) = entry-found p a
 
-      pub nothing-told : b ≡ Nothing → TellsLookUp nums ends entries widths keys t table Lookups.Nothing
+      pub nothing-told : b ≡ Nothing → TellsLookUp nums ends directory keys t table Lookups.Nothing
       nothing-told q = record {
         told = λ P T ws es h. go (rw q at (looked-up longest best b l n u P T ws es h));
       }

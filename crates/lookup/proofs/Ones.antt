@@ -22,7 +22,7 @@ pub record Room (nums : List ℕ) (from slot j at : ℕ) : Type 0 where
   pub key : from < length nums
   pub value : at < length nums
   pub numbers : length nums ≤ 4096
-  pub slots : slot < 32
+  pub slots : slot < 200
   pub place : j < 4
 
 value-inside : {nums : List ℕ} {at : ℕ} {kind : KeyKind} {p : Pattern} → StandsPattern nums at kind p → at < length nums
@@ -30,7 +30,7 @@ value-inside (on-exact v) = v .inside
 value-inside (on-lpm v prefix) = v .inside
 value-inside (on-ternary v mask) = v .inside
 
-module _ (nums widths keys : List ℕ) (from slot j at : ℕ) (a : AsksOne nums widths keys from slot j at) where
+module _ (nums directory keys : List ℕ) (from slot j at : ℕ) (a : AsksOne nums directory keys from slot j at) where
   pub room : Room nums from slot j at
   room = record {
     key = a .stands .kindIs .inside;
@@ -52,14 +52,14 @@ module _ (nums widths keys : List ℕ) (from slot j at : ℕ) (a : AsksOne nums 
       go (on-ternary v mask) e = mask .inside
 
   -- an lpm key's prefix is at most its width, which is at most the widest
-  pub prefix-fits : getD nums from 0 ≡ 1 → (getD nums (at + 1) 0 ≤ getD widths slot 0) × (getD widths slot 0 ≤ 64)
+  pub prefix-fits : getD nums from 0 ≡ 1 → (getD nums (at + 1) 0 ≤ getD directory slot 0) × (getD directory slot 0 ≤ 64)
   unfolding keyKindNumber patternFits prefixFits
   prefix-fits k =
       go (a .stands .stands) (a .stands .kindIs .is) (a .stands .fits)
     where
       go : {kind : KeyKind} {p : Pattern} → StandsPattern nums at kind p → getD nums from 0 ≡ keyKindNumber kind
           → patternFits (a .key .width) p ≡ true
-          → (getD nums (at + 1) 0 ≤ getD widths slot 0) × (getD widths slot 0 ≤ 64)
+          → (getD nums (at + 1) 0 ≤ getD directory slot 0) × (getD directory slot 0 ≤ 64)
       go (on-exact v) e f = absurd (omega (arith, e, k))
       go (on-lpm {v = n} {prefix = m} v prefix) e f =
           let b : (fitsWidth (a .key .width) n ≡ true) × (prefixFits (a .key .width) n m ≡ true)
@@ -70,9 +70,9 @@ module _ (nums widths keys : List ℕ) (from slot j at : ℕ) (a : AsksOne nums 
       go (on-ternary v mask) e f = absurd (omega (arith, e, k))
 
 -- what each kind tells
-module _ (nums widths keys : List ℕ) (from slot j at : ℕ) where
+module _ (nums directory keys : List ℕ) (from slot j at : ℕ) where
   pub exact-told : (m : Bool) → getD nums from 0 ≡ 0 → m ≡ eqb (getD keys j 0) (getD nums at 0)
-      → TellsOne nums widths keys from slot j at m (at + 1) false 0
+      → TellsOne nums directory keys from slot j at m (at + 1) false 0
   unfolding keyKindNumber matches patternSize prefixOf prefixBehind
   exact-told m k e = record {
     told = λ kind w p s. go (s .stands) (s .kindIs .is) (s .worked);
@@ -81,7 +81,7 @@ module _ (nums widths keys : List ℕ) (from slot j at : ℕ) where
   }
     where
       go : {kind : KeyKind} {p : Pattern} {w : Worked} → StandsPattern nums at kind p
-          → getD nums from 0 ≡ keyKindNumber kind → StandsWorked widths keys slot j w
+          → getD nums from 0 ≡ keyKindNumber kind → StandsWorked directory keys slot j w
           → m ≡ matches (w .width) p (w .number)
       go (on-exact v) q w = e ∙ rw (w .number, v .is)
       go (on-lpm v prefix) q w = absurd (omega (arith, q, k))
@@ -100,8 +100,8 @@ module _ (nums widths keys : List ℕ) (from slot j at : ℕ) where
       others (on-ternary v mask) q ps = absurd (omega (arith, q, k))
 
   pub lpm-told : (m : Bool) → getD nums from 0 ≡ 1
-      → m ≡ prefixMatches (getD widths slot 0) (getD nums (at + 1) 0) (getD nums at 0) (getD keys j 0)
-      → TellsOne nums widths keys from slot j at m (at + 2) true (getD nums (at + 1) 0)
+      → m ≡ prefixMatches (getD directory slot 0) (getD nums (at + 1) 0) (getD nums at 0) (getD keys j 0)
+      → TellsOne nums directory keys from slot j at m (at + 2) true (getD nums (at + 1) 0)
   unfolding keyKindNumber matches patternSize prefixOf prefixBehind
   lpm-told m k e = record {
     told = λ kind w p s. go (s .stands) (s .kindIs .is) (s .worked);
@@ -110,7 +110,7 @@ module _ (nums widths keys : List ℕ) (from slot j at : ℕ) where
   }
     where
       go : {kind : KeyKind} {p : Pattern} {w : Worked} → StandsPattern nums at kind p
-          → getD nums from 0 ≡ keyKindNumber kind → StandsWorked widths keys slot j w
+          → getD nums from 0 ≡ keyKindNumber kind → StandsWorked directory keys slot j w
           → m ≡ matches (w .width) p (w .number)
       go (on-exact v) q w = absurd (omega (arith, q, k))
       go (on-lpm v prefix) q w = e ∙ rw (w .width, w .number, v .is, prefix .is)
@@ -130,7 +130,7 @@ module _ (nums widths keys : List ℕ) (from slot j at : ℕ) where
 
   pub ternary-told : (m : Bool) → (getD nums from 0 ≡ 0 → ⊥) → (getD nums from 0 ≡ 1 → ⊥)
       → m ≡ maskMatches (getD nums (at + 1) 0) (getD nums at 0) (getD keys j 0)
-      → TellsOne nums widths keys from slot j at m (at + 2) false 0
+      → TellsOne nums directory keys from slot j at m (at + 2) false 0
   unfolding keyKindNumber matches patternSize prefixOf prefixBehind
   ternary-told m n₀ n₁ e = record {
     told = λ kind w p s. go (s .stands) (s .kindIs .is) (s .worked);
@@ -139,7 +139,7 @@ module _ (nums widths keys : List ℕ) (from slot j at : ℕ) where
   }
     where
       go : {kind : KeyKind} {p : Pattern} {w : Worked} → StandsPattern nums at kind p
-          → getD nums from 0 ≡ keyKindNumber kind → StandsWorked widths keys slot j w
+          → getD nums from 0 ≡ keyKindNumber kind → StandsWorked directory keys slot j w
           → m ≡ matches (w .width) p (w .number)
       go (on-exact v) q w = absurd (n₀ q)
       go (on-lpm v prefix) q w = absurd (n₁ q)

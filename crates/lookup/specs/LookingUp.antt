@@ -10,9 +10,9 @@ use Rattle.rules.specs.Numbers.{mostBytes}
 use Rattle.rules.specs.Syntax.{KeyKind, Key, Table, Program}
 use Rattle.rules.specs.Reading.{mostKeys, mostTables}
 use Rattle.rules.specs.Lists as Lists
-use Rattle.rules.specs.Lists.{mostEntries}
 use Rattle.rules.specs.Running.{Worked, prefixOf, anyKey, longestWins, better, lookUp, entriesOf, entriesFit}
 use Rattle.rules.specs.Running as rules
+use Rattle.shape.specs.Directory.{entriesSlot, widthsSlot, slotCount}
 use Rattle.program.specs.Codes.{keyKindNumber}
 use Rattle.program.specs.Stands.{Holds, StandsKeys, StandsTable}
 use Rattle.lists.specs.Stands.{HoldsAll, StandsEntry}
@@ -52,28 +52,28 @@ pub record TellsBetter (longest : Bool) (best : Best) (action prefix : ℕ) (r :
       → BestStands nums (rules.found e) (Entry action prefix) → BestStands nums (better longest f e) r
 
 -- a table, its keys as they were worked out, and an entry of any table
-pub record Sought (nums ends widths keys : List ℕ) (t table at : ℕ) (P : Program) (T : Table) (ws : List Worked)
+pub record Sought (nums ends directory keys : List ℕ) (t table at : ℕ) (P : Program) (T : Table) (ws : List Worked)
     (e : Lists.Entry) : Type 0 where
   pub tableIs : getElem? (P .tables) t ≡ some T
   pub stands : StandsTable nums ends table T
-  pub worked : StandsAllWorked widths keys (mostKeys * t) 0 ws
+  pub worked : StandsAllWorked directory keys (widthsSlot + mostKeys * t) 0 ws
   pub entryStands : StandsEntry P nums at e
   pub fits : entriesFit P T (widthsOf ws) (entriesOf t (e ∷ [])) ≡ true
 
-pub record AsksStep (nums ends widths keys : List ℕ) (t table at : ℕ) : Type 0 where
+pub record AsksStep (nums ends directory keys : List ℕ) (t table at : ℕ) : Type 0 where
   pub program : Program
   pub tableAt : Table
   pub worked : List Worked
   pub entry : Lists.Entry
-  pub sought : Sought nums ends widths keys t table at program tableAt worked entry
+  pub sought : Sought nums ends directory keys t table at program tableAt worked entry
   pub numbers : length nums ≤ mostBytes
   pub room : length nums ≤ length ends
   pub few : t + 1 ≤ mostTables
 
-pub record TellsStep (nums ends widths keys : List ℕ) (t table : ℕ) (longest : Bool) (at : ℕ) (best r : Best)
+pub record TellsStep (nums ends directory keys : List ℕ) (t table : ℕ) (longest : Bool) (at : ℕ) (best r : Best)
     : Type 0 where
   pub told : (P : Program) (T : Table) (ws : List Worked) (e : Lists.Entry)
-      → Sought nums ends widths keys t table at P T ws e → (f : rules.Found) → BestStands nums f best
+      → Sought nums ends directory keys t table at P T ws e → (f : rules.Found) → BestStands nums f best
       → BestStands nums (lookUp longest ws f (entriesOf t (e ∷ []))) r
 
 -- no later entry changes what is found
@@ -83,34 +83,34 @@ settledAs longest Nothing = false
 
 -- entries whose places stand in slots one after the other
 unfoldable pub StandsEntries : Program → List ℕ → List ℕ → ℕ → List Lists.Entry → Type 0
-StandsEntries P nums entries i [] = Unit
-StandsEntries P nums entries i (e ∷ es) =
-    StandsEntry P nums (getD entries i 0) e × StandsEntries P nums entries (i + 1) es
+StandsEntries P nums slots i [] = Unit
+StandsEntries P nums slots i (e ∷ es) =
+    StandsEntry P nums (getD slots i 0) e × StandsEntries P nums slots (i + 1) es
 
-pub record SoughtIn (nums ends entries widths keys : List ℕ) (t table i left : ℕ) (P : Program) (T : Table)
+pub record SoughtIn (nums ends directory keys : List ℕ) (t table i left : ℕ) (P : Program) (T : Table)
     (ws : List Worked) (es : List Lists.Entry) : Type 0 where
   pub tableIs : getElem? (P .tables) t ≡ some T
   pub stands : StandsTable nums ends table T
-  pub worked : StandsAllWorked widths keys (mostKeys * t) 0 ws
-  pub entriesStand : StandsEntries P nums entries i es
+  pub worked : StandsAllWorked directory keys (widthsSlot + mostKeys * t) 0 ws
+  pub entriesStand : StandsEntries P nums directory i es
   pub counts : left ≡ length es
   pub fits : entriesFit P T (widthsOf ws) (entriesOf t es) ≡ true
 
-pub record AsksLook (nums ends entries widths keys : List ℕ) (t table i left : ℕ) : Type 0 where
+pub record AsksLook (nums ends directory keys : List ℕ) (t table i left : ℕ) : Type 0 where
   pub program : Program
   pub tableAt : Table
   pub worked : List Worked
   pub entryList : List Lists.Entry
-  pub sought : SoughtIn nums ends entries widths keys t table i left program tableAt worked entryList
+  pub sought : SoughtIn nums ends directory keys t table i left program tableAt worked entryList
   pub numbers : length nums ≤ mostBytes
   pub room : length nums ≤ length ends
   pub few : t + 1 ≤ mostTables
-  pub slots : i + left ≤ suc mostEntries
+  pub slots : i + left ≤ slotCount
 
-pub record TellsLook (nums ends entries widths keys : List ℕ) (t table : ℕ) (longest : Bool) (i left : ℕ)
+pub record TellsLook (nums ends directory keys : List ℕ) (t table : ℕ) (longest : Bool) (i left : ℕ)
     (best r : Best) : Type 0 where
   pub told : (P : Program) (T : Table) (ws : List Worked) (es : List Lists.Entry)
-      → SoughtIn nums ends entries widths keys t table i left P T ws es → (f : rules.Found)
+      → SoughtIn nums ends directory keys t table i left P T ws es → (f : rules.Found)
       → BestStands nums f best → BestStands nums (lookUp longest ws f (entriesOf t es)) r
 
 -- what the look-up answers, without the prefix
@@ -120,7 +120,7 @@ pub data Looked (nums : List ℕ) : rules.Found → Lookup → Type 0 where
   nothing-found : Looked nums rules.nothing Lookups.Nothing
 
 -- the whole look-up: the count of the entries stands in the first of their slots
-pub record TellsLookUp (nums ends entries widths keys : List ℕ) (t table : ℕ) (r : Lookup) : Type 0 where
+pub record TellsLookUp (nums ends directory keys : List ℕ) (t table : ℕ) (r : Lookup) : Type 0 where
   pub told : (P : Program) (T : Table) (ws : List Worked) (es : List Lists.Entry)
-      → SoughtIn nums ends entries widths keys t table 1 (getD entries 0 0) P T ws es
+      → SoughtIn nums ends directory keys t table (entriesSlot + 1) (getD directory entriesSlot 0) P T ws es
       → Looked nums (lookUp (longestWins (T .keys)) ws rules.nothing (entriesOf t es)) r

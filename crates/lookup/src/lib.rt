@@ -1,11 +1,13 @@
 // The look-up of an apply: among the entries of a table that match all its keys the one with the longest prefix, where
 // the table has an lpm key and no ternary one, else the earliest.
+ghost use Prim.Native.Nat.{_+_};
 ghost use lib.ListN.{getD};
+ghost use Rattle.shape.specs.Directory.{entriesSlot};
 ghost use Rattle.lookup.specs.LookingUp.{AsksLook, TellsLookUp};
 use looking::longest_wins;
 use looking::look_from;
 use program::MOST_KEYS;
-use program::WIDTHS;
+use shape::ENTRIES;
 
 mod looking;
 mod matching;
@@ -33,27 +35,25 @@ pub enum Lookup {
 pub fn look_up(
     nums: &[u64],
     ends: &[u64],
-    entries: &[u64; lists::ENTRIES],
-    widths: &[u64; WIDTHS],
+    directory: &[u64; shape::SLOTS],
     keys: &[u64; MOST_KEYS],
     t: u64,
     table: usize,
 ) -> Lookup
-    requires { ⌜ AsksLook (now nums) (now ends) (now entries) (now widths) (now keys) t table 1 (getD (now entries) 0 0) ⌝ }
-    ensures { λ r. ⌜ TellsLookUp (now (nums .entry)) (now (ends .entry)) (now (entries .entry)) (now (widths .entry)) (now (keys .entry)) t table r ⌝ }
+    requires { ⌜ AsksLook (now nums) (now ends) (now directory) (now keys) t table (entriesSlot + 1) (getD (now directory) entriesSlot 0) ⌝ }
+    ensures { λ r. ⌜ TellsLookUp (now (nums .entry)) (now (ends .entry)) (now (directory .entry)) (now (keys .entry)) t table r ⌝ }
 {
     let longest = longest_wins(nums, ends, table + 1, nums[table]);
     let best = look_from(
         nums,
         ends,
-        entries,
-        widths,
+        directory,
         keys,
         t,
         table,
         longest,
-        1,
-        entries[0],
+        ENTRIES + 1,
+        directory[ENTRIES],
         Best::Nothing,
     );
     match best {

@@ -7,7 +7,7 @@ use crate::Match;
 use program::LPM;
 use program::MOST_KEYS;
 use program::TERNARY;
-use program::WIDTHS;
+use shape::WIDTHS;
 
 // Whether one of so many keys, the first of which stands at `from`, is of a kind.
 fn any_key(nums: &[u64], ends: &[u64], kind: u64, from: usize, count: u64) -> bool
@@ -72,7 +72,7 @@ fn better(longest: bool, best: Best, action: usize, prefix: u64) -> Best
 fn step(
     nums: &[u64],
     ends: &[u64],
-    widths: &[u64; WIDTHS],
+    directory: &[u64; shape::SLOTS],
     keys: &[u64; MOST_KEYS],
     t: u64,
     table: usize,
@@ -80,15 +80,15 @@ fn step(
     at: usize,
     best: Best,
 ) -> Best
-    requires { ⌜ AsksStep (now nums) (now ends) (now widths) (now keys) t table at ⌝ }
-    ensures { λ r. ⌜ TellsStep (now (nums .entry)) (now (ends .entry)) (now (widths .entry)) (now (keys .entry)) t table longest at best r ⌝ }
+    requires { ⌜ AsksStep (now nums) (now ends) (now directory) (now keys) t table at ⌝ }
+    ensures { λ r. ⌜ TellsStep (now (nums .entry)) (now (ends .entry)) (now (directory .entry)) (now (keys .entry)) t table longest at best r ⌝ }
 {
     if nums[at] == t {
-        let slot = MOST_KEYS * t as usize;
+        let slot = WIDTHS + MOST_KEYS * t as usize;
         let keyed = match_from(
             nums,
             ends,
-            widths,
+            directory,
             keys,
             table + 1,
             nums[table],
@@ -122,8 +122,7 @@ fn settled(longest: bool, found: Best) -> bool
 pub(crate) fn look_from(
     nums: &[u64],
     ends: &[u64],
-    entries: &[u64; lists::ENTRIES],
-    widths: &[u64; WIDTHS],
+    directory: &[u64; shape::SLOTS],
     keys: &[u64; MOST_KEYS],
     t: u64,
     table: usize,
@@ -132,22 +131,21 @@ pub(crate) fn look_from(
     left: u64,
     best: Best,
 ) -> Best
-    requires { ⌜ AsksLook (now nums) (now ends) (now entries) (now widths) (now keys) t table i left ⌝ }
-    ensures { λ r. ⌜ TellsLook (now (nums .entry)) (now (ends .entry)) (now (entries .entry)) (now (widths .entry)) (now (keys .entry)) t table longest i left best r ⌝ }
+    requires { ⌜ AsksLook (now nums) (now ends) (now directory) (now keys) t table i left ⌝ }
+    ensures { λ r. ⌜ TellsLook (now (nums .entry)) (now (ends .entry)) (now (directory .entry)) (now (keys .entry)) t table longest i left best r ⌝ }
 {
     if left == 0 {
         best
     } else {
-        let at = entries[i] as usize;
-        let found = step(nums, ends, widths, keys, t, table, longest, at, best);
+        let at = directory[i] as usize;
+        let found = step(nums, ends, directory, keys, t, table, longest, at, best);
         if settled(longest, found) {
             found
         } else {
             let rest = look_from(
                 nums,
                 ends,
-                entries,
-                widths,
+                directory,
                 keys,
                 t,
                 table,

@@ -4,7 +4,6 @@ use crate::Match;
 use program::EXACT;
 use program::LPM;
 use program::MOST_KEYS;
-use program::WIDTHS;
 
 // Whether a key matches, where the next pattern stands, and the prefix length where the key is lpm.
 struct One {
@@ -17,15 +16,15 @@ struct One {
 // One key against one pattern.
 fn match_one(
     nums: &[u64],
-    widths: &[u64; WIDTHS],
+    directory: &[u64; shape::SLOTS],
     keys: &[u64; MOST_KEYS],
     from: usize,
     slot: usize,
     j: usize,
     at: usize,
 ) -> One
-    requires { ⌜ AsksOne (now nums) (now widths) (now keys) from slot j at ⌝ }
-    ensures { λ r. ⌜ TellsOne (now (nums .entry)) (now (widths .entry)) (now (keys .entry)) from slot j at (r .matches) (r .next) (r .lpm) (r .prefix) ⌝ }
+    requires { ⌜ AsksOne (now nums) (now directory) (now keys) from slot j at ⌝ }
+    ensures { λ r. ⌜ TellsOne (now (nums .entry)) (now (directory .entry)) (now (keys .entry)) from slot j at (r .matches) (r .next) (r .lpm) (r .prefix) ⌝ }
 {
     let kind = nums[from];
     let value = nums[at];
@@ -40,7 +39,7 @@ fn match_one(
     } else if kind == LPM {
         let prefix = nums[at + 1];
         One {
-            matches: words::keys::prefix_matches(widths[slot], prefix, value, key),
+            matches: words::keys::prefix_matches(directory[slot], prefix, value, key),
             next: at + 2,
             lpm: true,
             prefix: prefix,
@@ -59,7 +58,7 @@ fn match_one(
 pub(crate) fn match_from(
     nums: &[u64],
     ends: &[u64],
-    widths: &[u64; WIDTHS],
+    directory: &[u64; shape::SLOTS],
     keys: &[u64; MOST_KEYS],
     from: usize,
     count: u64,
@@ -67,8 +66,8 @@ pub(crate) fn match_from(
     j: usize,
     at: usize,
 ) -> Match
-    requires { ⌜ AsksMatch (now nums) (now ends) (now widths) (now keys) from count slot j at ⌝ }
-    ensures { λ r. ⌜ TellsMatch (now (nums .entry)) (now (ends .entry)) (now (widths .entry)) (now (keys .entry)) from count slot j at r ⌝ }
+    requires { ⌜ AsksMatch (now nums) (now ends) (now directory) (now keys) from count slot j at ⌝ }
+    ensures { λ r. ⌜ TellsMatch (now (nums .entry)) (now (ends .entry)) (now (directory .entry)) (now (keys .entry)) from count slot j at r ⌝ }
 {
     if count == 0 {
         Match::Yes {
@@ -76,12 +75,12 @@ pub(crate) fn match_from(
             next: at,
         }
     } else {
-        let one = match_one(nums, widths, keys, from, slot, j, at);
+        let one = match_one(nums, directory, keys, from, slot, j, at);
         if one.matches {
             let rest = match_from(
                 nums,
                 ends,
-                widths,
+                directory,
                 keys,
                 ends[from + 1] as usize,
                 count - 1,

@@ -35,7 +35,7 @@ module _ (nums directory ends : List ℕ) (g : ℕ) (h : Has globalsOf nums dire
   unfolding globalsOf
   global-few = omega (arith, h .inside, h .stands .globals .few)
 
-  pub global-slot : 10 + g < 70
+  pub global-slot : 10 + g < 200
   global-slot = omega (arith, global-few)
 
   global-in : (x : GlobalTy) (at : ℕ) → HoldsGlobalTy nums at x → at < length nums
@@ -64,7 +64,7 @@ global-found nums directory ends g = record {
 
 -- header types
 module _ (nums directory ends : List ℕ) (i : ℕ) (h : Has headersOf nums directory ends i) where
-  pub header-slot : 1 + i < 70
+  pub header-slot : 1 + i < 200
   unfolding headersOf
   header-slot = omega (arith, h .inside, h .stands .headers .few)
 

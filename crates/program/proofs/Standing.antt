@@ -222,8 +222,8 @@ module _ (version : ℕ) (nums ends : List ℕ) where
 -- the program that the scan found stands
 pub program-stands : (nums directory directory′ ends ends′ : List ℕ) (r : Scan) (P : Program) (end : ℕ)
     → ScansProgram nums directory directory′ ends ends′ r → readProgram nums 0 ≡ got P (drop end nums) end
-    → length nums ≤ mostBytes → length nums ≤ length ends → length nums ≤ length ends′ → length directory ≡ 70
-    → length directory′ ≡ 70 → StandsProgram nums directory′ ends′ P end
+    → length nums ≤ mostBytes → length nums ≤ length ends → length nums ≤ length ends′ → length directory ≡ 200
+    → length directory′ ≡ 200 → StandsProgram nums directory′ ends′ P end
 unfolding readProgram directoryLeft
 program-stands nums directory directory′ ends ends′ r P end w e few room room′ slots slots′ =
     let b : Both _ _ nums 0 end P = both (keeps-stands versionOf) (record { gave = e }) in

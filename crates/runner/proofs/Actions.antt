@@ -14,6 +14,7 @@ use Rattle.rules.specs.Answers.{workingSlots}
 use Rattle.rules.proofs.Predicates.{and-both, All2}
 use Rattle.rules.proofs.Fits.{FitParameter, all2-length}
 use Rattle.rules.proofs.Tables.{arguments-fit}
+use Rattle.shape.specs.Directory.{callablesSlot}
 use Rattle.program.specs.Stands.{StandsNumeral}
 use Rattle.program.specs.Looks.{Has, Finds, callablesOf, FoundHead}
 use Rattle.program.proofs.Found.{member-in}
@@ -68,9 +69,9 @@ module _ (P : Program) (used : ℕ) (T : Table) (position : ℕ) (ns : List ℕ)
       }
 
 -- at any stage
-module _ (P : Program) (position : ℕ) {nums directory ends scope offsets entries widths slots frame : List ℕ}
+module _ (P : Program) (position : ℕ) {nums directory ends scope slots frame : List ℕ}
     {actions from : ℕ} {used : ℕ} {es : List Entry} {s : State} {T : Table} {ns : List ℕ}
-    (st : Stage nums directory ends scope offsets entries widths slots frame (applyScope P) used es s)
+    (st : Stage nums directory ends scope slots frame (applyScope P) used es s)
     (w : ActionAt nums actions from T ns)
     (g : Goes (counterOf slots) (actionIn P used T position ns s)) where
   acts : Acting P used T position ns s (counterOf slots)
@@ -112,7 +113,7 @@ module _ (P : Program) (position : ℕ) {nums directory ends scope offsets entri
 
   module _ {count : ℕ} {frame₁ : List ℕ} (e : count ≡ length (c .parameters)) (z : Copies nums frame frame₁ from count)
     where
-      action-called : Called nums directory ends offsets entries widths slots frame₁ f P c used es ns (s .store)
+      action-called : Called nums directory ends slots frame₁ f P c used es ns (s .store)
       unfolding applyScope
       action-called = record {
         end = st .scene .scopes .end;
@@ -136,13 +137,13 @@ module _ (P : Program) (position : ℕ) {nums directory ends scope offsets entri
         abbrev t : State
         t = withStore s (b .cells)
 
-        entered : Scene nums directory ends scope offsets slots₁ frame₂ (applyScope P) t
+        entered : Scene nums directory ends scope slots₁ frame₂ (applyScope P) t
         unfolding applyScope
-        entered = scene-entered nums directory ends scope offsets slots slots₁ frame frame₂ (applyScope P) s (b .cells)
+        entered = scene-entered nums directory ends scope slots slots₁ frame frame₂ (applyScope P) s (b .cells)
             (st .scene) (b .fits) (b .store) (omega (arith, b .same, z .same)) λ i l.
             absurd (omega (arith, all2-length (st .scene .fits .parameters-fit), all2-length (st .scene .fits .locals-fit)))
 
-        body-ran : Ran nums directory ends scope offsets slots slots₁ frame frame₂ (applyScope P)
+        body-ran : Ran nums directory ends scope slots slots₁ frame frame₂ (applyScope P)
             (onStore (callsOf (applyScope P) used f ns) s) (λ x. Ends ended (x .0))
         body-ran = record {
           answer = (b .ending, b .parameters);
@@ -155,7 +156,7 @@ module _ (P : Program) (position : ℕ) {nums directory ends scope offsets entri
           answers = b .ends;
         }
 
-        action-ran : Ran nums directory ends scope offsets slots slots₁ frame frame₂ (applyScope P)
+        action-ran : Ran nums directory ends scope slots slots₁ frame frame₂ (applyScope P)
             (actionIn P used T position ns s) (Ends r)
         unfolding pure
         action-ran = rw (acts .same) (ran-then (calling P used T position ns s f) (goingOn P used T position ns s) s body-ran
@@ -163,13 +164,22 @@ module _ (P : Program) (position : ℕ) {nums directory ends scope offsets entri
             (k .goesOn (body-ran .answer .0) (body-ran .answers))))
 
 -- from the numbers
-module _ (nums directory ends scope offsets entries widths slots frame : List ℕ) (actions position from : ℕ) where
+module _ (nums directory ends slots frame : List ℕ) (actions at from : ℕ) where
+  abbrev position : ℕ
+  position = getD nums at 0
+
   abbrev number : ℕ
   number = getD nums (actions + 1 + position) 0
 
-  module _ (a : AsksAction nums directory ends scope offsets entries widths slots frame actions position from) where
+  module _ (a : AsksAction nums directory ends slots frame actions at from) where
     at-position : StandsNumeral nums (actions + 1 + position) (acts (a .program) position (a .stage) (a .action) (a .going) .action)
     at-position = listed-at (a .program) position (a .stage) (a .action) (a .going)
+
+    pub position-inside : at < length nums
+    position-inside = a .inside
+
+    pub arguments-low : from < 2 ^ 64
+    arguments-low = omega (arith, a .inside, a .near, a .stage .scene .scopes .program .numbers)
 
     pub action-inside : actions + 1 + position < length nums
     action-inside = at-position .holds .inside
@@ -189,16 +199,21 @@ module _ (nums directory ends scope offsets entries widths slots frame : List �
       inside = omega (arith, at-position .holds .is, below (a .program) position (a .stage) (a .action) (a .going));
     }
 
-    pub action-falls : (t : ℕ) → rank (getD scope 0 0) 1450 ≡ t → rank number 4000 < t
+    pub action-falls : (t : ℕ) → rank (getD directory callablesSlot 0) 1450 ≡ t → rank number 4000 < t
     unfolding applyScope
-    action-falls t e = rank-callee t (getD scope 0 0) 1450 number 4000 e
-        (omega (arith, at-position .holds .is, below (a .program) position (a .stage) (a .action) (a .going), a .stage .scene .scopes .reach))
+    action-falls t e = rank-callee t (getD directory callablesSlot 0) 1450 number 4000 e
+        (omega (
+          arith,
+          at-position .holds .is,
+          below (a .program) position (a .stage) (a .action) (a .going),
+          a .stage .scene .scopes .program .callables .count,
+        ))
         (omega arith)
 
   module _ (kind returns parameters count : ℕ)
       (head : Finds callablesOf (FoundHead nums kind returns parameters count) nums directory ends number) where
-    module _ (P : Program) {used : ℕ} {es : List Entry} {s : State} {T : Table} {ns : List ℕ}
-        (st : Stage nums directory ends scope offsets entries widths slots frame (applyScope P) used es s)
+    module _ (P : Program) {scope : List ℕ} {used : ℕ} {es : List Entry} {s : State} {T : Table} {ns : List ℕ}
+        (st : Stage nums directory ends scope slots frame (applyScope P) used es s)
         (w : ActionAt nums actions from T ns)
         (g : Goes (counterOf slots) (actionIn P used T position ns s)) where
       count-is : count ≡ length (c P position st w g .parameters)
@@ -207,19 +222,19 @@ module _ (nums directory ends scope offsets entries widths slots frame : List �
           (rw (listed-at P position st w g .holds .is) (acts P position st w g .is)) .countIs
 
       action-body-ran : {slots₁ frame₁ frame₂ : List ℕ} {ended : Ended} → Copies nums frame frame₁ from count
-          → RunsBody nums directory ends offsets entries widths slots slots₁ frame₁ frame₂ number ended
+          → RunsBody nums directory ends slots slots₁ frame₁ frame₂ number ended
           → RanBody slots slots₁ frame₁ frame₂ P (c P position st w g) (bodyIn P (f P position st w g) (c P position st w g) used ns (s .store)) ended
       action-body-ran {slots₁} {frame₁} {frame₂} {ended} z b =
-          let there : RunsBody nums directory ends offsets entries widths slots slots₁ frame₁ frame₂ (f P position st w g) ended
+          let there : RunsBody nums directory ends slots slots₁ frame₁ frame₂ (f P position st w g) ended
           = rw (listed-at P position st w g .holds .is) at b in
           there .runs P (c P position st w g) used es ns (s .store) (action-called P position st w g count-is z) (callee-goes P position st w g)
 
-    module _ (a : AsksAction nums directory ends scope offsets entries widths slots frame actions position from) where
+    module _ (a : AsksAction nums directory ends slots frame actions at from) where
       pub action-copies : AsksCopy nums frame from count
       action-copies = action-copy (a .program) position (a .stage) (a .action) (a .going) count (count-is (a .program) (a .stage) (a .action) (a .going))
 
       pub action-body : (frame₁ : List ℕ) → Copies nums frame frame₁ from count
-          → AsksBody nums directory ends offsets entries widths slots frame₁ number
+          → AsksBody nums directory ends slots frame₁ number
       action-body frame₁ z = rw (at-position a .holds .is) (record {
         program = a .program;
         found = c (a .program) position (a .stage) (a .action) (a .going);
@@ -232,14 +247,16 @@ module _ (nums directory ends scope offsets entries widths slots frame : List �
       })
 
     pub action-runs : (slots₁ frame₁ frame₂ : List ℕ) (ended r : Ended) → Copies nums frame frame₁ from count
-        → RunsBody nums directory ends offsets entries widths slots slots₁ frame₁ frame₂ number ended
+        → RunsBody nums directory ends slots slots₁ frame₁ frame₂ number ended
         → AfterCall ended r
-        → RunsAction nums directory ends scope offsets entries widths slots slots₁ frame frame₂ actions position from r
+        → RunsAction nums directory ends slots slots₁ frame frame₂ actions at from r
     action-runs slots₁ frame₁ frame₂ ended r z b k = record {
-      runs = λ P used es s T ns st w g. action-ran P position st w g (count-is P st w g) z (action-body-ran P st w g z b) k;
+      runs = λ scope P used es s T ns st w g. action-ran P position st w g (count-is P st w g) z (action-body-ran P st w g z b) k;
     }
 
 pub ruleset actionRuns = (
+  position-inside,
+  arguments-low,
   action-inside,
   action-low,
   action-first,

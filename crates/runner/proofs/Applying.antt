@@ -35,9 +35,9 @@ apply-body Γ used es t s counted g = go (isApply (Γ .body)) refl g
     go false q h = unfold appliedIn in not-nowhere s (rw (q, appliedIn) at h)
 
 -- at any stage
-module _ {nums directory ends scope offsets entries widths slots slots₁ frame : List ℕ} {depth at : ℕ} {Γ : Scope}
+module _ {nums directory ends scope slots slots₁ frame : List ℕ} {depth at : ℕ} {Γ : Scope}
     {used : ℕ} {es : List Entry} {s : State} {x : Stmt} (v : NamedView nums ends depth at x (apply at))
-    (st : Stage nums directory ends scope offsets entries widths slots frame Γ used es s) (c : Counts slots slots₁)
+    (st : Stage nums directory ends scope slots frame Γ used es s) (c : Counts slots slots₁)
     (g : Goes (counterOf slots) (stmtIn Γ used es x s)) where
   abbrev t : ℕ
   t = v .name
@@ -54,12 +54,12 @@ module _ {nums directory ends scope offsets entries widths slots slots₁ frame 
   body-is : Γ ≡ applyScope P
   body-is = st .apply (apply-body Γ used es t s (counterOf slots₁) applied-goes)
 
-  table-stage : Stage nums directory ends scope offsets entries widths slots₁ frame (applyScope P) used es s
+  table-stage : Stage nums directory ends scope slots₁ frame (applyScope P) used es s
   table-stage = moved Γ P body-is (stage-counted st c)
     where
       moved : (Γ : Scope) (P : Program) → Γ ≡ applyScope P
-          → Stage nums directory ends scope offsets entries widths slots₁ frame Γ used es s
-          → Stage nums directory ends scope offsets entries widths slots₁ frame (applyScope P) used es s
+          → Stage nums directory ends scope slots₁ frame Γ used es s
+          → Stage nums directory ends scope slots₁ frame (applyScope P) used es s
       moved Γ P e h = rw e at h
 
   table-goes : Goes (counterOf slots₁) (tableIn P used es t s)
@@ -70,18 +70,18 @@ module _ {nums directory ends scope offsets entries widths slots slots₁ frame 
       moved Γ P e h = rw (applied-is P used es t s) at (rw e at h)
 
   apply-ran : {slots₂ frame₂ : List ℕ} {r : Ended}
-      → Ran nums directory ends scope offsets slots₁ slots₂ frame frame₂ (applyScope P) (tableIn P used es t s) (Ends r)
-      → Ran nums directory ends scope offsets slots slots₂ frame frame₂ Γ (stmtIn Γ used es x s) (Ends r)
+      → Ran nums directory ends scope slots₁ slots₂ frame frame₂ (applyScope P) (tableIn P used es t s) (Ends r)
+      → Ran nums directory ends scope slots slots₂ frame frame₂ Γ (stmtIn Γ used es x s) (Ends r)
   apply-ran {slots₂} {frame₂} {r} h =
       rw apply-same (ran-counted st (appliedIn Γ used es t) c (moved Γ P body-is h))
     where
       moved : (Γ : Scope) (P : Program) → Γ ≡ applyScope P
-          → Ran nums directory ends scope offsets slots₁ slots₂ frame frame₂ (applyScope P) (tableIn P used es t s) (Ends r)
-          → Ran nums directory ends scope offsets slots₁ slots₂ frame frame₂ Γ (appliedIn Γ used es t s) (Ends r)
+          → Ran nums directory ends scope slots₁ slots₂ frame frame₂ (applyScope P) (tableIn P used es t s) (Ends r)
+          → Ran nums directory ends scope slots₁ slots₂ frame frame₂ Γ (appliedIn Γ used es t s) (Ends r)
       moved Γ P e k = rw e (rw (applied-is P used es t s) k)
 
-module _ (nums directory ends scope offsets entries widths slots frame : List ℕ) (depth at : ℕ)
-    (a : AsksTagged 5 nums directory ends scope offsets entries widths slots frame depth at) where
+module _ (nums directory ends scope slots frame : List ℕ) (depth at : ℕ)
+    (a : AsksTagged 5 nums directory ends scope slots frame depth at) where
   apply-at : (x : Stmt) → StandsStmt nums ends depth at x → NamedView nums ends depth at x (apply at)
   unfolding StmtView
   apply-at x w = rw (a .tagged) at (stmt-view w)
@@ -93,7 +93,7 @@ module _ (nums directory ends scope offsets entries widths slots frame : List �
   apply-inside = applies .holds .inside
 
   module _ (slots₁ : List ℕ) (c : Counts slots slots₁) (number : ℕ) (same : number ≡ getD nums (at + 1) 0) where
-    pub apply-table : AsksTable nums directory ends scope offsets entries widths slots₁ frame number
+    pub apply-table : AsksTable nums directory ends scope slots₁ frame number
     apply-table = rw (same, applies .holds .is) (record {
       program = a .asks .scopeOf .program;
       used = a .asks .used;
@@ -104,12 +104,12 @@ module _ (nums directory ends scope offsets entries widths slots frame : List �
     })
 
     pub apply-runs : (slots₂ frame₂ : List ℕ) (r : Ended)
-        → RunsTable nums directory ends scope offsets entries widths slots₁ slots₂ frame frame₂ number r
-        → RunsStmt nums directory ends scope offsets entries widths slots slots₂ frame frame₂ depth at r
+        → RunsTable nums directory ends scope slots₁ slots₂ frame frame₂ number r
+        → RunsStmt nums directory ends scope slots slots₂ frame frame₂ depth at r
     apply-runs slots₂ frame₂ r k = record {
       runs = λ Γ used es s x st w g.
           let v = apply-at x w in
-          let there : RunsTable nums directory ends scope offsets entries widths slots₁ slots₂ frame frame₂ (v .name) r
+          let there : RunsTable nums directory ends scope slots₁ slots₂ frame frame₂ (v .name) r
           = rw (same, v .holds .is) at k in
           apply-ran v st c g (there .runs (Γ .program) used es s (table-stage v st c g) (table-goes v st c g));
     }

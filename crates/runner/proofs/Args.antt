@@ -73,8 +73,8 @@ number-went p v ty number n h e =
     let same : n ≡ number = cc in
     record { is = same; fit = value-fits (fitting (h .isValue)) is }
 
-module _ (nums directory ends scope offsets entries widths slots frame : List ℕ) (depth at parameters : ℕ) where
-  module _ (a : AsksArg nums directory ends scope offsets entries widths slots frame depth at parameters) where
+module _ (nums directory ends scope slots frame : List ℕ) (depth at parameters : ℕ) where
+  module _ (a : AsksArg nums directory ends scope slots frame depth at parameters) where
     pub arg-inside : parameters < length nums
     arg-inside = a .direction .inside
 
@@ -83,7 +83,7 @@ module _ (nums directory ends scope offsets entries widths slots frame : List �
         (counterOf slots) (a .going) (sym (a .direction .is) ∙ q)) at (a .going))
 
     pub arg-expr : (getD nums parameters 0 ≡ 2 → ⊥)
-        → AsksExpr nums directory ends scope offsets entries widths slots frame depth at
+        → AsksExpr nums directory ends scope slots frame depth at
     arg-expr x = record {
       scopeOf = a .scopeOf;
       used = a .used;
@@ -98,7 +98,7 @@ module _ (nums directory ends scope offsets entries widths slots frame : List �
     }
 
   pub arg-out : (slots₁ : List ℕ) → getD nums parameters 0 ≡ 2 → Counts slots slots₁
-      → RunsArg nums directory ends scope offsets entries widths slots slots₁ frame frame depth at parameters 0
+      → RunsArg nums directory ends scope slots slots₁ frame frame depth at parameters 0
   unfolding pure
   arg-out slots₁ q c = record {
     runs = λ Γ used es s e p st w d g.
@@ -108,8 +108,8 @@ module _ (nums directory ends scope offsets entries widths slots frame : List �
   }
 
   pub arg-in : (slots₁ frame₁ : List ℕ) (v : values.Value) → (getD nums parameters 0 ≡ 2 → ⊥)
-      → RunsExpr nums directory ends scope offsets entries widths slots slots₁ frame frame₁ depth at v
-      → RunsArg nums directory ends scope offsets entries widths slots slots₁ frame frame₁ depth at parameters
+      → RunsExpr nums directory ends scope slots slots₁ frame frame₁ depth at v
+      → RunsArg nums directory ends scope slots slots₁ frame frame₁ depth at parameters
       (v .number)
   arg-in slots₁ frame₁ v x r = record {
     runs = λ Γ used es s e p st w d g.
@@ -152,9 +152,9 @@ arg-first : {nums ends : List ℕ} {depth at : ℕ} {e : Expr} {xs : Args} → S
     → StandsExpr nums ends depth at e × StandsArgs nums ends depth (getD ends at 0) xs
 arg-first (on-arg a s) = (a, s)
 
-module _ {nums directory ends scope offsets entries widths slots frame : List ℕ} {depth at parameters count slot : ℕ}
+module _ {nums directory ends scope slots frame : List ℕ} {depth at parameters count slot : ℕ}
     {Γ : Scope} {used : ℕ} {es : List Entry} {s : State} {e : Expr} {xs : Args} {p : Parameter} {ps : List Parameter}
-    (st : Stage nums directory ends scope offsets entries widths slots frame Γ used es s)
+    (st : Stage nums directory ends scope slots frame Γ used es s)
     (at-args : ArgsAt nums ends frame depth at parameters count slot Γ (arg e xs) (p ∷ ps))
     (g : Goes (counterOf slots) (argsIn Γ used (arg e xs) (p ∷ ps) s)) where
   args-begun : Begun (counterOf slots) (argIn Γ used e p) (thenOthers Γ used xs ps) s
@@ -168,12 +168,12 @@ module _ {nums directory ends scope offsets entries widths slots frame : List �
   first-direction = at-args .parametersStand .0
 
   first-runs : {slots₁ frame₁ : List ℕ} {n : ℕ}
-      → RunsArg nums directory ends scope offsets entries widths slots slots₁ frame frame₁ depth at parameters n
-      → Ran nums directory ends scope offsets slots slots₁ frame frame₁ Γ (argIn Γ used e p s) (Went p n)
+      → RunsArg nums directory ends scope slots slots₁ frame frame₁ depth at parameters n
+      → Ran nums directory ends scope slots slots₁ frame frame₁ Γ (argIn Γ used e p s) (Went p n)
   first-runs r = r .runs Γ used es s e p st first-stands first-direction (args-begun .first)
 
   module _ {slots₁ frame₁ : List ℕ} {n : ℕ}
-      (h : Ran nums directory ends scope offsets slots slots₁ frame frame₁ Γ (argIn Γ used e p s) (Went p n)) where
+      (h : Ran nums directory ends scope slots slots₁ frame frame₁ Γ (argIn Γ used e p s) (Went p n)) where
     others-begun : Begun (counterOf slots₁) (argsIn Γ used xs ps) (λ ns. pure (h .answer ∷ ns)) (h .state)
     others-begun = then-goes _ _ (h .state) (going-rest st (argIn Γ used e p) (thenOthers Γ used xs ps) args-begun h)
 
@@ -188,14 +188,14 @@ module _ {nums directory ends scope offsets entries widths slots frame : List �
     }
 
     others-run : {slots₂ frame₂ : List ℕ}
-        → RunsArgs nums directory ends scope offsets entries widths slots₁ slots₂ frame₁ frame₂ depth (getD ends at 0)
+        → RunsArgs nums directory ends scope slots₁ slots₂ frame₁ frame₂ depth (getD ends at 0)
         (parameters + 2) (count - 1) (slot + 1)
-        → Ran nums directory ends scope offsets slots₁ slots₂ frame₁ frame₂ Γ (argsIn Γ used xs ps (h .state))
+        → Ran nums directory ends scope slots₁ slots₂ frame₁ frame₂ Γ (argsIn Γ used xs ps (h .state))
         (Laying frame₂ (slot + 1) ps)
     others-run q = q .runs Γ used es (h .state) xs ps (stage-ran st h) others-at (others-begun .first)
 
     module _ {slots₂ frame₂ : List ℕ}
-        (k : Ran nums directory ends scope offsets slots₁ slots₂ frame₁ frame₂ Γ (argsIn Γ used xs ps (h .state))
+        (k : Ran nums directory ends scope slots₁ slots₂ frame₁ frame₂ Γ (argsIn Γ used xs ps (h .state))
         (Laying frame₂ (slot + 1) ps)) where
       slot-inside : slot < length frame₂
       unfolding argCount
@@ -211,7 +211,7 @@ module _ {nums directory ends scope offsets entries widths slots frame : List �
           rw z (getD-set-other frame₂ slot (slot + 1 + i) n 0 (λ q. absurd (omega (arith, q)))
           ∙ k .answers .laid .is i (omega arith))
 
-      args-ran : Ran nums directory ends scope offsets slots slots₂ frame (set frame₂ slot n) Γ
+      args-ran : Ran nums directory ends scope slots slots₂ frame (set frame₂ slot n) Γ
           (argsIn Γ used (arg e xs) (p ∷ ps) s) (Laying (set frame₂ slot n) slot (p ∷ ps))
       unfolding pure
       args-ran = rw (args-split Γ used s e xs p ps) (ran-then (argIn Γ used e p) (thenOthers Γ used xs ps) s h
@@ -251,15 +251,15 @@ apart used s counted (arg e xs) [] x w g = unfold argsIn runArgs in not-nowhere 
 apart used s counted (arg e xs) (p ∷ ps) x w g =
     record { expr = e; others = xs; parameter = p; list = ps; given = w; going = g; args = refl; params = refl }
 
-module _ (nums directory ends scope offsets entries widths slots frame : List ℕ) (depth at parameters count slot : ℕ)
+module _ (nums directory ends scope slots frame : List ℕ) (depth at parameters count slot : ℕ)
   where
-    module _ (a : AsksArgs nums directory ends scope offsets entries widths slots frame depth at parameters count slot)
+    module _ (a : AsksArgs nums directory ends scope slots frame depth at parameters count slot)
         (x : count ≡ 0 → ⊥) where
       parts : Apart nums ends frame depth at parameters count slot (a .scopeOf) (a .used) (a .state) (counterOf slots)
           (a .args) (a .list)
       parts = apart (a .used) (a .state) (counterOf slots) (a .args) (a .list) x (a .given) (a .going)
 
-      pub args-first : AsksArg nums directory ends scope offsets entries widths slots frame depth at parameters
+      pub args-first : AsksArg nums directory ends scope slots frame depth at parameters
       args-first = record {
         scopeOf = a .scopeOf;
         used = a .used;
@@ -297,9 +297,9 @@ module _ (nums directory ends scope offsets entries widths slots frame : List �
           (omega (arith, x))
 
       pub args-rest : (slots₁ frame₁ : List ℕ) (n next : ℕ)
-          → RunsArg nums directory ends scope offsets entries widths slots slots₁ frame frame₁ depth at parameters n
+          → RunsArg nums directory ends scope slots slots₁ frame frame₁ depth at parameters n
           → next ≡ getD ends at 0
-          → AsksArgs nums directory ends scope offsets entries widths slots₁ frame₁ depth next (parameters + 2)
+          → AsksArgs nums directory ends scope slots₁ frame₁ depth next (parameters + 2)
           (count - 1) (slot + 1)
       args-rest slots₁ frame₁ n next r same =
           let h = first-runs (a .stage) (parts .given) (parts .going) r in
@@ -318,9 +318,9 @@ module _ (nums directory ends scope offsets entries widths slots frame : List �
           })
 
       pub args-keep : (slots₁ slots₂ frame₁ frame₂ : List ℕ) (n next : ℕ)
-          → RunsArg nums directory ends scope offsets entries widths slots slots₁ frame frame₁ depth at parameters n
+          → RunsArg nums directory ends scope slots slots₁ frame frame₁ depth at parameters n
           → next ≡ getD ends at 0
-          → RunsArgs nums directory ends scope offsets entries widths slots₁ slots₂ frame₁ frame₂ depth next
+          → RunsArgs nums directory ends scope slots₁ slots₂ frame₁ frame₂ depth next
           (parameters + 2) (count - 1) (slot + 1)
           → AsksKeep frame₂ slot
       args-keep slots₁ slots₂ frame₁ frame₂ n next r same q =
@@ -329,20 +329,20 @@ module _ (nums directory ends scope offsets entries widths slots frame : List �
           record { inside = slot-inside (a .stage) (parts .given) (parts .going) h k }
 
     pub args-runs : (slots₁ slots₂ frame₁ frame₂ frame₃ : List ℕ) (n next : ℕ) → (count ≡ 0 → ⊥)
-        → RunsArg nums directory ends scope offsets entries widths slots slots₁ frame frame₁ depth at parameters n
+        → RunsArg nums directory ends scope slots slots₁ frame frame₁ depth at parameters n
         → next ≡ getD ends at 0
-        → RunsArgs nums directory ends scope offsets entries widths slots₁ slots₂ frame₁ frame₂ depth next
+        → RunsArgs nums directory ends scope slots₁ slots₂ frame₁ frame₂ depth next
         (parameters + 2) (count - 1) (slot + 1)
         → Keeps frame₂ frame₃ slot n
-        → RunsArgs nums directory ends scope offsets entries widths slots slots₂ frame frame₃ depth at parameters count slot
+        → RunsArgs nums directory ends scope slots slots₂ frame frame₃ depth at parameters count slot
     args-runs slots₁ slots₂ frame₁ frame₂ frame₃ n next x r same q m = record {
       runs = λ Γ used es s xs ps st w g. whole Γ used es s xs ps st (apart used s (counterOf slots) xs ps x w g);
     }
       where
         whole : (Γ : Scope) (used : ℕ) (es : List Entry) (s : State) (xs : Args) (ps : List Parameter)
-            → Stage nums directory ends scope offsets entries widths slots frame Γ used es s
+            → Stage nums directory ends scope slots frame Γ used es s
             → Apart nums ends frame depth at parameters count slot Γ used s (counterOf slots) xs ps
-            → Ran nums directory ends scope offsets slots slots₂ frame frame₃ Γ (argsIn Γ used xs ps s)
+            → Ran nums directory ends scope slots slots₂ frame frame₃ Γ (argsIn Γ used xs ps s)
             (Laying frame₃ slot ps)
         whole Γ used es s xs ps st p =
             let h = first-runs st (p .given) (p .going) r in
@@ -350,7 +350,7 @@ module _ (nums directory ends scope offsets entries widths slots frame : List �
             rw (m .is, p .args, p .params) (args-ran st (p .given) (p .going) h k)
 
     pub args-none : count ≡ 0
-        → RunsArgs nums directory ends scope offsets entries widths slots slots frame frame depth at parameters count slot
+        → RunsArgs nums directory ends scope slots slots frame frame depth at parameters count slot
     args-none e = record {
       runs = λ Γ used es s xs ps st w g.
           let none = no-args-is Γ used s xs ps (counterOf slots) g (sym e ∙ w .counts) in

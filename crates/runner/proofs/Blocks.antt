@@ -22,8 +22,8 @@ use Rattle.runner.proofs.Stages.{stage-counted, going-counted, ran-coun
 use Rattle.runner.proofs.Stmts.{block-is}
 
 -- the block itself
-module _ (nums directory ends scope offsets entries widths slots frame : List ℕ) (depth at : ℕ)
-    (a : AsksTagged 3 nums directory ends scope offsets entries widths slots frame depth at) where
+module _ (nums directory ends scope slots frame : List ℕ) (depth at : ℕ)
+    (a : AsksTagged 3 nums directory ends scope slots frame depth at) where
   block-at : (x : Stmt) → StandsStmt nums ends depth at x → BlockView nums ends depth at x
   unfolding StmtView
   block-at x w = rw (a .tagged) at (stmt-view w)
@@ -36,13 +36,13 @@ module _ (nums directory ends scope offsets entries widths slots frame : List �
 
   block-goes : (Γ : Scope) (used : ℕ) (es : List Entry) (s : State) (x : Stmt) (v : BlockView nums ends depth at x)
       (slots₁ : List ℕ) → Counts slots slots₁
-      → Stage nums directory ends scope offsets entries widths slots frame Γ used es s
+      → Stage nums directory ends scope slots frame Γ used es s
       → Goes (counterOf slots) (stmtIn Γ used es x s) → Goes (counterOf slots₁) (stmtsIn Γ used es (v .members) s)
   block-goes Γ used es s x v slots₁ c st g =
       going-counted st _ c (rw (block-is Γ used es s at x (v .members) (v .same)) at g)
 
   module _ (slots₁ : List ℕ) (c : Counts slots slots₁) (count : ℕ) (same : count ≡ getD nums (at + 1) 0) where
-    pub block-members : AsksStmts nums directory ends scope offsets entries widths slots₁ frame (depth - 1) (at + 2) count
+    pub block-members : AsksStmts nums directory ends scope slots₁ frame (depth - 1) (at + 2) count
     block-members = record {
       scopeOf = a .asks .scopeOf;
       used = a .asks .used;
@@ -58,9 +58,9 @@ module _ (nums directory ends scope offsets entries widths slots frame : List �
     }
 
     pub block-runs : (slots₂ frame₂ : List ℕ) (r : Ended)
-        → RunsStmts nums directory ends scope offsets entries widths slots₁ slots₂ frame frame₂ (depth - 1) (at + 2)
+        → RunsStmts nums directory ends scope slots₁ slots₂ frame frame₂ (depth - 1) (at + 2)
         count r
-        → RunsStmt nums directory ends scope offsets entries widths slots slots₂ frame frame₂ depth at r
+        → RunsStmt nums directory ends scope slots slots₂ frame frame₂ depth at r
     block-runs slots₂ frame₂ r k = record {
       runs = λ Γ used es s x st w g.
           let v = block-at x w in
@@ -68,18 +68,18 @@ module _ (nums directory ends scope offsets entries widths slots frame : List �
           (stage-counted st c) (v .stand) (same ∙ v .count .holds .is) (block-goes Γ used es s x v slots₁ c st g)));
     }
 
-pub block-fall : (nums directory ends scope offsets entries widths slots frame : List ℕ) (depth at : ℕ)
-    → AsksTagged 3 nums directory ends scope offsets entries widths slots frame depth at
+pub block-fall : (nums directory ends scope slots frame : List ℕ) (depth at : ℕ)
+    → AsksTagged 3 nums directory ends scope slots frame depth at
     → (t : ℕ) → rank (getD scope 0 0) (2000 + 32 * depth + 19) ≡ t
     → rank (getD scope 0 0) (2000 + 32 * (depth - 1) + 21) < t
-block-fall nums directory ends scope offsets entries widths slots frame depth at a t e =
+block-fall nums directory ends scope slots frame depth at a t e =
     rank-lower t (getD scope 0 0) (2000 + 32 * depth + 19) (2000 + 32 * (depth - 1) + 21) e
     (omega (arith, stmt-begins (a .asks .stands) .levels))
 
 pub ruleset blockRuns = (block-inside, block-members, block-runs, block-fall)
 
 -- its members: what is left of them
-pub record Rest (nums directory ends scope offsets entries widths slots₀ slots frame₀ frame : List ℕ)
+pub record Rest (nums directory ends scope slots₀ slots frame₀ frame : List ℕ)
     (depth next left : ℕ) (Γ : Scope) (used : ℕ) (es : List Entry) (s : State) (ss : Stmts) : Type 0 where
   pub rest : Stmts
   pub state : State
@@ -87,22 +87,22 @@ pub record Rest (nums directory ends scope offsets entries widths slots₀ slots
   pub is : stmtsIn Γ used es ss s ≡ more seen (stmtsIn Γ used es rest state)
   pub stand : StandsStmts nums ends depth next rest
   pub counts : left ≡ memberCount rest
-  pub stage : Stage nums directory ends scope offsets entries widths slots frame Γ used es state
+  pub stage : Stage nums directory ends scope slots frame Γ used es state
   pub going : Goes (counterOf slots) (stmtsIn Γ used es rest state)
   pub counted : counterOf slots ≡ counterOf slots₀ + length seen
   pub same : length frame ≡ length frame₀
 
-pub record Blocking (nums directory ends scope offsets entries widths slots₀ slots frame₀ frame : List ℕ)
+pub record Blocking (nums directory ends scope slots₀ slots frame₀ frame : List ℕ)
     (depth at count next left : ℕ) : Type 0 where
   pub kept : length frame ≡ length frame₀
   pub blocking : (Γ : Scope) (used : ℕ) (es : List Entry) (s : State) (ss : Stmts)
-      → Stage nums directory ends scope offsets entries widths slots₀ frame₀ Γ used es s
+      → Stage nums directory ends scope slots₀ frame₀ Γ used es s
       → StandsStmts nums ends depth at ss → count ≡ memberCount ss → Goes (counterOf slots₀) (stmtsIn Γ used es ss s)
-      → Rest nums directory ends scope offsets entries widths slots₀ slots frame₀ frame depth next left Γ used es s ss
+      → Rest nums directory ends scope slots₀ slots frame₀ frame depth next left Γ used es s ss
 
-pub block-begins : (nums directory ends scope offsets entries widths slots frame : List ℕ) (depth at count : ℕ)
-    → Blocking nums directory ends scope offsets entries widths slots slots frame frame depth at count at count
-block-begins nums directory ends scope offsets entries widths slots frame depth at count = record {
+pub block-begins : (nums directory ends scope slots frame : List ℕ) (depth at count : ℕ)
+    → Blocking nums directory ends scope slots slots frame frame depth at count at count
+block-begins nums directory ends scope slots frame depth at count = record {
   kept = refl;
   blocking = λ Γ used es s ss st w n g. record {
     rest = ss;
@@ -150,16 +150,16 @@ stops-is ended r ending m s (ends-value v) e w = refl
 stops-is ended r ending m s ends-exited e w = refl
 
 -- at any stage
-module _ {nums directory ends scope offsets entries widths slots₀ slots frame₀ frame : List ℕ} {depth next left : ℕ}
+module _ {nums directory ends scope slots₀ slots frame₀ frame : List ℕ} {depth next left : ℕ}
     {Γ : Scope} {used : ℕ} {es : List Entry} {s : State} {ss : Stmts}
-    (b : Rest nums directory ends scope offsets entries widths slots₀ slots frame₀ frame depth next left Γ used es s ss)
+    (b : Rest nums directory ends scope slots₀ slots frame₀ frame depth next left Γ used es s ss)
     (v : MemberView nums ends depth next left (b .rest)) where
   member-begun : Begun (counterOf slots) (stmtIn Γ used es (v .first)) (thenRest Γ used es (v .others)) (b .state)
   member-begun = then-goes _ _ (b .state)
       (rw (members-split Γ used es (b .state) (b .rest) (v .first) (v .others) (v .same)) at (b .going))
 
   module _ {slots₁ frame₁ : List ℕ} {ended : Ended}
-      (h : Ran nums directory ends scope offsets slots slots₁ frame frame₁ Γ (stmtIn Γ used es (v .first) (b .state))
+      (h : Ran nums directory ends scope slots slots₁ frame frame₁ Γ (stmtIn Γ used es (v .first) (b .state))
       (Ends ended)) where
     member-is : stmtsIn Γ used es ss s
         ≡ more (b .seen) (more (h .seen) (thenRest Γ used es (v .others) (h .answer) (h .state)))
@@ -173,7 +173,7 @@ module _ {nums directory ends scope offsets entries widths slots₀ slots frame�
     onward-rest ending e = rw e refl
 
     rest-again : ended ≡ Onward
-        → Rest nums directory ends scope offsets entries widths slots₀ slots₁ frame₀ frame₁ depth (getD ends next 0)
+        → Rest nums directory ends scope slots₀ slots₁ frame₀ frame₁ depth (getD ends next 0)
         (left - 1) Γ used es s ss
     rest-again e =
         let on : h .answer ≡ onward = onward-is ended (h .answer) (h .answers) e in
@@ -195,7 +195,7 @@ module _ {nums directory ends scope offsets entries widths slots₀ slots frame�
         }
 
     stops-ran : (r : Ended) → ended ≡ r → Stops r
-        → Ran nums directory ends scope offsets slots₀ slots₁ frame₀ frame₁ Γ (stmtsIn Γ used es ss s) (Ends r)
+        → Ran nums directory ends scope slots₀ slots₁ frame₀ frame₁ Γ (stmtsIn Γ used es ss s) (Ends r)
     unfolding more
     stops-ran r e w =
         let same : thenRest Γ used es (v .others) (h .answer) (h .state) ≡ done (h .answer) (h .state) []
@@ -218,23 +218,23 @@ module _ {nums directory ends scope offsets entries widths slots₀ slots frame�
         }
 
 -- the loop
-module _ (nums directory ends scope offsets entries widths slots₀ slots frame₀ frame : List ℕ)
+module _ (nums directory ends scope slots₀ slots frame₀ frame : List ℕ)
     (depth at count next left : ℕ)
-    (g : Blocking nums directory ends scope offsets entries widths slots₀ slots frame₀ frame depth at count next left)
+    (g : Blocking nums directory ends scope slots₀ slots frame₀ frame depth at count next left)
   where
     module _ (m : left ≡ 0 → ⊥) where
       view : {Γ : Scope} {used : ℕ} {es : List Entry} {s : State} {ss : Stmts}
-          → (b : Rest nums directory ends scope offsets entries widths slots₀ slots frame₀ frame depth next left Γ used es s
+          → (b : Rest nums directory ends scope slots₀ slots frame₀ frame depth next left Γ used es s
           ss) → MemberView nums ends depth next left (b .rest)
       view b = member-view left (b .rest) (b .stand) (b .counts) m
 
-      module _ (a : AsksStmts nums directory ends scope offsets entries widths slots₀ frame₀ depth at count) where
-        here : Rest nums directory ends scope offsets entries widths slots₀ slots frame₀ frame depth next left
+      module _ (a : AsksStmts nums directory ends scope slots₀ frame₀ depth at count) where
+        here : Rest nums directory ends scope slots₀ slots frame₀ frame depth next left
             (a .scopeOf) (a .used) (a .entryList) (a .state) (a .stmts)
         here = g .blocking (a .scopeOf) (a .used) (a .entryList) (a .state) (a .stmts) (a .stage) (a .stand) (a .counts)
             (a .going)
 
-        pub member-asks : AsksStmt nums directory ends scope offsets entries widths slots frame depth next
+        pub member-asks : AsksStmt nums directory ends scope slots frame depth next
         member-asks = record {
           scopeOf = a .scopeOf;
           used = a .used;
@@ -252,19 +252,19 @@ module _ (nums directory ends scope offsets entries widths slots₀ slots frame�
             omega (arith, stmt-begins (view here .firstStands) .inside, a .stage .scene .scopes .program .room)
 
       member-ran : {slots₁ frame₁ : List ℕ} {ended : Ended}
-          → RunsStmt nums directory ends scope offsets entries widths slots slots₁ frame frame₁ depth next ended
+          → RunsStmt nums directory ends scope slots slots₁ frame frame₁ depth next ended
           → {Γ : Scope} {used : ℕ} {es : List Entry} {s : State} {ss : Stmts}
-          → (b : Rest nums directory ends scope offsets entries widths slots₀ slots frame₀ frame depth next left Γ used es s
+          → (b : Rest nums directory ends scope slots₀ slots frame₀ frame depth next left Γ used es s
           ss)
-          → Ran nums directory ends scope offsets slots slots₁ frame frame₁ Γ
+          → Ran nums directory ends scope slots slots₁ frame frame₁ Γ
           (stmtIn Γ used es (view b .first) (b .state)) (Ends ended)
       member-ran r {Γ} {used} {es} b = r .runs Γ used es (b .state) (view b .first) (b .stage) (view b .firstStands)
           (member-begun b (view b) .first)
 
       pub block-again : (slots₁ frame₁ : List ℕ) (ended : Ended) (next₁ : ℕ)
-          → RunsStmt nums directory ends scope offsets entries widths slots slots₁ frame frame₁ depth next ended
+          → RunsStmt nums directory ends scope slots slots₁ frame frame₁ depth next ended
           → length frame₁ ≡ length frame → ended ≡ Onward → next₁ ≡ getD ends next 0
-          → Blocking nums directory ends scope offsets entries widths slots₀ slots₁ frame₀ frame₁ depth at count next₁
+          → Blocking nums directory ends scope slots₀ slots₁ frame₀ frame₁ depth at count next₁
           (left - 1)
       block-again slots₁ frame₁ ended next₁ r l e n = rw n (record {
         kept = l ∙ g .kept;
@@ -274,9 +274,9 @@ module _ (nums directory ends scope offsets entries widths slots₀ slots frame�
       })
 
       pub block-stops : (slots₁ frame₁ : List ℕ) (ended r : Ended)
-          → RunsStmt nums directory ends scope offsets entries widths slots slots₁ frame frame₁ depth next ended
+          → RunsStmt nums directory ends scope slots slots₁ frame frame₁ depth next ended
           → ended ≡ r → Stops r
-          → RunsStmts nums directory ends scope offsets entries widths slots₀ slots₁ frame₀ frame₁ depth at count r
+          → RunsStmts nums directory ends scope slots₀ slots₁ frame₀ frame₁ depth at count r
       block-stops slots₁ frame₁ ended r q e w = record {
         runs = λ Γ used es s ss st v k d.
             let b = g .blocking Γ used es s ss st v k d in
@@ -289,7 +289,7 @@ module _ (nums directory ends scope offsets entries widths slots₀ slots frame�
     none-left Γ used es s ss e = rw e refl
 
     pub block-ends : left ≡ 0
-        → RunsStmts nums directory ends scope offsets entries widths slots₀ slots frame₀ frame depth at count Onward
+        → RunsStmts nums directory ends scope slots₀ slots frame₀ frame depth at count Onward
     unfolding more
     block-ends e = record {
       runs = λ Γ used es s ss st v k d.

@@ -78,9 +78,9 @@ module _ (r : Option Ty) (counted : ℕ) where
       rw e (left-is r ending (s .parameters) (s .store) seen counted there)
 
 -- at any call
-module _ {nums directory ends offsets entries widths slots frame : List ℕ} {f : ℕ} {P : Program} {c : Callable}
+module _ {nums directory ends slots frame : List ℕ} {f : ℕ} {P : Program} {c : Callable}
     {used : ℕ} {es : List Entry} {ns : List ℕ} {cells : List Cell}
-    (w : Called nums directory ends offsets entries widths slots frame f P c used es ns cells)
+    (w : Called nums directory ends slots frame f P c used es ns cells)
     (g : Goes (counterOf slots) (bodyIn P f c used ns cells)) where
   abbrev Γ : Scope
   Γ = scopeOf P f c
@@ -120,10 +120,10 @@ module _ {nums directory ends offsets entries widths slots frame : List ℕ} {f 
         let n : count ≡ length ns = head .countIs ∙ sym (all2-length (w .given)) in
         rw (n, framed .countIs) at z
 
-    body-stage : Stage nums directory ends scope offsets entries widths slots frame₁ Γ taken es (fresh c ns cells)
+    body-stage : Stage nums directory ends scope slots frame₁ Γ taken es (fresh c ns cells)
     unfolding scopeOf
     body-stage = record {
-      scene = scene-fresh nums directory ends scope offsets slots frame frame₁ P f c ns cells
+      scene = scene-fresh nums directory ends scope slots frame frame₁ P f c ns cells
           (callable-scope nums directory ends f kind returns parameters count locals localCount body P (w .end) c
           (w .stands) (w .is) head framed) (w .offset) (w .fits) (w .given) (w .store)
           (omega (arith, all2-length (w .given), room, w .room)) (λ i l.
@@ -136,7 +136,7 @@ module _ {nums directory ends offsets entries widths slots frame : List ℕ} {f 
     }
 
     body-ran : {slots₂ frame₂ : List ℕ} {r : Ended}
-        → Ran nums directory ends scope offsets slots slots₂ frame₁ frame₂ Γ ran-by (Ends r)
+        → Ran nums directory ends scope slots slots₂ frame₁ frame₂ Γ ran-by (Ends r)
         → RanBody slots slots₂ frame frame₂ P c (bodyIn P f c used ns cells) r
     unfolding scopeOf
     body-ran h = record {
@@ -159,8 +159,8 @@ module _ {nums directory ends offsets entries widths slots frame : List ℕ} {f 
       same = omega (arith, h .same, z .same);
     }
 
-module _ (nums directory ends offsets entries widths slots frame : List ℕ) (f : ℕ) where
-  module _ (a : AsksBody nums directory ends offsets entries widths slots frame f) where
+module _ (nums directory ends slots frame : List ℕ) (f : ℕ) where
+  module _ (a : AsksBody nums directory ends slots frame f) where
     pub body-has : Has callablesOf nums directory ends f
     unfolding callablesOf
     body-has = record {
@@ -180,18 +180,18 @@ module _ (nums directory ends offsets entries widths slots frame : List ℕ) (f 
     scoped = callableScope f parameters count locals localCount kind returns
 
     head-at : {P : Program} {c : Callable} {used : ℕ} {es : List Entry} {ns : List ℕ} {cells : List Cell}
-        → Called nums directory ends offsets entries widths slots frame f P c used es ns cells
+        → Called nums directory ends slots frame f P c used es ns cells
         → FoundHead nums kind returns parameters count c
     unfolding callablesOf
     head-at {P} {c} w = head .finds P (w .end) c (w .stands) (w .is)
 
     frame-at : {P : Program} {c : Callable} {used : ℕ} {es : List Entry} {ns : List ℕ} {cells : List Cell}
-        → Called nums directory ends offsets entries widths slots frame f P c used es ns cells
+        → Called nums directory ends slots frame f P c used es ns cells
         → FoundFrame nums ends locals localCount body c
     unfolding callablesOf
     frame-at {P} {c} w = framed .finds P (w .end) c (w .stands) (w .is)
 
-    module _ (a : AsksBody nums directory ends offsets entries widths slots frame f) where
+    module _ (a : AsksBody nums directory ends slots frame f) where
       pub body-low : count + localCount < 2 ^ 64
       body-low = omega (arith, head-at (a .called) .countIs, frame-at (a .called) .countIs, few (a .called) (a .going))
 
@@ -208,7 +208,7 @@ module _ (nums directory ends offsets entries widths slots frame : List ℕ) (f 
       }
 
       pub body-stmt : (frame₁ : List ℕ) → Clears frame frame₁ count (count + localCount)
-          → AsksStmt nums directory ends scoped offsets entries widths slots frame₁ 32 body
+          → AsksStmt nums directory ends scoped slots frame₁ 32 body
       body-stmt frame₁ z = record {
         scopeOf = scopeOf (a .program) f (a .found);
         used = taken (a .called) (a .going);
@@ -222,8 +222,8 @@ module _ (nums directory ends offsets entries widths slots frame : List ℕ) (f 
       }
 
     pub body-runs : (frame₁ slots₂ frame₂ : List ℕ) (r : Ended) → Clears frame frame₁ count (count + localCount)
-        → RunsStmt nums directory ends scoped offsets entries widths slots slots₂ frame₁ frame₂ 32 body r
-        → RunsBody nums directory ends offsets entries widths slots slots₂ frame frame₂ f r
+        → RunsStmt nums directory ends scoped slots slots₂ frame₁ frame₂ 32 body r
+        → RunsBody nums directory ends slots slots₂ frame frame₂ f r
     body-runs frame₁ slots₂ frame₂ r z q = record {
       runs = λ P c used es ns cells w g. body-ran w g (head-at w) (frame-at w) z
           (q .runs (scopeOf P f c) (taken w g) es (fresh c ns cells) (c .body)

@@ -48,9 +48,9 @@ pub record Came (frame : List ℕ) (own : ℕ) (ps : List Parameter) (ended : En
   pub fit : All2 FitParameter ps (r .1)
 
 -- at any stage
-module _ {nums directory ends scope offsets entries widths slots frame : List ℕ} {depth at : ℕ} {Γ : Scope} {used : ℕ}
+module _ {nums directory ends scope slots frame : List ℕ} {depth at : ℕ} {Γ : Scope} {used : ℕ}
     {es : List Entry} {s : State} {f : ℕ} {xs : Args} {c : Callable}
-    (st : Stage nums directory ends scope offsets entries widths slots frame Γ used es s)
+    (st : Stage nums directory ends scope slots frame Γ used es s)
     (w : CallAt nums ends depth at Γ f xs c)
     (g : Goes (counterOf slots) (callIn Γ used f xs (c .parameters) s)) where
   abbrev ps : List Parameter
@@ -107,7 +107,7 @@ module _ {nums directory ends scope offsets entries widths slots frame : List �
   }
 
   module _ {slots₁ frame₁ : List ℕ}
-      (h : Ran nums directory ends scope offsets slots slots₁ frame frame₁ Γ (argsIn Γ used xs ps s)
+      (h : Ran nums directory ends scope slots slots₁ frame frame₁ Γ (argsIn Γ used xs ps s)
       (Laying frame₁ (ownOf Γ) ps)) where
     abbrev part : List ℕ
     part = lentPart frame₁ (ownOf Γ)
@@ -121,7 +121,7 @@ module _ {nums directory ends scope offsets entries widths slots frame : List �
     inside₁ : ownOf Γ ≤ length frame₁
     inside₁ = omega (arith, own-inside, h .same)
 
-    callee-called : Called nums directory ends offsets entries widths slots₁ part f (Γ .program) c used es (h .answer)
+    callee-called : Called nums directory ends slots₁ part f (Γ .program) c used es (h .answer)
         (h .state .store)
     callee-called = record {
       end = st .scene .scopes .end;
@@ -148,13 +148,13 @@ module _ {nums directory ends scope offsets entries widths slots frame : List �
       few-left : length (b .parameters) ≤ length part′
       few-left = omega (arith, all2-length (b .given), b .same, part-length frame₁ (ownOf Γ) inside₁, h .same, callee-room)
 
-      entered : Scene nums directory ends scope offsets slots₂ frame₂ Γ (withStore (h .state) cells)
-      entered = scene-entered nums directory ends scope offsets slots₁ slots₂ frame₁ frame₂ Γ (h .state) cells (h .scene)
+      entered : Scene nums directory ends scope slots₂ frame₂ Γ (withStore (h .state) cells)
+      entered = scene-entered nums directory ends scope slots₁ slots₂ frame₁ frame₂ Γ (h .state) cells (h .scene)
           (b .fits) (b .store) (back-length frame₁ (ownOf Γ) part′ inside₁ (b .same))
           λ i l. back-below frame₁ (ownOf Γ) part′ inside₁ (b .same) i
           (omega (arith, all2-length (h .scene .fits .parameters-fit), all2-length (h .scene .fits .locals-fit)))
 
-      body-ran : Ran nums directory ends scope offsets slots₁ slots₂ frame₁ frame₂ Γ
+      body-ran : Ran nums directory ends scope slots₁ slots₂ frame₁ frame₂ Γ
           (onStore (callsOf Γ used f (h .answer)) (h .state)) (Came frame₂ (ownOf Γ) ps ended)
       body-ran = record {
         answer = (b .ending, b .parameters);
@@ -177,7 +177,7 @@ module _ {nums directory ends scope offsets entries widths slots frame : List �
           (call-begun (h .answer) (h .state) (counterOf slots₁) call-goes) body-ran
 
       left-at : (parameters count : ℕ) → StandsParameters nums parameters ps → count ≡ length ps
-          → Left nums directory ends scope offsets slots₂ frame₂ (at + 3) parameters count (ownOf Γ) Γ (body-ran .state)
+          → Left nums directory ends scope slots₂ frame₂ (at + 3) parameters count (ownOf Γ) Γ (body-ran .state)
           xs ps (body-ran .answer .1)
       left-at parameters count z n = record {
         depth = depth - 1;
@@ -192,19 +192,19 @@ module _ {nums directory ends scope offsets entries widths slots frame : List �
       }
 
       module _ {slots₃ frame₃ : List ℕ} {r : Ended}
-          (k : Ran nums directory ends scope offsets slots₂ slots₃ frame₂ frame₃ Γ
+          (k : Ran nums directory ends scope slots₂ slots₃ frame₂ frame₃ Γ
           (thenBack (body-ran .answer) (body-ran .state)) (Ends r)) where
-        call-ran : Ran nums directory ends scope offsets slots slots₃ frame frame₃ Γ (callIn Γ used f xs ps s) (Ends r)
+        call-ran : Ran nums directory ends scope slots slots₃ frame frame₃ Γ (callIn Γ used f xs ps s) (Ends r)
         unfolding callIn runCall
         call-ran = ran-then (argsIn Γ used xs ps) thenCall s h
             (ran-then (onStore (callsOf Γ used f (h .answer))) thenBack (h .state) body-ran k)
 
 -- from the numbers: the callee's head, and the slots of the caller's own
-module _ (nums directory ends scope offsets entries widths slots frame : List ℕ) (depth at : ℕ) where
+module _ (nums directory ends scope slots frame : List ℕ) (depth at : ℕ) where
   abbrev callee : ℕ
   callee = getD nums (at + 1) 0
 
-  module _ (a : AsksCall nums directory ends scope offsets entries widths slots frame depth at) where
+  module _ (a : AsksCall nums directory ends scope slots frame depth at) where
     pub call-inside : at + 1 < length nums
     call-inside = a .call .holds .inside
 
@@ -251,7 +251,7 @@ module _ (nums directory ends scope offsets entries widths slots frame : List �
       (head : Finds callablesOf (FoundHead nums kind returns parameters count) nums directory ends callee)
       (o : Owns scope own) where
     module _ {Γ : Scope} {used : ℕ} {es : List Entry} {s : State} {f : ℕ} {xs : Args} {c : Callable}
-        (st : Stage nums directory ends scope offsets entries widths slots frame Γ used es s)
+        (st : Stage nums directory ends scope slots frame Γ used es s)
         (w : CallAt nums ends depth at Γ f xs c)
         (g : Goes (counterOf slots) (callIn Γ used f xs (c .parameters) s)) where
       head-is : FoundHead nums kind returns parameters count c
@@ -266,33 +266,33 @@ module _ (nums directory ends scope offsets entries widths slots frame : List �
       arguments-at = args-at st w g parameters count (head-is .parametersStand) (head-is .countIs)
 
       arguments-ran : {slots₁ frame₁ : List ℕ}
-          → RunsArgs nums directory ends scope offsets entries widths slots slots₁ frame frame₁ (depth - 1) (at + 3)
+          → RunsArgs nums directory ends scope slots slots₁ frame frame₁ (depth - 1) (at + 3)
           parameters count own
-          → Ran nums directory ends scope offsets slots slots₁ frame frame₁ Γ (argsIn Γ used xs (c .parameters) s)
+          → Ran nums directory ends scope slots slots₁ frame frame₁ Γ (argsIn Γ used xs (c .parameters) s)
           (Laying frame₁ (ownOf Γ) (c .parameters))
       arguments-ran r = (rw own-is at r) .runs Γ used es s xs (c .parameters) st arguments-at (args-begun st w g .first)
 
       callee-ran : {slots₁ slots₂ frame₁ part part′ : List ℕ} {ended : Ended}
-          → (r : RunsArgs nums directory ends scope offsets entries widths slots slots₁ frame frame₁ (depth - 1) (at + 3)
+          → (r : RunsArgs nums directory ends scope slots slots₁ frame frame₁ (depth - 1) (at + 3)
           parameters count own)
           → part ≡ lentPart frame₁ own
-          → RunsBody nums directory ends offsets entries widths slots₁ slots₂ part part′ callee ended
+          → RunsBody nums directory ends slots₁ slots₂ part part′ callee ended
           → RanBody slots₁ slots₂ (lentPart frame₁ (ownOf Γ)) part′ (Γ .program) c
           (bodyIn (Γ .program) f c used (arguments-ran r .answer) (arguments-ran r .state .store)) ended
       callee-ran {slots₁} {slots₂} {frame₁} {part} {part′} {ended} r e b =
           let h = arguments-ran r in
-          let there : RunsBody nums directory ends offsets entries widths slots₁ slots₂ (lentPart frame₁ (ownOf Γ)) part′
+          let there : RunsBody nums directory ends slots₁ slots₂ (lentPart frame₁ (ownOf Γ)) part′
           f ended = rw (e, own-is, w .holds .is) at b in
           there .runs (Γ .program) c used es (h .answer) (h .state .store) (callee-called st w g h) (callee-goes st w g h)
 
-    module _ (a : AsksCall nums directory ends scope offsets entries widths slots frame depth at) where
+    module _ (a : AsksCall nums directory ends scope slots frame depth at) where
       few-arguments : count ≤ mostArguments
       few-arguments = omega (arith, arguments-at (a .stage) (a .call) (a .going) .counts, a .call .count .atMost)
 
       pub call-own-low : own ≤ mostOwn
       call-own-low = omega (arith, own-is (a .stage) (a .call) (a .going), a .stage .few)
 
-      pub call-args : AsksArgs nums directory ends scope offsets entries widths slots frame (depth - 1) (at + 3)
+      pub call-args : AsksArgs nums directory ends scope slots frame (depth - 1) (at + 3)
           parameters count own
       call-args = rw (own-is (a .stage) (a .call) (a .going)) (record {
         scopeOf = a .scopeOf;
@@ -314,7 +314,7 @@ module _ (nums directory ends scope offsets entries widths slots frame : List �
           (omega (arith, few-arguments, a .call .levels))
 
       module _ (slots₁ frame₁ : List ℕ)
-          (r : RunsArgs nums directory ends scope offsets entries widths slots slots₁ frame frame₁ (depth - 1) (at + 3)
+          (r : RunsArgs nums directory ends scope slots slots₁ frame frame₁ (depth - 1) (at + 3)
           parameters count own) where
         pub call-lent : own ≤ length frame₁
         call-lent = omega (
@@ -324,7 +324,7 @@ module _ (nums directory ends scope offsets entries widths slots frame : List �
         )
 
         pub call-body : (part : List ℕ) → part ≡ lentPart frame₁ own
-            → AsksBody nums directory ends offsets entries widths slots₁ part callee
+            → AsksBody nums directory ends slots₁ part callee
         call-body part e =
             let h = arguments-ran (a .stage) (a .call) (a .going) r in
             rw (e, own-is (a .stage) (a .call) (a .going), a .call .holds .is) (record {
@@ -339,20 +339,21 @@ module _ (nums directory ends scope offsets entries widths slots frame : List �
             })
 
         module _ (slots₂ part part′ frame₂ : List ℕ) (ended : Ended) (e : part ≡ lentPart frame₁ own)
-            (b : RunsBody nums directory ends offsets entries widths slots₁ slots₂ part part′ callee ended)
+            (b : RunsBody nums directory ends slots₁ slots₂ part part′ callee ended)
             (q : frame₂ ≡ putBack frame₁ own part′) where
-          pub call-finish : AsksFinish nums ends scope offsets slots₂ frame₂ (at + 3) parameters count own ended
+          pub call-finish : AsksFinish nums directory ends scope slots₂ frame₂ at parameters count ended
           call-finish =
               let h = arguments-ran (a .stage) (a .call) (a .going) r in
               let y = callee-ran (a .stage) (a .call) (a .going) r e b in
               let z = body-ran (a .stage) (a .call) (a .going) h y in
               rw (q, own-is (a .stage) (a .call) (a .going)) (record {
-                directory = directory;
                 scopeOf = a .scopeOf;
                 state = z .state;
                 args = a .args;
                 list = a .found .parameters;
                 numbers = z .answer .1;
+                inside = omega (arith, call-inside);
+                few = a .stage .few;
                 left = left-at (a .stage) (a .call) (a .going) h y parameters count
                     (head-is (a .stage) (a .call) (a .going) .parametersStand)
                     (head-is (a .stage) (a .call) (a .going) .countIs);
@@ -362,21 +363,21 @@ module _ (nums directory ends scope offsets entries widths slots frame : List �
                 going = back-goes (a .stage) (a .call) (a .going) h y;
               })
 
-    pub call-runs : (slots₁ slots₂ slots₃ frame₁ frame₂ frame₃ part part′ : List ℕ) (ended x : Ended)
-        → RunsArgs nums directory ends scope offsets entries widths slots slots₁ frame frame₁ (depth - 1) (at + 3)
+    pub call-runs : (slots₁ slots₂ slots₃ frame₁ frame₂ frame₃ part part′ : List ℕ) (ended : Ended)
+        → RunsArgs nums directory ends scope slots slots₁ frame frame₁ (depth - 1) (at + 3)
         parameters count own
-        → RunsBody nums directory ends offsets entries widths slots₁ slots₂ part part′ callee ended
-        → Finishes nums ends scope offsets slots₂ slots₃ frame₂ frame₃ (at + 3) parameters count own ended x
+        → RunsBody nums directory ends slots₁ slots₂ part part′ callee ended
+        → Finishes nums directory ends scope slots₂ slots₃ frame₂ frame₃ at parameters count ended
         → part ≡ lentPart frame₁ own → frame₂ ≡ putBack frame₁ own part′
-        → RunsCall nums directory ends scope offsets entries widths slots slots₃ frame frame₃ depth at x
-    call-runs slots₁ slots₂ slots₃ frame₁ frame₂ frame₃ part part′ ended x r b k e q = record {
+        → RunsCall nums directory ends scope slots slots₃ frame frame₃ depth at ended
+    call-runs slots₁ slots₂ slots₃ frame₁ frame₂ frame₃ part part′ ended r b k e q = record {
       runs = λ Γ used es s f xs c st w g.
           let h = arguments-ran st w g r in
           let y = callee-ran st w g r e b in
           let z = body-ran st w g h y in
-          let there : Finishes nums ends scope offsets slots₂ slots₃ (putBack frame₁ (ownOf Γ) part′) frame₃ (at + 3)
-          parameters count (ownOf Γ) ended x = rw (q, own-is st w g) at k in
-          call-ran st w g h y (there .finishes directory Γ (z .state) xs (c .parameters) (z .answer .1) (z .answer .0)
+          let there : Finishes nums directory ends scope slots₂ slots₃ (putBack frame₁ (ownOf Γ) part′) frame₃ at
+          parameters count ended = rw (q, own-is st w g) at k in
+          call-ran st w g h y (there .finishes Γ (z .state) xs (c .parameters) (z .answer .1) (z .answer .0)
           (counterOf slots₂) (left-at st w g h y parameters count (head-is st w g .parametersStand) (head-is st w g .countIs))
           (z .answers .ends) (back-goes st w g h y));
     }

@@ -43,8 +43,8 @@ unfolding exprIn
 two-is o Γ used s = rw (o .is Γ used (callsOf Γ)) refl
 
 -- no operand
-module _ (nums directory ends scope offsets entries widths slots frame : List ℕ) (depth at : ℕ)
-    (a : AsksLeafAt nums directory ends scope offsets entries widths slots frame depth at) where
+module _ (nums directory ends scope slots frame : List ℕ) (depth at : ℕ)
+    (a : AsksLeafAt nums directory ends scope slots frame depth at) where
   leaf-going : Goes (counterOf slots) (tick (leafIn (a .asks .scopeOf) (a .asks .expr)) (a .asks .state))
   leaf-going = rw (leaf-is (a .leaf) (a .asks .scopeOf) (a .asks .used) (a .asks .state) (a .asks .stands)) at
       (a .asks .going)
@@ -53,7 +53,7 @@ module _ (nums directory ends scope offsets entries widths slots frame : List �
   leaf-count = count-asks (a .asks .stage) _ leaf-going
 
   pub leaf-asks : (slots₁ : List ℕ) → Counts slots slots₁
-      → AsksLeaf nums directory ends scope offsets slots₁ frame at
+      → AsksLeaf nums directory ends scope slots₁ frame at
   leaf-asks slots₁ c = record {
     scopeOf = a .asks .scopeOf;
     state = a .asks .state;
@@ -66,11 +66,11 @@ module _ (nums directory ends scope offsets entries widths slots frame : List �
   }
 
   leaf-ran : (slots₁ : List ℕ) (ty number : ℕ) → Counts slots slots₁
-      → GivesLeaf nums directory ends scope offsets slots₁ frame at ty number
+      → GivesLeaf nums directory ends scope slots₁ frame at ty number
       → (Γ : Scope) (used : ℕ) (es : List Entry) (s : State) (e : Expr)
-      → Stage nums directory ends scope offsets entries widths slots frame Γ used es s → StandsExpr nums ends depth at e
+      → Stage nums directory ends scope slots frame Γ used es s → StandsExpr nums ends depth at e
       → Goes (counterOf slots) (exprIn Γ used e s)
-      → Ran nums directory ends scope offsets slots slots₁ frame frame Γ (exprIn Γ used e s) (Gave ty number)
+      → Ran nums directory ends scope slots slots₁ frame frame Γ (exprIn Γ used e s) (Gave ty number)
   leaf-ran slots₁ ty number c v Γ used es s e st w g =
       let same : exprIn Γ used e s ≡ tick (leafIn Γ e) s = leaf-is (a .leaf) Γ used s w in
       let stage = stage-counted st c in
@@ -80,43 +80,46 @@ module _ (nums directory ends scope offsets entries widths slots frame : List �
       (record { is = refl; isValue = h .isValue })))
 
   pub leaf-runs : (slots₁ : List ℕ) (r : values.Value) → Counts slots slots₁
-      → GivesLeaf nums directory ends scope offsets slots₁ frame at (r .ty) (r .number)
-      → RunsExpr nums directory ends scope offsets entries widths slots slots₁ frame frame depth at r
+      → GivesLeaf nums directory ends scope slots₁ frame at (r .ty) (r .number)
+      → RunsExpr nums directory ends scope slots slots₁ frame frame depth at r
   leaf-runs slots₁ r c v = record { runs = leaf-ran slots₁ (r .ty) (r .number) c v }
 
 pub ruleset leafRuns = (leaf-count, leaf-asks, leaf-runs)
 
 -- one operand, at any stage
-module _ {nums directory ends scope offsets entries widths slots slots₁ frame : List ℕ} {depth first : ℕ} {Γ : Scope}
+module _ {nums directory ends scope slots slots₁ frame : List ℕ} {depth first : ℕ} {Γ : Scope}
     {used : ℕ} {es : List Entry} {s : State} {e : Expr} (o : OneIn nums ends depth first e)
-    (st : Stage nums directory ends scope offsets entries widths slots frame Γ used es s) (c : Counts slots slots₁)
+    (st : Stage nums directory ends scope slots frame Γ used es s) (c : Counts slots slots₁)
     (g : Goes (counterOf slots) (exprIn Γ used e s)) where
   one-begun : Begun (counterOf slots₁) (exprIn Γ used (o .operand)) (λ v. orStuck (onOne e v)) s
   one-begun = then-goes _ _ s (going-counted st _ c (rw (one-is o Γ used s) at g))
 
   module _ {slots₂ frame₂ : List ℕ} {v : values.Value}
-      (h : Ran nums directory ends scope offsets slots₁ slots₂ frame frame₂ Γ (exprIn Γ used (o .operand) s)
+      (h : Ran nums directory ends scope slots₁ slots₂ frame frame₂ Γ (exprIn Γ used (o .operand) s)
       (Gave (v .ty) (v .number))) where
     one-known : Known (onOne e (valueOf (v .ty) (v .number)))
     one-known = rw (h .answers .is) at (some-goes (onOne e (h .answer)) (h .state)
         (going-rest (stage-counted st c) (exprIn Γ used (o .operand)) (λ v. orStuck (onOne e v)) one-begun h))
 
     one-ran : {ty number : ℕ} → Gives (onOne e (valueOf (v .ty) (v .number))) ty number
-        → Ran nums directory ends scope offsets slots slots₂ frame frame₂ Γ (exprIn Γ used e s) (Gave ty number)
+        → Ran nums directory ends scope slots slots₂ frame frame₂ Γ (exprIn Γ used e s) (Gave ty number)
     one-ran {ty} {number} k =
         let given : onOne e (h .answer) ≡ some (valueOf ty number) = rw (h .answers .is) (k .given) in
         rw (one-is o Γ used s) (ran-counted st _ c (ran-then (exprIn Γ used (o .operand)) (λ v. orStuck (onOne e v)) s h
         (ran-here (h .state) (valueOf ty number) (h .scene) (some-is (onOne e (h .answer)) (h .state) given)
         (record { is = refl; isValue = k .isValue }))))
 
-module _ (nums directory ends scope offsets entries widths slots frame : List ℕ) (depth at first : ℕ)
-    (a : AsksOne nums directory ends scope offsets entries widths slots frame depth at first) where
+module _ (nums directory ends scope slots frame : List ℕ) (depth at first : ℕ)
+    (a : AsksOne nums directory ends scope slots frame depth at first) where
   one-form : OneIn nums ends depth first (a .asks .expr)
   one-form = a .one .one (a .asks .expr) (a .asks .stands)
 
   pub one-count : AsksCount slots
   one-count = count-asks (a .asks .stage) _
       (rw (one-is one-form (a .asks .scopeOf) (a .asks .used) (a .asks .state)) at (a .asks .going))
+
+  pub one-low : first < 2 ^ 64
+  one-low = omega (arith, expr-begins (one-form .stands) .inside, a .asks .stage .scene .scopes .program .numbers)
 
   pub one-levels : 1 ≤ depth
   one-levels = expr-begins (a .asks .stands) .levels
@@ -126,7 +129,7 @@ module _ (nums directory ends scope offsets entries widths slots frame : List �
   one-fall t e = rank-lower t (getD scope 0 0) (32 * depth + 19) (32 * (depth - 1) + 20) e (omega (arith, one-levels))
 
   module _ (slots₁ : List ℕ) (c : Counts slots slots₁) where
-    pub one-operand : AsksExpr nums directory ends scope offsets entries widths slots₁ frame (depth - 1) first
+    pub one-operand : AsksExpr nums directory ends scope slots₁ frame (depth - 1) first
     one-operand = record {
       scopeOf = a .asks .scopeOf;
       used = a .asks .used;
@@ -140,12 +143,12 @@ module _ (nums directory ends scope offsets entries widths slots frame : List �
     }
 
     module _ (slots₂ frame₂ : List ℕ) (v : values.Value)
-        (r : RunsExpr nums directory ends scope offsets entries widths slots₁ slots₂ frame frame₂ (depth - 1) first v)
+        (r : RunsExpr nums directory ends scope slots₁ slots₂ frame frame₂ (depth - 1) first v)
       where
         operand-ran : (Γ : Scope) (used : ℕ) (es : List Entry) (s : State) (e : Expr) (o : OneIn nums ends depth first e)
-            → Stage nums directory ends scope offsets entries widths slots frame Γ used es s
+            → Stage nums directory ends scope slots frame Γ used es s
             → Goes (counterOf slots) (exprIn Γ used e s)
-            → Ran nums directory ends scope offsets slots₁ slots₂ frame frame₂ Γ (exprIn Γ used (o .operand) s)
+            → Ran nums directory ends scope slots₁ slots₂ frame frame₂ Γ (exprIn Γ used (o .operand) s)
             (Gave (v .ty) (v .number))
         operand-ran Γ used es s e o st g =
             r .runs Γ used es s (o .operand) (stage-counted st c) (o .stands) (one-begun o st c g .first)
@@ -167,7 +170,7 @@ module _ (nums directory ends scope offsets entries widths slots frame : List �
             }
 
         pub one-runs : (x : values.Value) → GivesOne nums at (v .ty) (v .number) (x .ty) (x .number)
-            → RunsExpr nums directory ends scope offsets entries widths slots slots₂ frame frame₂ depth at x
+            → RunsExpr nums directory ends scope slots slots₂ frame frame₂ depth at x
         one-runs x y = record {
           runs = λ Γ used es s e st w g.
               let o : OneIn nums ends depth first e = a .one .one e w in
@@ -176,7 +179,7 @@ module _ (nums directory ends scope offsets entries widths slots frame : List �
               one-ran o st c g h (y .gives ends depth e (k .member) w (k .is));
         }
 
-pub ruleset oneRuns = (one-count, one-levels, one-fall, one-operand, one-on, one-runs)
+pub ruleset oneRuns = (one-count, one-low, one-levels, one-fall, one-operand, one-on, one-runs)
 
 -- two operands: what follows the first
 unfoldable pub pairAfter : Expr → Value → M State Value → M State Value
@@ -282,9 +285,9 @@ after-goes : (e : Expr) (v : Value) (second : M State Value) (s : State) → sto
 unfolding pairAfter
 after-goes e v second s q = rw (q, pairAfter) refl
 
-module _ {nums directory ends scope offsets entries widths slots slots₁ frame : List ℕ} {depth first : ℕ} {Γ : Scope}
+module _ {nums directory ends scope slots slots₁ frame : List ℕ} {depth first : ℕ} {Γ : Scope}
     {used : ℕ} {es : List Entry} {s : State} {e : Expr} (o : TwoIn nums ends depth first e)
-    (st : Stage nums directory ends scope offsets entries widths slots frame Γ used es s) (c : Counts slots slots₁)
+    (st : Stage nums directory ends scope slots frame Γ used es s) (c : Counts slots slots₁)
     (g : Goes (counterOf slots) (exprIn Γ used e s)) where
   abbrev L : M State Value
   L = exprIn Γ used (o .left)
@@ -299,7 +302,7 @@ module _ {nums directory ends scope offsets entries widths slots slots₁ frame 
   left-goes = pair-first L R s (counterOf slots₁) e pair-goes
 
   module _ {slots₂ frame₂ : List ℕ} {v : values.Value}
-      (h : Ran nums directory ends scope offsets slots₁ slots₂ frame frame₂ Γ (L s) (Gave (v .ty) (v .number))) where
+      (h : Ran nums directory ends scope slots₁ slots₂ frame frame₂ Γ (L s) (Gave (v .ty) (v .number))) where
     abbrev w : Value
     w = valueOf (v .ty) (v .number)
 
@@ -313,17 +316,17 @@ module _ {nums directory ends scope offsets entries widths slots slots₁ frame 
 
     -- what the whole comes to, from what follows the first
     whole-ran : {slots₃ frame₃ : List ℕ} {Answers : Value → Type 0}
-        → Ran nums directory ends scope offsets slots₂ slots₃ frame₂ frame₃ Γ (pairAfter e w R (h .state)) Answers
-        → Ran nums directory ends scope offsets slots slots₃ frame frame₃ Γ (exprIn Γ used e s) Answers
+        → Ran nums directory ends scope slots₂ slots₃ frame₂ frame₃ Γ (pairAfter e w R (h .state)) Answers
+        → Ran nums directory ends scope slots slots₃ frame frame₃ Γ (exprIn Γ used e s) Answers
     whole-ran {slots₃} {frame₃} {Answers} k =
-        let there : Ran nums directory ends scope offsets slots₂ slots₃ frame₂ frame₃ Γ
+        let there : Ran nums directory ends scope slots₂ slots₃ frame₂ frame₃ Γ
         (pairAfter e (h .answer) R (h .state)) Answers
         = rw (h .answers .is) k in
         rw (two-is o Γ used s) (ran-counted st (pairWith e L R) c (rw after-equal (ran-then L (λ x. pairAfter e x R) s
         h there)))
 
     stops-ran : stopsAt e w ≡ true
-        → Ran nums directory ends scope offsets slots slots₂ frame frame₂ Γ (exprIn Γ used e s)
+        → Ran nums directory ends scope slots slots₂ frame frame₂ Γ (exprIn Γ used e s)
         (Gave (v .ty) (v .number))
     stops-ran q = whole-ran (ran-here (h .state) w (h .scene) (after-stops e w R (h .state) q)
         (record { is = refl; isValue = h .answers .isValue }))
@@ -334,28 +337,31 @@ module _ {nums directory ends scope offsets entries widths slots slots₁ frame 
           (rw (after-goes e w R (h .state) q) at after-going)
 
       module _ {slots₃ frame₃ : List ℕ} {u : values.Value}
-          (k : Ran nums directory ends scope offsets slots₂ slots₃ frame₂ frame₃ Γ (R (h .state))
+          (k : Ran nums directory ends scope slots₂ slots₃ frame₂ frame₃ Γ (R (h .state))
           (Gave (u .ty) (u .number))) where
         two-known : Known (onTwo e w (valueOf (u .ty) (u .number)))
         two-known = rw (k .answers .is) at (some-goes (onTwo e w (k .answer)) (k .state)
             (going-rest (stage-ran (stage-counted st c) h) R (λ x. orStuck (onTwo e w x)) right-begun k))
 
         two-ran : {ty number : ℕ} → Gives (onTwo e w (valueOf (u .ty) (u .number))) ty number
-            → Ran nums directory ends scope offsets slots slots₃ frame frame₃ Γ (exprIn Γ used e s) (Gave ty number)
+            → Ran nums directory ends scope slots slots₃ frame frame₃ Γ (exprIn Γ used e s) (Gave ty number)
         two-ran {ty} {number} y =
             let given : onTwo e w (k .answer) ≡ some (valueOf ty number) = rw (k .answers .is) (y .given) in
             whole-ran (rw (after-goes e w R (h .state) q) (ran-then R (λ x. orStuck (onTwo e w x)) (h .state) k
             (ran-here (k .state) (valueOf ty number) (k .scene) (some-is (onTwo e w (k .answer)) (k .state) given)
             (record { is = refl; isValue = y .isValue }))))
 
-module _ (nums directory ends scope offsets entries widths slots frame : List ℕ) (depth at first : ℕ)
-    (a : AsksTwo nums directory ends scope offsets entries widths slots frame depth at first) where
+module _ (nums directory ends scope slots frame : List ℕ) (depth at first : ℕ)
+    (a : AsksTwo nums directory ends scope slots frame depth at first) where
   two-form : TwoIn nums ends depth first (a .asks .expr)
   two-form = a .two .two (a .asks .expr) (a .asks .stands)
 
   pub two-count : AsksCount slots
   two-count = count-asks (a .asks .stage) _
       (rw (two-is two-form (a .asks .scopeOf) (a .asks .used) (a .asks .state)) at (a .asks .going))
+
+  pub two-low : first < 2 ^ 64
+  two-low = omega (arith, expr-begins (two-form .leftStands) .inside, a .asks .stage .scene .scopes .program .numbers)
 
   pub two-levels : 1 ≤ depth
   two-levels = expr-begins (a .asks .stands) .levels
@@ -377,7 +383,7 @@ module _ (nums directory ends scope offsets entries widths slots frame : List �
   two-inside = omega (arith, expr-begins (two-form .leftStands) .inside, a .asks .stage .scene .scopes .program .room)
 
   module _ (slots₁ : List ℕ) (c : Counts slots slots₁) where
-    pub two-left : AsksExpr nums directory ends scope offsets entries widths slots₁ frame (depth - 1) first
+    pub two-left : AsksExpr nums directory ends scope slots₁ frame (depth - 1) first
     two-left = record {
       scopeOf = a .asks .scopeOf;
       used = a .asks .used;
@@ -391,18 +397,18 @@ module _ (nums directory ends scope offsets entries widths slots frame : List �
     }
 
     module _ (slots₂ frame₂ : List ℕ) (v : values.Value)
-        (r : RunsExpr nums directory ends scope offsets entries widths slots₁ slots₂ frame frame₂ (depth - 1) first v)
+        (r : RunsExpr nums directory ends scope slots₁ slots₂ frame frame₂ (depth - 1) first v)
       where
         left-ran : (Γ : Scope) (used : ℕ) (es : List Entry) (s : State) (e : Expr) (o : TwoIn nums ends depth first e)
-            → Stage nums directory ends scope offsets entries widths slots frame Γ used es s
+            → Stage nums directory ends scope slots frame Γ used es s
             → Goes (counterOf slots) (exprIn Γ used e s)
-            → Ran nums directory ends scope offsets slots₁ slots₂ frame frame₂ Γ (exprIn Γ used (o .left) s)
+            → Ran nums directory ends scope slots₁ slots₂ frame frame₂ Γ (exprIn Γ used (o .left) s)
             (Gave (v .ty) (v .number))
         left-ran Γ used es s e o st g =
             r .runs Γ used es s (o .left) (stage-counted st c) (o .leftStands) (left-goes o st c g)
 
         pub two-stops : (q : Bool) → TellsStop nums at (v .ty) (v .number) q → q ≡ true
-            → RunsExpr nums directory ends scope offsets entries widths slots slots₂ frame frame₂ depth at v
+            → RunsExpr nums directory ends scope slots slots₂ frame frame₂ depth at v
         two-stops q y k = record {
           runs = λ Γ used es s e st w g.
               let o : TwoIn nums ends depth first e = a .two .two e w in
@@ -412,7 +418,7 @@ module _ (nums directory ends scope offsets entries widths slots frame : List �
 
         module _ (q : Bool) (y : TellsStop nums at (v .ty) (v .number) q) (k : q ≡ false) where
           pub two-right : (second : ℕ) → second ≡ getD ends first 0
-              → AsksExpr nums directory ends scope offsets entries widths slots₂ frame₂ (depth - 1) second
+              → AsksExpr nums directory ends scope slots₂ frame₂ (depth - 1) second
           two-right second same =
               let h = left-ran (a .asks .scopeOf) (a .asks .used) (a .asks .entryList) (a .asks .state) (a .asks .expr)
               two-form (a .asks .stage) (a .asks .going) in
@@ -430,14 +436,14 @@ module _ (nums directory ends scope offsets entries widths slots frame : List �
               })
 
           module _ (slots₃ frame₃ : List ℕ) (u : values.Value) (second : ℕ) (same : second ≡ getD ends first 0)
-              (r₂ : RunsExpr nums directory ends scope offsets entries widths slots₂ slots₃ frame₂ frame₃ (depth - 1)
+              (r₂ : RunsExpr nums directory ends scope slots₂ slots₃ frame₂ frame₃ (depth - 1)
               second u) where
             right-ran : (Γ : Scope) (used : ℕ) (es : List Entry) (s : State) (e : Expr)
                 (o : TwoIn nums ends depth first e)
                 → (w : StandsExpr nums ends depth at e)
-                → (st : Stage nums directory ends scope offsets entries widths slots frame Γ used es s)
+                → (st : Stage nums directory ends scope slots frame Γ used es s)
                 → (g : Goes (counterOf slots) (exprIn Γ used e s))
-                → Ran nums directory ends scope offsets slots₂ slots₃ frame₂ frame₃ Γ
+                → Ran nums directory ends scope slots₂ slots₃ frame₂ frame₃ Γ
                 (exprIn Γ used (o .right) (left-ran Γ used es s e o st g .state)) (Gave (u .ty) (u .number))
             right-ran Γ used es s e o w st g =
                 let h = left-ran Γ used es s e o st g in
@@ -466,7 +472,7 @@ module _ (nums directory ends scope offsets entries widths slots frame : List �
 
             pub two-runs : (x : values.Value)
                 → GivesTwo nums at (v .ty) (v .number) (u .ty) (u .number) (x .ty) (x .number)
-                → RunsExpr nums directory ends scope offsets entries widths slots slots₃ frame frame₃ depth at x
+                → RunsExpr nums directory ends scope slots slots₃ frame frame₃ depth at x
             two-runs x z = record {
               runs = λ Γ used es s e st w g.
                   let o : TwoIn nums ends depth first e = a .two .two e w in
@@ -478,11 +484,11 @@ module _ (nums directory ends scope offsets entries widths slots frame : List �
             }
 
 pub ruleset twoRuns =
-    (two-count, two-levels, two-fall, two-stop, two-inside, two-left, two-stops, two-right, two-on, two-runs)
+    (two-count, two-low, two-levels, two-fall, two-stop, two-inside, two-left, two-stops, two-right, two-on, two-runs)
 
 -- an expression by its tag
-module _ (nums directory ends scope offsets entries widths slots frame : List ℕ) (depth at : ℕ)
-    (a : AsksExpr nums directory ends scope offsets entries widths slots frame depth at) where
+module _ (nums directory ends scope slots frame : List ℕ) (depth at : ℕ)
+    (a : AsksExpr nums directory ends scope slots frame depth at) where
   pub expr-inside : at < length nums
   expr-inside = expr-begins (a .stands) .inside
 
@@ -496,19 +502,19 @@ module _ (nums directory ends scope offsets entries widths slots frame : List �
   expr-third = omega (arith, expr-inside, a .stage .scene .scopes .program .numbers)
 
   pub expr-leaf : LeafAt nums ends depth at
-      → AsksLeafAt nums directory ends scope offsets entries widths slots frame depth at
+      → AsksLeafAt nums directory ends scope slots frame depth at
   expr-leaf l = record { asks = a; leaf = l }
 
   pub expr-one : (first : ℕ) → OneAt nums ends depth at first
-      → AsksOne nums directory ends scope offsets entries widths slots frame depth at first
+      → AsksOne nums directory ends scope slots frame depth at first
   expr-one first o = record { asks = a; one = o }
 
   pub expr-two : (first : ℕ) → TwoAt nums ends depth at first
-      → AsksTwo nums directory ends scope offsets entries widths slots frame depth at first
+      → AsksTwo nums directory ends scope slots frame depth at first
   expr-two first o = record { asks = a; two = o }
 
   pub expr-value : getD nums at 0 ≡ 13
-      → AsksValue nums directory ends scope offsets entries widths slots frame depth at
+      → AsksValue nums directory ends scope slots frame depth at
   expr-value q = record { asks = a; tagged = q }
 
 pub expr-fall : (scope : List ℕ) (depth t : ℕ) → rank (getD scope 0 0) (32 * depth + 20) ≡ t

@@ -61,9 +61,9 @@ numbers-kept keys j n m (w ∷ ws) h k = (
 )
 
 -- at any stage
-module _ (P : Program) {nums directory ends scope offsets entries widths slots frame keys : List ℕ}
+module _ (P : Program) {nums directory ends scope slots frame keys : List ℕ}
     {j from count : ℕ} {used : ℕ} {es : List Entry} {s : State} {k : Key} {ks : List Key}
-    (st : Stage nums directory ends scope offsets entries widths slots frame (applyScope P) used es s)
+    (st : Stage nums directory ends scope slots frame (applyScope P) used es s)
     (w : KeysAt nums ends keys j from count (k ∷ ks))
     (g : Goes (counterOf slots) (keysIn P used (k ∷ ks) s)) where
   keys-begun : Begun (counterOf slots) (exprIn (applyScope P) used (k .expr)) (thenKeys P used ks) s
@@ -74,7 +74,7 @@ module _ (P : Program) {nums directory ends scope offsets entries widths slots f
   first-stands = w .stand .1 .1 .0
 
   module _ {slots₁ frame₁ : List ℕ} {v : values.Value}
-      (h : Ran nums directory ends scope offsets slots slots₁ frame frame₁ (applyScope P)
+      (h : Ran nums directory ends scope slots slots₁ frame frame₁ (applyScope P)
       (exprIn (applyScope P) used (k .expr) s) (Gave (v .ty) (v .number))) where
     first-worked : Found (counterOf slots₁) (worked (h .answer)) (thenKey P used ks) (h .state)
     first-worked = some-then-goes (worked (h .answer)) (thenKey P used ks) (h .state)
@@ -93,25 +93,25 @@ module _ (P : Program) {nums directory ends scope offsets entries widths slots f
     }
 
     module _ {slots₂ frame₂ : List ℕ} (keys₁ : List ℕ) (same : length keys₁ ≡ length keys)
-        (r : Ran nums directory ends scope offsets slots₁ slots₂ frame₁ frame₂ (applyScope P)
+        (r : Ran nums directory ends scope slots₁ slots₂ frame₁ frame₂ (applyScope P)
         (keysIn P used ks (h .state)) (KeyNumbers keys₁ (j + 1))) where
       slot-inside : j < length keys₁
       slot-inside = omega (arith, same, w .slots, w .inside, w .counts)
 
-      keys-ran : Ran nums directory ends scope offsets slots slots₂ frame frame₂ (applyScope P)
+      keys-ran : Ran nums directory ends scope slots slots₂ frame frame₂ (applyScope P)
           (keysIn P used (k ∷ ks) s) (KeyNumbers (set keys₁ j (v .number)) j)
       unfolding KeyNumbers pure
       keys-ran =
           let number : v .number ≡ first-worked .member .number
           = worked-number (v .ty) (v .number) (h .answer) (first-worked .member) (h .answers) (first-worked .is) in
-          let others : Ran nums directory ends scope offsets slots₁ slots₂ frame₁ frame₂ (applyScope P)
+          let others : Ran nums directory ends scope slots₁ slots₂ frame₁ frame₂ (applyScope P)
           (thenKey P used ks (first-worked .member) (h .state)) (KeyNumbers (set keys₁ j (v .number)) j)
           = ran-then (keysIn P used ks) (λ ws. pure (first-worked .member ∷ ws)) (h .state) r
           (ran-here (r .state) (first-worked .member ∷ r .answer) (r .scene) refl (
             getD-set-same keys₁ j (v .number) 0 slot-inside ∙ number,
             numbers-kept keys₁ j (v .number) (j + 1) (r .answer) (omega arith) (r .answers),
           )) in
-          let all : Ran nums directory ends scope offsets slots₁ slots₂ frame₁ frame₂ (applyScope P)
+          let all : Ran nums directory ends scope slots₁ slots₂ frame₁ frame₂ (applyScope P)
           (thenKeys P used ks (h .answer) (h .state)) (KeyNumbers (set keys₁ j (v .number)) j)
           = rw (some-then-is (worked (h .answer)) (thenKey P used ks) (h .state) (first-worked .is)) others in
           rw (keys-split P used s k ks) (ran-then (exprIn (applyScope P) used (k .expr)) (thenKeys P used ks) s h all)
@@ -131,13 +131,13 @@ apart : {nums ends keys : List ℕ} {j from count : ℕ} (P : Program) (used : �
 apart P used s [] x w g = absurd (x (w .counts))
 apart P used s (k ∷ ks) x w g = record { key = k; others = ks; at = w; going = g; is = refl }
 
-module _ (nums directory ends scope offsets entries widths slots frame keys : List ℕ) (j from count : ℕ) where
-  module _ (a : AsksKeys nums directory ends scope offsets entries widths slots frame keys j from count)
+module _ (nums directory ends scope slots frame keys : List ℕ) (j from count : ℕ) where
+  module _ (a : AsksKeys nums directory ends scope slots frame keys j from count)
       (x : count ≡ 0 → ⊥) where
     parts : Apart nums ends keys j from count (a .program) (a .used) (a .state) (counterOf slots) (a .keyList)
     parts = apart (a .program) (a .used) (a .state) (a .keyList) x (a .keyed) (a .going)
 
-    pub keys-expr : AsksExpr nums directory ends scope offsets entries widths slots frame 32 (from + 1)
+    pub keys-expr : AsksExpr nums directory ends scope slots frame 32 (from + 1)
     keys-expr = record {
       scopeOf = applyScope (a .program);
       used = a .used;
@@ -171,9 +171,9 @@ module _ (nums directory ends scope offsets entries widths slots frame keys : Li
     keys-fall t e = rank-lower t (getD scope 0 0) (1400 + count) (1400 + (count - 1)) e (omega (arith, x))
 
     pub keys-rest : (slots₁ frame₁ : List ℕ) (v : values.Value) (next : ℕ)
-        → RunsExpr nums directory ends scope offsets entries widths slots slots₁ frame frame₁ 32 (from + 1) v
+        → RunsExpr nums directory ends scope slots slots₁ frame frame₁ 32 (from + 1) v
         → next ≡ getD ends (from + 1) 0
-        → AsksKeys nums directory ends scope offsets entries widths slots₁ frame₁ keys (j + 1) next (count - 1)
+        → AsksKeys nums directory ends scope slots₁ frame₁ keys (j + 1) next (count - 1)
     keys-rest slots₁ frame₁ v next r same =
         let h = r .runs (applyScope (a .program)) (a .used) (a .entryList) (a .state) (parts .key .expr) (a .stage)
         (first-stands (a .program) (a .stage) (parts .at) (parts .going)) (keys-begun (a .program) (a .stage) (parts .at) (parts .going) .first) in
@@ -189,18 +189,18 @@ module _ (nums directory ends scope offsets entries widths slots frame keys : Li
         })
 
     pub keys-write : (slots₁ slots₂ frame₁ frame₂ keys₁ : List ℕ) (next : ℕ)
-        → RunsKeys nums directory ends scope offsets entries widths slots₁ slots₂ frame₁ frame₂ keys keys₁ (j + 1) next
+        → RunsKeys nums directory ends scope slots₁ slots₂ frame₁ frame₂ keys keys₁ (j + 1) next
         (count - 1)
         → j < length keys₁
     keys-write slots₁ slots₂ frame₁ frame₂ keys₁ next q =
         omega (arith, q .same, a .keyed .slots, a .keyed .inside, x)
 
   pub keys-runs : (slots₁ slots₂ frame₁ frame₂ keys₁ : List ℕ) (v : values.Value) (next : ℕ) → (count ≡ 0 → ⊥)
-      → RunsExpr nums directory ends scope offsets entries widths slots slots₁ frame frame₁ 32 (from + 1) v
+      → RunsExpr nums directory ends scope slots slots₁ frame frame₁ 32 (from + 1) v
       → next ≡ getD ends (from + 1) 0
-      → RunsKeys nums directory ends scope offsets entries widths slots₁ slots₂ frame₁ frame₂ keys keys₁ (j + 1) next
+      → RunsKeys nums directory ends scope slots₁ slots₂ frame₁ frame₂ keys keys₁ (j + 1) next
       (count - 1)
-      → RunsKeys nums directory ends scope offsets entries widths slots slots₂ frame frame₂ keys
+      → RunsKeys nums directory ends scope slots slots₂ frame frame₂ keys
       (set keys₁ j (v .number)) j from count
   keys-runs slots₁ slots₂ frame₁ frame₂ keys₁ v next x r same q = record {
     same = length-set keys₁ j (v .number) ∙ q .same;
@@ -209,21 +209,21 @@ module _ (nums directory ends scope offsets entries widths slots frame keys : Li
   }
     where
       whole : (P : Program) (used : ℕ) (es : List Entry) (s : State) (ks : List Key)
-          → Stage nums directory ends scope offsets entries widths slots frame (applyScope P) used es s
+          → Stage nums directory ends scope slots frame (applyScope P) used es s
           → Apart nums ends keys j from count P used s (counterOf slots) ks
-          → Ran nums directory ends scope offsets slots slots₂ frame frame₂ (applyScope P) (keysIn P used ks s)
+          → Ran nums directory ends scope slots slots₂ frame frame₂ (applyScope P) (keysIn P used ks s)
           (KeyNumbers (set keys₁ j (v .number)) j)
       whole P used es s ks st p =
           let h = r .runs (applyScope P) used es s (p .key .expr) st (first-stands P st (p .at) (p .going))
           (keys-begun P st (p .at) (p .going) .first) in
-          let there : RunsKeys nums directory ends scope offsets entries widths slots₁ slots₂ frame₁ frame₂ keys keys₁
+          let there : RunsKeys nums directory ends scope slots₁ slots₂ frame₁ frame₂ keys keys₁
           (j + 1) (getD ends (from + 1) 0) (count - 1) = rw same at q in
           let k = there .runs P used es (h .state) (p .others) (stage-ran st h) (others-at P st (p .at) (p .going) h)
           (others-begun P st (p .at) (p .going) h .first) in
           rw (p .is) (keys-ran P st (p .at) (p .going) h keys₁ (q .same) k)
 
   pub keys-none : count ≡ 0
-      → RunsKeys nums directory ends scope offsets entries widths slots slots frame frame keys keys j from count
+      → RunsKeys nums directory ends scope slots slots frame frame keys keys j from count
   unfolding KeyNumbers
   keys-none e = record {
     same = refl;

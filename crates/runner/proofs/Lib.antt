@@ -14,4 +14,5 @@ mod Keying
 mod Actions
 mod Applying
 mod Tabling
+pub mod Prepared
 mod Wholly

@@ -61,9 +61,9 @@ back-laid frame own part ns h same few l = record {
 }
 
 -- a slot behind a body's own is no part of its scene
-pub scene-kept : {nums directory ends scope offsets slots frame : List ℕ} {Γ : Scope} {s : State} (slot n : ℕ)
-    → Scene nums directory ends scope offsets slots frame Γ s → ownOf Γ ≤ slot
-    → Scene nums directory ends scope offsets slots (set frame slot n) Γ s
+pub scene-kept : {nums directory ends scope slots frame : List ℕ} {Γ : Scope} {s : State} (slot n : ℕ)
+    → Scene nums directory ends scope slots frame Γ s → ownOf Γ ≤ slot
+    → Scene nums directory ends scope slots (set frame slot n) Γ s
 scene-kept {frame = frame} {Γ = Γ} {s = s} slot n h own =
     let few : length (s .parameters) + length (s .locals) ≡ ownOf Γ
     = omega (arith, all2-length (h .fits .parameters-fit), all2-length (h .fits .locals-fit)) in

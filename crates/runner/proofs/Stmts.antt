@@ -34,17 +34,17 @@ use Rattle.runner.proofs.Forming.{single-form}
 use Rattle.runner.proofs.Exprs.{value-fits, fitting}
 
 -- by its tag
-module _ (nums directory ends scope offsets entries widths slots frame : List ℕ) (depth at : ℕ)
-    (a : AsksStmt nums directory ends scope offsets entries widths slots frame depth at) where
+module _ (nums directory ends scope slots frame : List ℕ) (depth at : ℕ)
+    (a : AsksStmt nums directory ends scope slots frame depth at) where
   pub stmt-inside : at < length nums
   stmt-inside = stmt-begins (a .stands) .inside
 
   pub stmt-tagged : (tag : ℕ) → getD nums at 0 ≡ tag
-      → AsksTagged tag nums directory ends scope offsets entries widths slots frame depth at
+      → AsksTagged tag nums directory ends scope slots frame depth at
   stmt-tagged tag q = record { asks = a; tagged = q }
 
   pub stmt-plain : SingleAt nums ends depth at
-      → AsksPlain nums directory ends scope offsets entries widths slots frame depth at
+      → AsksPlain nums directory ends scope slots frame depth at
   stmt-plain l = record { asks = a; single = l }
 
 pub stmt-fall : (scope : List ℕ) (depth t : ℕ) → rank (getD scope 0 0) (2000 + 32 * depth + 20) ≡ t
@@ -70,8 +70,8 @@ stmt-below Γ used es s counted (exit at) g = tick-below _ s g
 stmt-below Γ used es s counted (setValid at n) g = tick-below _ s g
 stmt-below Γ used es s counted (setInvalid at n) g = tick-below _ s g
 
-module _ (tag : ℕ) (nums directory ends scope offsets entries widths slots frame : List ℕ) (depth at : ℕ)
-    (a : AsksTagged tag nums directory ends scope offsets entries widths slots frame depth at) where
+module _ (tag : ℕ) (nums directory ends scope slots frame : List ℕ) (depth at : ℕ)
+    (a : AsksTagged tag nums directory ends scope slots frame depth at) where
   pub tagged-count : AsksCount slots
   tagged-count = record {
     count = store-count (a .asks .stage);
@@ -107,8 +107,8 @@ single-is : {nums ends : List ℕ} {depth at : ℕ} {x : Stmt} (l : SingleAt num
 unfolding stmtIn
 single-is {x = x} l Γ used es s w = rw (l .is x w Γ used (callsOf Γ) (appliedIn Γ used es)) refl
 
-module _ (nums directory ends scope offsets entries widths slots frame : List ℕ) (depth at : ℕ)
-    (a : AsksPlain nums directory ends scope offsets entries widths slots frame depth at) where
+module _ (nums directory ends scope slots frame : List ℕ) (depth at : ℕ)
+    (a : AsksPlain nums directory ends scope slots frame depth at) where
   single-going : Goes (counterOf slots) (tick (singleIn (a .asks .scopeOf) (a .asks .stmt)) (a .asks .state))
   single-going = rw (single-is (a .single) (a .asks .scopeOf) (a .asks .used) (a .asks .entryList) (a .asks .state)
       (a .asks .stands)) at (a .asks .going)
@@ -116,9 +116,8 @@ module _ (nums directory ends scope offsets entries widths slots frame : List �
   pub single-count : AsksCount slots
   single-count = count-asks (a .asks .stage) _ single-going
 
-  pub single-asks : (slots₁ : List ℕ) → Counts slots slots₁ → AsksSingle nums offsets slots₁ at
+  pub single-asks : (slots₁ : List ℕ) → Counts slots slots₁ → AsksSingle nums directory slots₁ at
   single-asks slots₁ c = record {
-    directory = directory;
     ends = ends;
     scope = scope;
     frame = frame;
@@ -133,12 +132,12 @@ module _ (nums directory ends scope offsets entries widths slots frame : List �
   }
 
   pub single-runs : (slots₁ slots₂ : List ℕ) (r : Ended) → Counts slots slots₁
-      → RunsSingle nums offsets slots₁ slots₂ at r
-      → RunsStmt nums directory ends scope offsets entries widths slots slots₂ frame frame depth at r
+      → RunsSingle nums directory slots₁ slots₂ at r
+      → RunsStmt nums directory ends scope slots slots₂ frame frame depth at r
   single-runs slots₁ slots₂ r c v = record {
     runs = λ Γ used es s x st w g.
         let same : stmtIn Γ used es x s ≡ tick (singleIn Γ x) s = single-is (a .single) Γ used es s w in
-        rw same (ran-counted st (singleIn Γ x) c (v .runs directory ends scope frame Γ s x depth (counterOf slots₁)
+        rw same (ran-counted st (singleIn Γ x) c (v .runs ends scope frame Γ s x depth (counterOf slots₁)
         (stage-counted st c .scene) w (going-counted st (singleIn Γ x) c (rw same at g))));
   }
 
@@ -179,25 +178,25 @@ module _ (Γ : Scope) (used : ℕ) (es : List Entry) (s : State) (at : ℕ) wher
   apply-is x t q = rw q refl
 
 -- an operand that runs first
-module _ {nums directory ends scope offsets entries widths slots slots₁ frame : List ℕ} {Γ : Scope} {used : ℕ}
+module _ {nums directory ends scope slots slots₁ frame : List ℕ} {Γ : Scope} {used : ℕ}
     {es : List Entry} {s : State} (e : Expr) (k : Value → M State Ending)
-    (st : Stage nums directory ends scope offsets entries widths slots frame Γ used es s) (c : Counts slots slots₁)
+    (st : Stage nums directory ends scope slots frame Γ used es s) (c : Counts slots slots₁)
     (g : Goes (counterOf slots) (tick (exprIn Γ used e >>= k) s)) where
   operand-begun : Begun (counterOf slots₁) (exprIn Γ used e) k s
   operand-begun = then-goes _ _ s (going-counted st _ c g)
 
   module _ {slots₂ frame₂ : List ℕ} {v : values.Value}
-      (h : Ran nums directory ends scope offsets slots₁ slots₂ frame frame₂ Γ (exprIn Γ used e s)
+      (h : Ran nums directory ends scope slots₁ slots₂ frame frame₂ Γ (exprIn Γ used e s)
       (Gave (v .ty) (v .number))) where
     operand-rest : Goes (counterOf slots₂) (k (valueOf (v .ty) (v .number)) (h .state))
     operand-rest = rw (h .answers .is) at (going-rest (stage-counted st c) (exprIn Γ used e) k operand-begun h)
 
     operand-ran : {slots₃ frame₃ : List ℕ} {r : Ended}
-        → Ran nums directory ends scope offsets slots₂ slots₃ frame₂ frame₃ Γ
+        → Ran nums directory ends scope slots₂ slots₃ frame₂ frame₃ Γ
         (k (valueOf (v .ty) (v .number)) (h .state)) (Ends r)
-        → Ran nums directory ends scope offsets slots slots₃ frame frame₃ Γ (tick (exprIn Γ used e >>= k) s) (Ends r)
+        → Ran nums directory ends scope slots slots₃ frame frame₃ Γ (tick (exprIn Γ used e >>= k) s) (Ends r)
     operand-ran {slots₃} {frame₃} {r} y =
-        let there : Ran nums directory ends scope offsets slots₂ slots₃ frame₂ frame₃ Γ (k (h .answer) (h .state)) (Ends r)
+        let there : Ran nums directory ends scope slots₂ slots₃ frame₂ frame₃ Γ (k (h .answer) (h .state)) (Ends r)
         = rw (h .answers .is) y in
         ran-counted st _ c (ran-then (exprIn Γ used e) k s h there)
 
@@ -215,9 +214,9 @@ written-as Γ p ty number h t =
     let same : t .number ≡ number = cc in
     (same, rw same at (value-fits (fitting h) is))
 
-module _ {nums directory ends scope offsets entries widths slots slots₁ frame : List ℕ} {depth at : ℕ} {Γ : Scope}
+module _ {nums directory ends scope slots slots₁ frame : List ℕ} {depth at : ℕ} {Γ : Scope}
     {used : ℕ} {es : List Entry} {s : State} {x : Stmt} (v : AssignView nums ends depth at x)
-    (st : Stage nums directory ends scope offsets entries widths slots frame Γ used es s) (c : Counts slots slots₁)
+    (st : Stage nums directory ends scope slots frame Γ used es s) (c : Counts slots slots₁)
     (g : Goes (counterOf slots) (stmtIn Γ used es x s)) where
   assign-same : stmtIn Γ used es x s ≡ tick (exprIn Γ used (v .value) >>= written Γ used es s at (v .place)) s
   assign-same = assign-is Γ used es s at x (v .place) (v .value) (v .same)
@@ -229,7 +228,7 @@ module _ {nums directory ends scope offsets entries widths slots slots₁ frame 
   assign-first = operand-begun (v .value) (written Γ used es s at (v .place)) st c assign-ticks .first
 
   module _ {slots₂ frame₂ : List ℕ} {y : values.Value}
-      (h : Ran nums directory ends scope offsets slots₁ slots₂ frame frame₂ Γ (exprIn Γ used (v .value) s)
+      (h : Ran nums directory ends scope slots₁ slots₂ frame frame₂ Γ (exprIn Γ used (v .value) s)
       (Gave (y .ty) (y .number))) where
     abbrev w : Value
     w = valueOf (y .ty) (y .number)
@@ -241,26 +240,26 @@ module _ {nums directory ends scope offsets entries widths slots slots₁ frame 
     assign-target : Target Γ (v .place) w
     assign-target = write-target Γ (v .place) w (h .state) (counterOf slots₂) (assign-begun .first)
 
-    assign-ran : {slots₃ frame₃ : List ℕ} → Writes nums scope offsets slots₂ slots₃ frame₂ frame₃ (at + 1) (y .number)
-        → Ran nums directory ends scope offsets slots slots₃ frame frame₃ Γ (stmtIn Γ used es x s) (Ends Onward)
+    assign-ran : {slots₃ frame₃ : List ℕ} → Writes nums directory scope slots₂ slots₃ frame₂ frame₃ (at + 1) (y .number)
+        → Ran nums directory ends scope slots slots₃ frame frame₃ Γ (stmtIn Γ used es x s) (Ends Onward)
     unfolding pure
     assign-ran {slots₃} {frame₃} z =
         let t = assign-target in
         let k = written-as Γ (v .place) (y .ty) (y .number) (h .answers .isValue) t in
-        let made : Becomes nums directory ends scope offsets slots₂ slots₃ frame₂ frame₃ Γ (h .state)
+        let made : Becomes nums directory ends scope slots₂ slots₃ frame₂ frame₃ Γ (h .state)
         (put (v .place) (y .number) (h .state))
-        = z .written directory ends .writes Γ (h .state) (v .place) (t .ty) (h .scene) (names-at v) (t .declares) (k .1) in
+        = z .written ends .writes Γ (h .state) (v .place) (t .ty) (h .scene) (names-at v) (t .declares) (k .1) in
         let put-is : writeAt Γ (v .place) w (h .state) ≡ puts (put (v .place) (y .number)) (h .state)
         = write-is Γ (v .place) w (h .state) t ∙ rw (k .0) refl in
-        let puts-ran : Ran nums directory ends scope offsets slots₂ slots₃ frame₂ frame₃ Γ
+        let puts-ran : Ran nums directory ends scope slots₂ slots₃ frame₂ frame₃ Γ
         (writeAt Γ (v .place) w (h .state)) (λ _. Unit {0})
         = rw put-is (ran-becomes (put (v .place) (y .number)) (h .state) made) in
         rw assign-same (operand-ran (v .value) (written Γ used es s at (v .place)) st c assign-ticks h
         (ran-then (writeAt Γ (v .place) w) (λ _. pure onward) (h .state) puts-ran
         (ran-here (puts-ran .state) onward (puts-ran .scene) refl ends-onward)))
 
-module _ (nums directory ends scope offsets entries widths slots frame : List ℕ) (depth at : ℕ)
-    (a : AsksTagged 1 nums directory ends scope offsets entries widths slots frame depth at) where
+module _ (nums directory ends scope slots frame : List ℕ) (depth at : ℕ)
+    (a : AsksTagged 1 nums directory ends scope slots frame depth at) where
   assign-at : (x : Stmt) → StandsStmt nums ends depth at x → AssignView nums ends depth at x
   unfolding StmtView
   assign-at x w = rw (a .tagged) at (stmt-view w)
@@ -272,7 +271,7 @@ module _ (nums directory ends scope offsets entries widths slots frame : List �
   assign-inside = omega (arith, assigns .tag .holds .inside, a .asks .stage .scene .scopes .program .room)
 
   module _ (slots₁ : List ℕ) (c : Counts slots slots₁) (value : ℕ) (same : value ≡ getD ends (at + 1) 0) where
-    pub assign-value : AsksExpr nums directory ends scope offsets entries widths slots₁ frame (depth - 1) value
+    pub assign-value : AsksExpr nums directory ends scope slots₁ frame (depth - 1) value
     assign-value = rw same (record {
       scopeOf = a .asks .scopeOf;
       used = a .asks .used;
@@ -286,23 +285,22 @@ module _ (nums directory ends scope offsets entries widths slots frame : List �
     })
 
     module _ (slots₂ frame₂ : List ℕ) (y : values.Value)
-        (r : RunsExpr nums directory ends scope offsets entries widths slots₁ slots₂ frame frame₂ (depth - 1) value y)
+        (r : RunsExpr nums directory ends scope slots₁ slots₂ frame frame₂ (depth - 1) value y)
       where
         value-ran : (Γ : Scope) (used : ℕ) (es : List Entry) (s : State) (x : Stmt) (v : AssignView nums ends depth at x)
-            → Stage nums directory ends scope offsets entries widths slots frame Γ used es s
+            → Stage nums directory ends scope slots frame Γ used es s
             → Goes (counterOf slots) (stmtIn Γ used es x s)
-            → Ran nums directory ends scope offsets slots₁ slots₂ frame frame₂ Γ (exprIn Γ used (v .value) s)
+            → Ran nums directory ends scope slots₁ slots₂ frame frame₂ Γ (exprIn Γ used (v .value) s)
             (Gave (y .ty) (y .number))
         value-ran Γ used es s x v st g =
             r .runs Γ used es s (v .value) (stage-counted st c) (rw same (v .valueStands)) (assign-first v st c g)
 
-        pub assign-write : AsksWrite nums scope offsets slots₂ frame₂ (at + 1)
+        pub assign-write : AsksWrite nums directory scope slots₂ frame₂ (at + 1)
         assign-write =
             let h = value-ran (a .asks .scopeOf) (a .asks .used) (a .asks .entryList) (a .asks .state) (a .asks .stmt)
             assigns (a .asks .stage) (a .asks .going) in
             let t = assign-target assigns (a .asks .stage) c (a .asks .going) h in
             record {
-              directory = directory;
               ends = ends;
               asks = record {
                 scopeOf = a .asks .scopeOf;
@@ -316,8 +314,8 @@ module _ (nums directory ends scope offsets entries widths slots frame : List �
             }
 
         pub assign-runs : (slots₃ frame₃ : List ℕ)
-            → Writes nums scope offsets slots₂ slots₃ frame₂ frame₃ (at + 1) (y .number)
-            → RunsStmt nums directory ends scope offsets entries widths slots slots₃ frame frame₃ depth at Onward
+            → Writes nums directory scope slots₂ slots₃ frame₂ frame₃ (at + 1) (y .number)
+            → RunsStmt nums directory ends scope slots slots₃ frame frame₃ depth at Onward
         assign-runs slots₃ frame₃ z = record {
           runs = λ Γ used es s x st w g.
               let v = assign-at x w in
@@ -347,9 +345,9 @@ chosen-more ty number counted x y s e g = go (tyOf ty) number e g
     go bool (suc n) e h = unfold choose in refl
     go (bits width) n e h = unfold choose in not-nowhere s h
 
-module _ {nums directory ends scope offsets entries widths slots slots₁ frame : List ℕ} {depth at : ℕ} {Γ : Scope}
+module _ {nums directory ends scope slots slots₁ frame : List ℕ} {depth at : ℕ} {Γ : Scope}
     {used : ℕ} {es : List Entry} {s : State} {x : Stmt} (v : IfView nums ends depth at x)
-    (st : Stage nums directory ends scope offsets entries widths slots frame Γ used es s) (c : Counts slots slots₁)
+    (st : Stage nums directory ends scope slots frame Γ used es s) (c : Counts slots slots₁)
     (g : Goes (counterOf slots) (stmtIn Γ used es x s)) where
   if-same : stmtIn Γ used es x s
       ≡ tick (exprIn Γ used (v .condition) >>= chosen Γ used es s at (v .first) (v .second)) s
@@ -363,7 +361,7 @@ module _ {nums directory ends scope offsets entries widths slots slots₁ frame 
   if-first = operand-begun (v .condition) (chosen Γ used es s at (v .first) (v .second)) st c if-ticks .first
 
   module _ {slots₂ frame₂ : List ℕ} {y : values.Value}
-      (h : Ran nums directory ends scope offsets slots₁ slots₂ frame frame₂ Γ (exprIn Γ used (v .condition) s)
+      (h : Ran nums directory ends scope slots₁ slots₂ frame frame₂ Γ (exprIn Γ used (v .condition) s)
       (Gave (y .ty) (y .number))) where
     if-rest : Goes (counterOf slots₂) (chosen Γ used es s at (v .first) (v .second) (valueOf (y .ty) (y .number))
         (h .state))
@@ -372,8 +370,8 @@ module _ {nums directory ends scope offsets entries widths slots slots₁ frame 
     branch-ran : {slots₃ frame₃ : List ℕ} {r : Ended} (z : Stmt)
         → chosen Γ used es s at (v .first) (v .second) (valueOf (y .ty) (y .number)) (h .state)
         ≡ stmtIn Γ used es z (h .state)
-        → Ran nums directory ends scope offsets slots₂ slots₃ frame₂ frame₃ Γ (stmtIn Γ used es z (h .state)) (Ends r)
-        → Ran nums directory ends scope offsets slots slots₃ frame frame₃ Γ (stmtIn Γ used es x s) (Ends r)
+        → Ran nums directory ends scope slots₂ slots₃ frame₂ frame₃ Γ (stmtIn Γ used es z (h .state)) (Ends r)
+        → Ran nums directory ends scope slots slots₃ frame frame₃ Γ (stmtIn Γ used es x s) (Ends r)
     branch-ran z e k = rw if-same (operand-ran (v .condition) (chosen Γ used es s at (v .first) (v .second)) st c
         if-ticks h (rw e k))
 
@@ -388,8 +386,8 @@ module _ {nums directory ends scope offsets entries widths slots slots₁ frame 
     first-is q = chosen-more (y .ty) (y .number) (counterOf slots₂) (stmtIn Γ used es (v .first))
         (stmtIn Γ used es (v .second)) (h .state) q if-rest
 
-module _ (nums directory ends scope offsets entries widths slots frame : List ℕ) (depth at : ℕ)
-    (a : AsksTagged 2 nums directory ends scope offsets entries widths slots frame depth at) where
+module _ (nums directory ends scope slots frame : List ℕ) (depth at : ℕ)
+    (a : AsksTagged 2 nums directory ends scope slots frame depth at) where
   if-at : (x : Stmt) → StandsStmt nums ends depth at x → IfView nums ends depth at x
   unfolding StmtView
   if-at x w = rw (a .tagged) at (stmt-view w)
@@ -410,7 +408,7 @@ module _ (nums directory ends scope offsets entries widths slots frame : List �
       omega (arith, e, stmt-begins (ifs .firstStands) .inside, a .asks .stage .scene .scopes .program .numbers)
 
   module _ (slots₁ : List ℕ) (c : Counts slots slots₁) where
-    pub if-condition : AsksExpr nums directory ends scope offsets entries widths slots₁ frame (depth - 1) (at + 1)
+    pub if-condition : AsksExpr nums directory ends scope slots₁ frame (depth - 1) (at + 1)
     if-condition = record {
       scopeOf = a .asks .scopeOf;
       used = a .asks .used;
@@ -424,17 +422,17 @@ module _ (nums directory ends scope offsets entries widths slots frame : List �
     }
 
     module _ (slots₂ frame₂ : List ℕ) (y : values.Value)
-        (r : RunsExpr nums directory ends scope offsets entries widths slots₁ slots₂ frame frame₂ (depth - 1) (at + 1) y)
+        (r : RunsExpr nums directory ends scope slots₁ slots₂ frame frame₂ (depth - 1) (at + 1) y)
       where
         condition-ran : (Γ : Scope) (used : ℕ) (es : List Entry) (s : State) (x : Stmt) (v : IfView nums ends depth at x)
-            → Stage nums directory ends scope offsets entries widths slots frame Γ used es s
+            → Stage nums directory ends scope slots frame Γ used es s
             → Goes (counterOf slots) (stmtIn Γ used es x s)
-            → Ran nums directory ends scope offsets slots₁ slots₂ frame frame₂ Γ (exprIn Γ used (v .condition) s)
+            → Ran nums directory ends scope slots₁ slots₂ frame frame₂ Γ (exprIn Γ used (v .condition) s)
             (Gave (y .ty) (y .number))
         condition-ran Γ used es s x v st g =
             r .runs Γ used es s (v .condition) (stage-counted st c) (v .conditionStands) (if-first v st c g)
 
-        condition-known : Ran nums directory ends scope offsets slots₁ slots₂ frame frame₂ (a .asks .scopeOf)
+        condition-known : Ran nums directory ends scope slots₁ slots₂ frame frame₂ (a .asks .scopeOf)
             (exprIn (a .asks .scopeOf) (a .asks .used) (ifs .condition) (a .asks .state)) (Gave (y .ty) (y .number))
         condition-known = condition-ran (a .asks .scopeOf) (a .asks .used) (a .asks .entryList) (a .asks .state)
             (a .asks .stmt) ifs (a .asks .stage) (a .asks .going)
@@ -442,7 +440,7 @@ module _ (nums directory ends scope offsets entries widths slots frame : List �
         branch-asks : (branch : ℕ) (z : Stmt) → StandsStmt nums ends (depth - 1) branch z
             → Goes (counterOf slots₂) (stmtIn (a .asks .scopeOf) (a .asks .used) (a .asks .entryList) z
             (condition-known .state))
-            → AsksStmt nums directory ends scope offsets entries widths slots₂ frame₂ (depth - 1) branch
+            → AsksStmt nums directory ends scope slots₂ frame₂ (depth - 1) branch
         branch-asks branch z w g = record {
           scopeOf = a .asks .scopeOf;
           used = a .asks .used;
@@ -456,24 +454,24 @@ module _ (nums directory ends scope offsets entries widths slots frame : List �
         }
 
         pub if-second : (first second : ℕ) → y .number ≡ 0 → first ≡ getD ends (at + 1) 0 → second ≡ getD ends first 0
-            → AsksStmt nums directory ends scope offsets entries widths slots₂ frame₂ (depth - 1) second
+            → AsksStmt nums directory ends scope slots₂ frame₂ (depth - 1) second
         if-second first second q e d = branch-asks second (ifs .second) (rw (d, e) (ifs .secondStands))
             (rw (second-is ifs (a .asks .stage) c (a .asks .going) condition-known q) at
             (if-rest ifs (a .asks .stage) c (a .asks .going) condition-known))
 
         pub if-first-branch : (first : ℕ) → (y .number ≡ 0 → ⊥) → first ≡ getD ends (at + 1) 0
-            → AsksStmt nums directory ends scope offsets entries widths slots₂ frame₂ (depth - 1) first
+            → AsksStmt nums directory ends scope slots₂ frame₂ (depth - 1) first
         if-first-branch first q e = branch-asks first (ifs .first) (rw e (ifs .firstStands))
             (rw (first-is ifs (a .asks .stage) c (a .asks .going) condition-known q) at
             (if-rest ifs (a .asks .stage) c (a .asks .going) condition-known))
 
         module _ (slots₃ frame₃ : List ℕ) (z : Ended) where
           second-ran : (first second : ℕ) → y .number ≡ 0 → first ≡ getD ends (at + 1) 0 → second ≡ getD ends first 0
-              → RunsStmt nums directory ends scope offsets entries widths slots₂ slots₃ frame₂ frame₃ (depth - 1) second z
+              → RunsStmt nums directory ends scope slots₂ slots₃ frame₂ frame₃ (depth - 1) second z
               → (Γ : Scope) (used : ℕ) (es : List Entry) (s : State) (x : Stmt) (v : IfView nums ends depth at x)
-              → Stage nums directory ends scope offsets entries widths slots frame Γ used es s
+              → Stage nums directory ends scope slots frame Γ used es s
               → Goes (counterOf slots) (stmtIn Γ used es x s)
-              → Ran nums directory ends scope offsets slots slots₃ frame frame₃ Γ (stmtIn Γ used es x s) (Ends z)
+              → Ran nums directory ends scope slots slots₃ frame frame₃ Γ (stmtIn Γ used es x s) (Ends z)
           second-ran first second q e d k Γ used es s x v st g =
               let h = condition-ran Γ used es s x v st g in
               let same = second-is v st c g h q in
@@ -482,18 +480,18 @@ module _ (nums directory ends scope offsets entries widths slots frame : List �
 
           pub if-runs-second : (first second : ℕ) → y .number ≡ 0 → first ≡ getD ends (at + 1) 0
               → second ≡ getD ends first 0
-              → RunsStmt nums directory ends scope offsets entries widths slots₂ slots₃ frame₂ frame₃ (depth - 1) second z
-              → RunsStmt nums directory ends scope offsets entries widths slots slots₃ frame frame₃ depth at z
+              → RunsStmt nums directory ends scope slots₂ slots₃ frame₂ frame₃ (depth - 1) second z
+              → RunsStmt nums directory ends scope slots slots₃ frame frame₃ depth at z
           if-runs-second first second q e d k = record {
             runs = λ Γ used es s x st w g. second-ran first second q e d k Γ used es s x (if-at x w) st g;
           }
 
           first-ran : (first : ℕ) → (y .number ≡ 0 → ⊥) → first ≡ getD ends (at + 1) 0
-              → RunsStmt nums directory ends scope offsets entries widths slots₂ slots₃ frame₂ frame₃ (depth - 1) first z
+              → RunsStmt nums directory ends scope slots₂ slots₃ frame₂ frame₃ (depth - 1) first z
               → (Γ : Scope) (used : ℕ) (es : List Entry) (s : State) (x : Stmt) (v : IfView nums ends depth at x)
-              → Stage nums directory ends scope offsets entries widths slots frame Γ used es s
+              → Stage nums directory ends scope slots frame Γ used es s
               → Goes (counterOf slots) (stmtIn Γ used es x s)
-              → Ran nums directory ends scope offsets slots slots₃ frame frame₃ Γ (stmtIn Γ used es x s) (Ends z)
+              → Ran nums directory ends scope slots slots₃ frame frame₃ Γ (stmtIn Γ used es x s) (Ends z)
           first-ran first q e k Γ used es s x v st g =
               let h = condition-ran Γ used es s x v st g in
               let same = first-is v st c g h q in
@@ -501,17 +499,17 @@ module _ (nums directory ends scope offsets entries widths slots frame : List �
               (stage-ran (stage-counted st c) h) (rw e (v .firstStands)) (rw same at (if-rest v st c g h)))
 
           pub if-runs-first : (first : ℕ) → (y .number ≡ 0 → ⊥) → first ≡ getD ends (at + 1) 0
-              → RunsStmt nums directory ends scope offsets entries widths slots₂ slots₃ frame₂ frame₃ (depth - 1) first z
-              → RunsStmt nums directory ends scope offsets entries widths slots slots₃ frame frame₃ depth at z
+              → RunsStmt nums directory ends scope slots₂ slots₃ frame₂ frame₃ (depth - 1) first z
+              → RunsStmt nums directory ends scope slots slots₃ frame frame₃ depth at z
           if-runs-first first q e k = record {
             runs = λ Γ used es s x st w g. first-ran first q e k Γ used es s x (if-at x w) st g;
           }
 
-pub branch-fall : (tag : ℕ) (nums directory ends scope offsets entries widths slots frame : List ℕ) (depth at : ℕ)
-    → AsksTagged tag nums directory ends scope offsets entries widths slots frame depth at
+pub branch-fall : (tag : ℕ) (nums directory ends scope slots frame : List ℕ) (depth at : ℕ)
+    → AsksTagged tag nums directory ends scope slots frame depth at
     → (t : ℕ) → rank (getD scope 0 0) (2000 + 32 * depth + 19) ≡ t
     → rank (getD scope 0 0) (2000 + 32 * (depth - 1) + 20) < t
-branch-fall tag nums directory ends scope offsets entries widths slots frame depth at a t e =
+branch-fall tag nums directory ends scope slots frame depth at a t e =
     rank-lower t (getD scope 0 0) (2000 + 32 * depth + 19) (2000 + 32 * (depth - 1) + 20) e
     (omega (arith, stmt-begins (a .asks .stands) .levels))
 
@@ -533,9 +531,9 @@ returned-is (inFunction t) ty number ending e = go (numberOf t (valueOf ty numbe
 returned-is inAction ty number ending e = unfold returnedFrom in let z : _≡_ {A = ℕ} 0 1 = cc in absurd (omega arith)
 returned-is inApply ty number ending e = unfold returnedFrom in let z : _≡_ {A = ℕ} 0 1 = cc in absurd (omega arith)
 
-module _ {nums directory ends scope offsets entries widths slots slots₁ frame : List ℕ} {depth at : ℕ} {Γ : Scope}
+module _ {nums directory ends scope slots slots₁ frame : List ℕ} {depth at : ℕ} {Γ : Scope}
     {used : ℕ} {es : List Entry} {s : State} {x : Stmt} (v : ReturnView nums ends depth at x)
-    (st : Stage nums directory ends scope offsets entries widths slots frame Γ used es s) (c : Counts slots slots₁)
+    (st : Stage nums directory ends scope slots frame Γ used es s) (c : Counts slots slots₁)
     (g : Goes (counterOf slots) (stmtIn Γ used es x s)) where
   return-same : stmtIn Γ used es x s ≡ tick (exprIn Γ used (v .value) >>= handed Γ used es s at) s
   return-same = return-is Γ used es s at x (v .value) (v .same)
@@ -547,9 +545,9 @@ module _ {nums directory ends scope offsets entries widths slots slots₁ frame 
   return-first = operand-begun (v .value) (handed Γ used es s at) st c return-ticks .first
 
   return-ran : {slots₂ frame₂ : List ℕ} {y : values.Value}
-      → Ran nums directory ends scope offsets slots₁ slots₂ frame frame₂ Γ (exprIn Γ used (v .value) s)
+      → Ran nums directory ends scope slots₁ slots₂ frame frame₂ Γ (exprIn Γ used (v .value) s)
       (Gave (y .ty) (y .number))
-      → Ran nums directory ends scope offsets slots slots₂ frame frame₂ Γ (stmtIn Γ used es x s)
+      → Ran nums directory ends scope slots slots₂ frame frame₂ Γ (stmtIn Γ used es x s)
       (Ends (ReturnedValue (y .ty) (y .number)))
   return-ran {y = y} h =
       let k = some-goes (returnedFrom (Γ .body) (valueOf (y .ty) (y .number))) (h .state)
@@ -561,8 +559,8 @@ module _ {nums directory ends scope offsets entries widths slots slots₁ frame 
       (ran-here (h .state) (returnedValue (valueOf (y .ty) (y .number))) (h .scene)
       (some-is (returnedFrom (Γ .body) (valueOf (y .ty) (y .number))) (h .state) (k .is ∙ ap some same)) ends))
 
-module _ (nums directory ends scope offsets entries widths slots frame : List ℕ) (depth at : ℕ)
-    (a : AsksTagged 6 nums directory ends scope offsets entries widths slots frame depth at) where
+module _ (nums directory ends scope slots frame : List ℕ) (depth at : ℕ)
+    (a : AsksTagged 6 nums directory ends scope slots frame depth at) where
   return-at : (x : Stmt) → StandsStmt nums ends depth at x → ReturnView nums ends depth at x
   unfolding StmtView
   return-at x w = rw (a .tagged) at (stmt-view w)
@@ -571,7 +569,7 @@ module _ (nums directory ends scope offsets entries widths slots frame : List �
   returns = return-at (a .asks .stmt) (a .asks .stands)
 
   module _ (slots₁ : List ℕ) (c : Counts slots slots₁) where
-    pub return-value : AsksExpr nums directory ends scope offsets entries widths slots₁ frame (depth - 1) (at + 1)
+    pub return-value : AsksExpr nums directory ends scope slots₁ frame (depth - 1) (at + 1)
     return-value = record {
       scopeOf = a .asks .scopeOf;
       used = a .asks .used;
@@ -585,8 +583,8 @@ module _ (nums directory ends scope offsets entries widths slots frame : List �
     }
 
     pub return-runs : (slots₂ frame₂ : List ℕ) (y : values.Value)
-        → RunsExpr nums directory ends scope offsets entries widths slots₁ slots₂ frame frame₂ (depth - 1) (at + 1) y
-        → RunsStmt nums directory ends scope offsets entries widths slots slots₂ frame frame₂ depth at
+        → RunsExpr nums directory ends scope slots₁ slots₂ frame frame₂ (depth - 1) (at + 1) y
+        → RunsStmt nums directory ends scope slots slots₂ frame frame₂ depth at
         (ReturnedValue (y .ty) (y .number))
     return-runs slots₂ frame₂ y r = record {
       runs = λ Γ used es s x st w g.

@@ -21,6 +21,7 @@ use Rattle.rules.proofs.Fits.{StateFits}
 use Rattle.rules.proofs.Callables.{calls-below}
 use Rattle.rules.proofs.Tables.{keys-wide}
 use Rattle.rules.proofs.Accepted.{PartsJudged, parts-judged}
+use Rattle.shape.specs.Directory.{callablesSlot, entriesSlot, widthsSlot}
 use Rattle.program.specs.Stands.{Holds, StandsNumeral, StandsNumerals}
 use Rattle.program.specs.Looks.{Has, Finds, tablesOf, FoundTable}
 use Rattle.program.proofs.Found.{member-in}
@@ -160,10 +161,10 @@ module _ (P : Program) (used : ℕ) (parts : PartsJudged P) (t : ℕ) (T : Table
         (calls-below workingSlots P (parts .callables) (length (P .callables))) T)) .run s fits) e
 
 -- at any stage
-module _ (P : Program) {nums directory ends scope offsets entries widths slots frame : List ℕ} {t : ℕ} {used : ℕ}
+module _ (P : Program) {nums directory ends scope slots frame : List ℕ} {t : ℕ} {used : ℕ}
     {es : List Entry} {s : State} {at actions default : ℕ}
     (found : Finds tablesOf (FoundTable nums ends at actions default) nums directory ends t)
-    (st : Stage nums directory ends scope offsets entries widths slots frame (applyScope P) used es s)
+    (st : Stage nums directory ends scope slots frame (applyScope P) used es s)
     (g : Goes (counterOf slots) (tableIn P used es t s)) where
   this : Tabled P used es t s (counterOf slots)
   this = tabled P used es t s (counterOf slots) g
@@ -188,20 +189,20 @@ module _ (P : Program) {nums directory ends scope offsets entries widths slots f
   }
 
   module _ {slots₁ frame₁ : List ℕ} (keys₁ : List ℕ)
-      (h : Ran nums directory ends scope offsets slots slots₁ frame frame₁ (applyScope P) (keysIn P used (T .keys) s)
+      (h : Ran nums directory ends scope slots slots₁ frame frame₁ (applyScope P) (keysIn P used (T .keys) s)
       (KeyNumbers keys₁ 0)) where
     look : Looking P used es t T (h .answer) (h .state) (counterOf slots₁)
     look = looking P used es t T (h .answer) (h .state) (counterOf slots₁)
         (going-rest st (keysIn P used (T .keys)) (looks P used es t T) (this .begun) h)
 
-    keys-worked : StandsAllWorked widths keys₁ (mostKeys * t) 0 (h .answer)
+    keys-worked : StandsAllWorked directory keys₁ (widthsSlot + mostKeys * t) 0 (h .answer)
     unfolding applyScope
-    keys-worked = worked-stand P widths keys₁ (mostKeys * t) 0 (T .keys) (h .answer)
+    keys-worked = worked-stand P directory keys₁ (widthsSlot + mostKeys * t) 0 (T .keys) (h .answer)
         (keys-widths P used (parts-judged P (st .tables .judged)) t T (this .is) s (h .answer) (h .state) (h .seen)
         (st .scene .fits) (h .is))
-        (λ i k q. (st .tables .wide .is t i T k (this .is) q, st .tables .wide .most t i T k (this .is) q)) (h .answers)
+        (λ i k q. st .tables .wide t i T k (this .is) q) (h .answers)
 
-    sought : SoughtIn nums ends entries widths keys₁ t at 1 (getD entries 0 0) P T (h .answer) es
+    sought : SoughtIn nums ends directory keys₁ t at (entriesSlot + 1) (getD directory entriesSlot 0) P T (h .answer) es
     unfolding applyScope
     sought = record {
       tableIs = this .is;
@@ -212,7 +213,7 @@ module _ (P : Program) {nums directory ends scope offsets entries widths slots f
       fits = look .fits;
     }
 
-    look-asks : AsksLook nums ends entries widths keys₁ t at 1 (getD entries 0 0)
+    look-asks : AsksLook nums ends directory keys₁ t at (entriesSlot + 1) (getD directory entriesSlot 0)
     unfolding applyScope
     look-asks = record {
       program = P;
@@ -226,7 +227,7 @@ module _ (P : Program) {nums directory ends scope offsets entries widths slots f
       slots = omega (arith, st .tables .count, st .tables .few);
     }
 
-    module _ {r : Lookup} (told : TellsLookUp nums ends entries widths keys₁ t at r) where
+    module _ {r : Lookup} (told : TellsLookUp nums ends directory keys₁ t at r) where
       looked : Looked nums (lookUp (longestWins (T .keys)) (h .answer) rules.nothing (entriesOf t es)) r
       looked = told .told P T (h .answer) es sought
 
@@ -244,9 +245,9 @@ module _ (P : Program) {nums directory ends scope offsets entries widths slots f
             (going-rest st (keysIn P used (T .keys)) (looks P used es t T) (this .begun) h)
 
         table-ran : {slots₂ frame₂ : List ℕ} {x : Ended}
-            → Ran nums directory ends scope offsets slots₁ slots₂ frame₁ frame₂ (applyScope P)
+            → Ran nums directory ends scope slots₁ slots₂ frame₁ frame₂ (applyScope P)
             (actionIn P used T position ns (h .state)) (Ends x)
-            → Ran nums directory ends scope offsets slots slots₂ frame frame₂ (applyScope P) (tableIn P used es t s)
+            → Ran nums directory ends scope slots slots₂ frame frame₂ (applyScope P) (tableIn P used es t s)
             (Ends x)
         table-ran k = rw (this .same) (ran-then (keysIn P used (T .keys)) (looks P used es t T) s h (rw same k))
 
@@ -281,8 +282,8 @@ module _ (P : Program) {nums directory ends scope offsets entries widths slots f
         }
 
 -- from the numbers
-module _ (nums directory ends scope offsets entries widths slots frame : List ℕ) (t : ℕ) where
-  module _ (a : AsksTable nums directory ends scope offsets entries widths slots frame t) where
+module _ (nums directory ends scope slots frame : List ℕ) (t : ℕ) where
+  module _ (a : AsksTable nums directory ends scope slots frame t) where
     pub table-has : Has tablesOf nums directory ends t
     unfolding tablesOf applyScope
     table-has =
@@ -296,7 +297,7 @@ module _ (nums directory ends scope offsets entries widths slots frame : List �
 
   module _ (at actions default : ℕ)
       (found : Finds tablesOf (FoundTable nums ends at actions default) nums directory ends t) where
-    module _ (a : AsksTable nums directory ends scope offsets entries widths slots frame t) where
+    module _ (a : AsksTable nums directory ends scope slots frame t) where
       it : FoundTable nums ends at actions default (T (a .program) found (a .stage) (a .going))
       it = stands (a .program) found (a .stage) (a .going)
 
@@ -307,7 +308,7 @@ module _ (nums directory ends scope offsets entries widths slots frame : List �
       unfolding applyScope
       table-next = omega (arith, table-inside, a .stage .scene .scopes .program .numbers)
 
-      pub table-keys : AsksKeys nums directory ends scope offsets entries widths slots frame (replicate 4 0) 0 (at + 1)
+      pub table-keys : AsksKeys nums directory ends scope slots frame (replicate 4 0) 0 (at + 1)
           (getD nums at 0)
       table-keys = record {
         program = a .program;
@@ -333,32 +334,32 @@ module _ (nums directory ends scope offsets entries widths slots frame : List �
       default-second = omega (arith, default-inside, a .stage .scene .scopes .program .numbers)
 
     module _ (slots₁ frame₁ keys₁ : List ℕ)
-        (r : RunsKeys nums directory ends scope offsets entries widths slots slots₁ frame frame₁ (replicate 4 0) keys₁ 0
+        (r : RunsKeys nums directory ends scope slots slots₁ frame frame₁ (replicate 4 0) keys₁ 0
         (at + 1) (getD nums at 0)) where
       keys-ran : (P : Program) (used : ℕ) (es : List Entry) (s : State)
-          → (st : Stage nums directory ends scope offsets entries widths slots frame (applyScope P) used es s)
+          → (st : Stage nums directory ends scope slots frame (applyScope P) used es s)
           → (g : Goes (counterOf slots) (tableIn P used es t s))
-          → Ran nums directory ends scope offsets slots slots₁ frame frame₁ (applyScope P)
+          → Ran nums directory ends scope slots slots₁ frame frame₁ (applyScope P)
           (keysIn P used (T P found st g .keys) s) (KeyNumbers keys₁ 0)
       keys-ran P used es s st g = r .runs P used es s (T P found st g .keys) st
           (keys-at P found st g (replicate 4 0) refl) (this P found st g .begun .first)
 
-      module _ (a : AsksTable nums directory ends scope offsets entries widths slots frame t) where
-        h : Ran nums directory ends scope offsets slots slots₁ frame frame₁ (applyScope (a .program))
+      module _ (a : AsksTable nums directory ends scope slots frame t) where
+        h : Ran nums directory ends scope slots slots₁ frame frame₁ (applyScope (a .program))
             (keysIn (a .program) (a .used) (T (a .program) found (a .stage) (a .going) .keys) (a .state))
             (KeyNumbers keys₁ 0)
         h = keys-ran (a .program) (a .used) (a .entryList) (a .state) (a .stage) (a .going)
 
-        pub table-look : AsksLook nums ends entries widths keys₁ t at 1 (getD entries 0 0)
+        pub table-look : AsksLook nums ends directory keys₁ t at (entriesSlot + 1) (getD directory entriesSlot 0)
         table-look = look-asks (a .program) found (a .stage) (a .going) keys₁ h
 
-        module _ (x : Lookup) (told : TellsLookUp nums ends entries widths keys₁ t at x) where
+        module _ (x : Lookup) (told : TellsLookUp nums ends directory keys₁ t at x) where
           pub entry-action : (entry : ℕ) → x ≡ Lookups.Found entry
-              → AsksAction nums directory ends scope offsets entries widths slots₁ frame₁ actions (getD nums entry 0)
-              (entry + 1)
+              → AsksAction nums directory ends slots₁ frame₁ actions entry (entry + 1)
           entry-action entry q =
               let e = there (a .program) found (a .stage) (a .going) keys₁ h told q in
-              rw (e .position .is) (record {
+              record {
+                scope = scope;
                 program = a .program;
                 used = a .used;
                 entryList = a .entryList;
@@ -367,9 +368,12 @@ module _ (nums directory ends scope offsets entries widths slots frame : List �
                 numbers = e .entry .arguments;
                 stage = stage-ran (a .stage) h;
                 action = entry-at (a .program) found (a .stage) (a .going) keys₁ h told q;
-                going = action-goes (a .program) found (a .stage) (a .going) keys₁ h told (e .entry .position)
-                    (e .entry .arguments) (entry-same (a .program) found (a .stage) (a .going) keys₁ h told q);
-              })
+                inside = e .position .inside;
+                near = omega arith;
+                going = rw (e .position .is) (action-goes (a .program) found (a .stage) (a .going) keys₁ h told
+                    (e .entry .position) (e .entry .arguments)
+                    (entry-same (a .program) found (a .stage) (a .going) keys₁ h told q));
+              }
 
           pub entry-inside : (entry : ℕ) → x ≡ Lookups.Found entry → entry < length nums
           entry-inside entry q = there (a .program) found (a .stage) (a .going) keys₁ h told q .position .inside
@@ -383,11 +387,11 @@ module _ (nums directory ends scope offsets entries widths slots frame : List �
           entry-next entry q = omega (arith, entry-inside entry q, a .stage .scene .scopes .program .numbers)
 
           pub default-action : x ≡ Lookups.Nothing
-              → AsksAction nums directory ends scope offsets entries widths slots₁ frame₁ actions (getD nums default 0)
-              (default + 2)
+              → AsksAction nums directory ends slots₁ frame₁ actions default (default + 2)
           default-action q =
               let D = T (a .program) found (a .stage) (a .going) in
-              rw (table-default (it a) .holds .is) (record {
+              record {
+                scope = scope;
                 program = a .program;
                 used = a .used;
                 entryList = a .entryList;
@@ -396,66 +400,64 @@ module _ (nums directory ends scope offsets entries widths slots frame : List �
                 numbers = map (λ n. n .number) (D .arguments);
                 stage = stage-ran (a .stage) h;
                 action = default-at (a .program) found (a .stage) (a .going) keys₁ h told q;
-                going = action-goes (a .program) found (a .stage) (a .going) keys₁ h told (D .default .number)
-                    (map (λ n. n .number) (D .arguments))
-                    (default-same (a .program) found (a .stage) (a .going) keys₁ h told q);
-              })
+                inside = table-default (it a) .holds .inside;
+                near = omega arith;
+                going = rw (table-default (it a) .holds .is) (action-goes (a .program) found (a .stage) (a .going) keys₁ h
+                    told (D .default .number) (map (λ n. n .number) (D .arguments))
+                    (default-same (a .program) found (a .stage) (a .going) keys₁ h told q));
+              }
 
-      module _ (x : Lookup) (told : TellsLookUp nums ends entries widths keys₁ t at x) (slots₂ frame₂ : List ℕ)
+      module _ (x : Lookup) (told : TellsLookUp nums ends directory keys₁ t at x) (slots₂ frame₂ : List ℕ)
           (y : Ended) where
         entry-ran : (entry : ℕ) → x ≡ Lookups.Found entry
-            → RunsAction nums directory ends scope offsets entries widths slots₁ slots₂ frame₁ frame₂ actions
-            (getD nums entry 0) (entry + 1) y
+            → RunsAction nums directory ends slots₁ slots₂ frame₁ frame₂ actions entry (entry + 1) y
             → (P : Program) (used : ℕ) (es : List Entry) (s : State)
-            → Stage nums directory ends scope offsets entries widths slots frame (applyScope P) used es s
+            → Stage nums directory ends scope slots frame (applyScope P) used es s
             → Goes (counterOf slots) (tableIn P used es t s)
-            → Ran nums directory ends scope offsets slots slots₂ frame frame₂ (applyScope P) (tableIn P used es t s) (Ends y)
+            → Ran nums directory ends scope slots slots₂ frame frame₂ (applyScope P) (tableIn P used es t s) (Ends y)
         entry-ran entry q k P used es s st g =
             let z = keys-ran P used es s st g in
             let e = there P found st g keys₁ z told q in
             let same = entry-same P found st g keys₁ z told q in
-            let moved : RunsAction nums directory ends scope offsets entries widths slots₁ slots₂ frame₁ frame₂ actions
-            (e .entry .position) (entry + 1) y = rw (e .position .is) at k in
             table-ran P found st g keys₁ z told (e .entry .position) (e .entry .arguments) same
-            (moved .runs P used es (z .state) (T P found st g) (e .entry .arguments) (stage-ran st z)
-            (entry-at P found st g keys₁ z told q)
-            (action-goes P found st g keys₁ z told (e .entry .position) (e .entry .arguments) same))
+            (rw (e .position .is) at (k .runs scope P used es (z .state) (T P found st g) (e .entry .arguments)
+            (stage-ran st z) (entry-at P found st g keys₁ z told q)
+            (rw (e .position .is) (action-goes P found st g keys₁ z told (e .entry .position) (e .entry .arguments) same))))
 
         pub entry-runs : (entry : ℕ) → x ≡ Lookups.Found entry
-            → RunsAction nums directory ends scope offsets entries widths slots₁ slots₂ frame₁ frame₂ actions
-            (getD nums entry 0) (entry + 1) y
-            → RunsTable nums directory ends scope offsets entries widths slots slots₂ frame frame₂ t y
+            → RunsAction nums directory ends slots₁ slots₂ frame₁ frame₂ actions entry (entry + 1) y
+            → RunsTable nums directory ends scope slots slots₂ frame frame₂ t y
         entry-runs entry q k = record { runs = entry-ran entry q k }
 
         default-ran : x ≡ Lookups.Nothing
-            → RunsAction nums directory ends scope offsets entries widths slots₁ slots₂ frame₁ frame₂ actions
-            (getD nums default 0) (default + 2) y
+            → RunsAction nums directory ends slots₁ slots₂ frame₁ frame₂ actions default (default + 2) y
             → (P : Program) (used : ℕ) (es : List Entry) (s : State)
-            → Stage nums directory ends scope offsets entries widths slots frame (applyScope P) used es s
+            → Stage nums directory ends scope slots frame (applyScope P) used es s
             → Goes (counterOf slots) (tableIn P used es t s)
-            → Ran nums directory ends scope offsets slots slots₂ frame frame₂ (applyScope P) (tableIn P used es t s) (Ends y)
+            → Ran nums directory ends scope slots slots₂ frame frame₂ (applyScope P) (tableIn P used es t s) (Ends y)
         default-ran q k P used es s st g =
             let z = keys-ran P used es s st g in
             let D = T P found st g in
             let ns = map (λ n. n .number) (D .arguments) in
             let same = default-same P found st g keys₁ z told q in
-            let moved : RunsAction nums directory ends scope offsets entries widths slots₁ slots₂ frame₁ frame₂ actions
-            (D .default .number) (default + 2) y = rw (table-default (stands P found st g) .holds .is) at k in
+            let is = table-default (stands P found st g) .holds .is in
             table-ran P found st g keys₁ z told (D .default .number) ns same
-            (moved .runs P used es (z .state) D ns (stage-ran st z) (default-at P found st g keys₁ z told q)
-            (action-goes P found st g keys₁ z told (D .default .number) ns same))
+            (rw is at (k .runs scope P used es (z .state) D ns (stage-ran st z) (default-at P found st g keys₁ z told q)
+            (rw is (action-goes P found st g keys₁ z told (D .default .number) ns same))))
 
         pub default-runs : x ≡ Lookups.Nothing
-            → RunsAction nums directory ends scope offsets entries widths slots₁ slots₂ frame₁ frame₂ actions
-            (getD nums default 0) (default + 2) y
-            → RunsTable nums directory ends scope offsets entries widths slots slots₂ frame frame₂ t y
+            → RunsAction nums directory ends slots₁ slots₂ frame₁ frame₂ actions default (default + 2) y
+            → RunsTable nums directory ends scope slots slots₂ frame frame₂ t y
         default-runs q k = record { runs = default-ran q k }
 
-pub action-fall : (nums directory ends scope offsets entries widths slots frame : List ℕ) (t : ℕ)
-    → AsksTable nums directory ends scope offsets entries widths slots frame t → (x : ℕ)
-    → rank (getD scope 0 0) 1500 ≡ x → rank (getD scope 0 0) 1450 < x
-action-fall nums directory ends scope offsets entries widths slots frame t a x e =
-    rank-lower x (getD scope 0 0) 1500 1450 e (omega arith)
+pub action-fall : (nums directory ends scope slots frame : List ℕ) (t : ℕ)
+    → AsksTable nums directory ends scope slots frame t → (x : ℕ)
+    → rank (getD scope 0 0) 1500 ≡ x → rank (getD directory callablesSlot 0) 1450 < x
+unfolding applyScope
+action-fall nums directory ends scope slots frame t a x e =
+    let same : getD scope 0 0 ≡ getD directory callablesSlot 0
+    = omega (arith, a .stage .scene .scopes .reach, a .stage .scene .scopes .program .callables .count) in
+    rank-lower x (getD directory callablesSlot 0) 1500 1450 (rw same at e) (omega arith)
 
 pub ruleset tableRuns = (
   table-has,

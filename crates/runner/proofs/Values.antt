@@ -127,10 +127,10 @@ module _ {nums ends : List ℕ} {depth at : ℕ} (Γ : Scope) (used : ℕ) (es :
   call-ticks v g = rw (call-is v) at g
 
 -- at any stage, as an expression
-module _ {nums directory ends scope offsets entries widths slots slots₁ frame : List ℕ} {depth at : ℕ} {Γ : Scope}
+module _ {nums directory ends scope slots slots₁ frame : List ℕ} {depth at : ℕ} {Γ : Scope}
     {used : ℕ} {es : List Entry} {s : State} {e : Expr} (v : CallView nums ends depth at e)
     (w : StandsExpr nums ends depth at e)
-    (st : Stage nums directory ends scope offsets entries widths slots frame Γ used es s) (c : Counts slots slots₁)
+    (st : Stage nums directory ends scope slots frame Γ used es s) (c : Counts slots slots₁)
     (g : Goes (counterOf slots) (exprIn Γ used e s)) where
   value-found : Valued Γ used (v .callable) (v .arguments) s (counterOf slots₁)
   value-found = valued-at Γ used (v .callable) (v .arguments) s (counterOf slots₁) (going-counted st _ c (value-ticks Γ used es s v g))
@@ -145,10 +145,10 @@ module _ {nums directory ends scope offsets entries widths slots slots₁ frame 
   }
 
   value-ran : {slots₂ frame₂ : List ℕ} {ended : Ended} {ty number : ℕ}
-      → Ran nums directory ends scope offsets slots₁ slots₂ frame frame₂ Γ
+      → Ran nums directory ends scope slots₁ slots₂ frame frame₂ Γ
       (callIn Γ used (v .callable) (v .arguments) (value-found .found .parameters) s) (Ends ended)
       → Returns ended ty number
-      → Ran nums directory ends scope offsets slots slots₂ frame frame₂ Γ (exprIn Γ used e s) (Gave ty number)
+      → Ran nums directory ends scope slots slots₂ frame frame₂ Γ (exprIn Γ used e s) (Gave ty number)
   value-ran {ended = ended} h r =
       let k : Known (valueOf (h .answer)) = some-goes (valueOf (h .answer)) (h .state)
       (going-rest (stage-counted st c) _ (λ ending. orStuck (valueOf ending)) (value-found .going) h) in
@@ -161,8 +161,8 @@ module _ {nums directory ends scope offsets entries widths slots slots₁ frame 
           → Ends ended (returnedValue x)
       value-ends ending x q y = rw (value-of ending x q) at y
 
-module _ (nums directory ends scope offsets entries widths slots frame : List ℕ) (depth at : ℕ)
-    (a : AsksValue nums directory ends scope offsets entries widths slots frame depth at) where
+module _ (nums directory ends scope slots frame : List ℕ) (depth at : ℕ)
+    (a : AsksValue nums directory ends scope slots frame depth at) where
   view-at : (e : Expr) → StandsExpr nums ends depth at e → CallView nums ends depth at e
   unfolding ExprView
   view-at e w = rw (a .tagged) at (expr-view w)
@@ -175,7 +175,7 @@ module _ (nums directory ends scope offsets entries widths slots frame : List �
       (value-ticks (a .asks .scopeOf) (a .asks .used) (a .asks .entryList) (a .asks .state) view (a .asks .going))
 
   pub value-call : (slots₁ : List ℕ) → Counts slots slots₁
-      → AsksCall nums directory ends scope offsets entries widths slots₁ frame depth at
+      → AsksCall nums directory ends scope slots₁ frame depth at
   value-call slots₁ c =
       let v = value-found view (a .asks .stands) (a .asks .stage) c (a .asks .going) in
       record {
@@ -193,9 +193,9 @@ module _ (nums directory ends scope offsets entries widths slots frame : List �
       }
 
   pub value-runs : (slots₁ slots₂ frame₂ : List ℕ) (ended : Ended) (r : values.Value) → Counts slots slots₁
-      → RunsCall nums directory ends scope offsets entries widths slots₁ slots₂ frame frame₂ depth at ended
+      → RunsCall nums directory ends scope slots₁ slots₂ frame frame₂ depth at ended
       → Returns ended (r .ty) (r .number)
-      → RunsExpr nums directory ends scope offsets entries widths slots slots₂ frame frame₂ depth at r
+      → RunsExpr nums directory ends scope slots slots₂ frame frame₂ depth at r
   value-runs slots₁ slots₂ frame₂ ended r c q y = record {
     runs = λ Γ used es s e st w g.
         let v = view-at e w in
@@ -211,10 +211,10 @@ value-fall scope depth t e = rank-lower t (getD scope 0 0) (32 * depth + 19) (32
 pub ruleset valueRuns = (value-count, value-call, value-runs, value-fall)
 
 -- as a statement
-module _ {nums directory ends scope offsets entries widths slots slots₁ frame : List ℕ} {depth at : ℕ} {Γ : Scope}
+module _ {nums directory ends scope slots slots₁ frame : List ℕ} {depth at : ℕ} {Γ : Scope}
     {used : ℕ} {es : List Entry} {s : State} {x : Stmt} (v : CallStmtView nums ends depth at x)
     (w : StandsStmt nums ends depth at x)
-    (st : Stage nums directory ends scope offsets entries widths slots frame Γ used es s) (c : Counts slots slots₁)
+    (st : Stage nums directory ends scope slots frame Γ used es s) (c : Counts slots slots₁)
     (g : Goes (counterOf slots) (stmtIn Γ used es x s)) where
   call-found : Dropped Γ used (v .callable) (v .arguments) s (counterOf slots₁)
   call-found = dropped-at Γ used (v .callable) (v .arguments) s (counterOf slots₁) (going-counted st _ c (call-ticks Γ used es s v g))
@@ -229,17 +229,17 @@ module _ {nums directory ends scope offsets entries widths slots slots₁ frame 
   }
 
   call-ran : {slots₂ frame₂ : List ℕ} {ended r : Ended}
-      → Ran nums directory ends scope offsets slots₁ slots₂ frame frame₂ Γ
+      → Ran nums directory ends scope slots₁ slots₂ frame frame₂ Γ
       (callIn Γ used (v .callable) (v .arguments) (call-found .found .parameters) s) (Ends ended)
       → AfterCall ended r
-      → Ran nums directory ends scope offsets slots slots₂ frame frame₂ Γ (stmtIn Γ used es x s) (Ends r)
+      → Ran nums directory ends scope slots slots₂ frame frame₂ Γ (stmtIn Γ used es x s) (Ends r)
   unfolding pure
   call-ran h r =
       rw (call-is Γ used es s v) (ran-counted st _ c (rw (call-found .same) (ran-then _ (λ ending. pure (afterCall ending)) s h
       (ran-here (h .state) (afterCall (h .answer)) (h .scene) refl (r .goesOn (h .answer) (h .answers))))))
 
-module _ (nums directory ends scope offsets entries widths slots frame : List ℕ) (depth at : ℕ)
-    (a : AsksTagged 4 nums directory ends scope offsets entries widths slots frame depth at) where
+module _ (nums directory ends scope slots frame : List ℕ) (depth at : ℕ)
+    (a : AsksTagged 4 nums directory ends scope slots frame depth at) where
   stmt-at : (x : Stmt) → StandsStmt nums ends depth at x → CallStmtView nums ends depth at x
   unfolding StmtView
   stmt-at x w = rw (a .tagged) at (stmt-view w)
@@ -248,7 +248,7 @@ module _ (nums directory ends scope offsets entries widths slots frame : List �
   this = stmt-at (a .asks .stmt) (a .asks .stands)
 
   pub call-stmt : (slots₁ : List ℕ) → Counts slots slots₁
-      → AsksCall nums directory ends scope offsets entries widths slots₁ frame depth at
+      → AsksCall nums directory ends scope slots₁ frame depth at
   call-stmt slots₁ c =
       let v = call-found this (a .asks .stands) (a .asks .stage) c (a .asks .going) in
       record {
@@ -266,9 +266,9 @@ module _ (nums directory ends scope offsets entries widths slots frame : List �
       }
 
   pub call-stmt-runs : (slots₁ slots₂ frame₂ : List ℕ) (ended r : Ended) → Counts slots slots₁
-      → RunsCall nums directory ends scope offsets entries widths slots₁ slots₂ frame frame₂ depth at ended
+      → RunsCall nums directory ends scope slots₁ slots₂ frame frame₂ depth at ended
       → AfterCall ended r
-      → RunsStmt nums directory ends scope offsets entries widths slots slots₂ frame frame₂ depth at r
+      → RunsStmt nums directory ends scope slots slots₂ frame frame₂ depth at r
   call-stmt-runs slots₁ slots₂ frame₂ ended r c q y = record {
     runs = λ Γ used es s x st w g.
         let v = stmt-at x w in

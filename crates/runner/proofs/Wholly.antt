@@ -85,19 +85,19 @@ program-is : (P : Program) (es : List Entry) (cells : List Cell) → programRun 
 unfolding runProgram stmtIn callsOf appliedIn applyScope isApply
 program-is P es cells = refl
 
-module _ (nums directory ends offsets entries widths slots frame : List ℕ) (store size : ℕ) where
+module _ (nums directory ends slots frame : List ℕ) (store size : ℕ) where
   module _ {P : Program} {es : List Entry} {cells : List Cell}
-      (w : Ready nums directory ends offsets entries widths slots frame store size P es cells)
+      (w : Ready nums directory ends slots frame store size P es cells)
       (g : Goes 0 (programRun P es cells)) where
     body-goes : Goes 0 (bodyRun P es cells)
     body-goes = finish-goes (bodyRun P es cells) (rw (program-is P es cells) at g)
 
     module _ {slots₁ : List ℕ} (c : Copies nums slots slots₁ store size) where
-      first-stage : Stage nums directory ends (applySlots directory) offsets entries widths (set slots₁ counterSlot 0)
+      first-stage : Stage nums directory ends (applySlots directory) (set slots₁ counterSlot 0)
           frame (applyScope P) (length (slotsOf cells)) es (started cells)
       unfolding applyScope
       first-stage = record {
-        scene = scene-start nums directory ends offsets P (w .end) store size cells (w .stands) (w .numbers) (w .sized)
+        scene = scene-start nums directory ends P (w .end) store size cells (w .stands) (w .numbers) (w .sized)
             (w .fits) (applySlots directory) slots slots₁ frame 0
             (apply-scope nums directory ends P (w .end) (w .stands)) (w .offset) (w .count) c;
         tables = w .tables;
@@ -113,7 +113,7 @@ module _ (nums directory ends offsets entries widths slots frame : List ℕ) (st
       first-goes = rw counter-zero body-goes
 
       whole-ran : {slots₂ frame₂ : List ℕ} {ended : Ended} {r : Signal}
-          → outcomes.Ran nums directory ends (applySlots directory) offsets (set slots₁ counterSlot 0) slots₂ frame frame₂
+          → outcomes.Ran nums directory ends (applySlots directory) (set slots₁ counterSlot 0) slots₂ frame frame₂
           (applyScope P) (bodyRun P es cells) (Ends ended)
           → TellsSignal ended r → RanWhole slots₂ P (programRun P es cells) r
       unfolding applyScope
@@ -129,19 +129,19 @@ module _ (nums directory ends offsets entries widths slots frame : List ℕ) (st
             counted = omega (arith, h .counted, counter-zero);
           })
 
-  module _ (a : AsksRun nums directory ends offsets entries widths slots frame store size) where
+  module _ (a : AsksRun nums directory ends slots frame store size) where
     pub run-copies : AsksCopy nums slots store size
-    run-copies = start-copies nums directory ends offsets (a .program) (a .ready .end) store size (a .cells)
+    run-copies = start-copies nums directory ends (a .program) (a .ready .end) store size (a .cells)
         (a .ready .stands) (a .ready .numbers) (a .ready .sized) (a .ready .fits) slots (a .ready .count)
 
-    pub run-directory : length directory ≡ 70
+    pub run-directory : length directory ≡ 200
     run-directory = a .ready .stands .slots
 
     pub run-counter : (slots₁ : List ℕ) → Copies nums slots slots₁ store size → counterSlot < length slots₁
     run-counter slots₁ c = omega (arith, c .same, a .ready .count)
 
     pub run-stmt-asks : (slots₁ : List ℕ) → Copies nums slots slots₁ store size
-        → AsksStmt nums directory ends (applySlots directory) offsets entries widths (set slots₁ counterSlot 0) frame 32
+        → AsksStmt nums directory ends (applySlots directory) (set slots₁ counterSlot 0) frame 32
         (getD directory 68 0)
     run-stmt-asks slots₁ c = record {
       scopeOf = applyScope (a .program);
@@ -156,10 +156,10 @@ module _ (nums directory ends offsets entries widths slots frame : List ℕ) (st
     }
 
   pub run-runs : (slots₁ slots₂ frame₂ : List ℕ) (ended : Ended) (r : Signal) → Copies nums slots slots₁ store size
-      → RunsStmt nums directory ends (applySlots directory) offsets entries widths (set slots₁ counterSlot 0) slots₂ frame
+      → RunsStmt nums directory ends (applySlots directory) (set slots₁ counterSlot 0) slots₂ frame
       frame₂ 32 (getD directory 68 0) ended
       → TellsSignal ended r
-      → RunsWhole nums directory ends offsets entries widths slots slots₂ frame store size r
+      → RunsWhole nums directory ends slots slots₂ frame store size r
   run-runs slots₁ slots₂ frame₂ ended r c q t = record {
     runs = λ P es cells w g. whole-ran w g c (q .runs (applyScope P) (length (slotsOf cells)) es (started cells)
         (P .body) (first-stage w g c) (w .stands .body) (first-goes w g c)) t;

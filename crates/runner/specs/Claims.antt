@@ -23,44 +23,44 @@ use Rattle.runner.specs.Runs.{exprIn, argsIn, callIn, stmtIn, stmtsIn, b
 use Rattle.runner.specs.Forms.{LeafAt, OneAt, TwoAt, SingleAt}
 
 -- an expression
-pub record AsksExpr (nums directory ends scope offsets entries widths slots frame : List ℕ) (depth at : ℕ)
+pub record AsksExpr (nums directory ends scope slots frame : List ℕ) (depth at : ℕ)
     : Type 0 where
   pub scopeOf : Scope
   pub used : ℕ
   pub entryList : List Entry
   pub state : State
   pub expr : Expr
-  pub stage : Stage nums directory ends scope offsets entries widths slots frame scopeOf used entryList state
+  pub stage : Stage nums directory ends scope slots frame scopeOf used entryList state
   pub stands : StandsExpr nums ends depth at expr
   pub deep : depth ≤ deepest
   pub going : Goes (counterOf slots) (exprIn scopeOf used expr state)
 
-pub record RunsExpr (nums directory ends scope offsets entries widths slots slots′ frame frame′ : List ℕ) (depth at : ℕ)
+pub record RunsExpr (nums directory ends scope slots slots′ frame frame′ : List ℕ) (depth at : ℕ)
     (r : Value) : Type 0 where
   pub runs : (Γ : Scope) (used : ℕ) (es : List Entry) (s : State) (e : Expr)
-      → Stage nums directory ends scope offsets entries widths slots frame Γ used es s → StandsExpr nums ends depth at e
+      → Stage nums directory ends scope slots frame Γ used es s → StandsExpr nums ends depth at e
       → Goes (counterOf slots) (exprIn Γ used e s)
-      → Ran nums directory ends scope offsets slots slots′ frame frame′ Γ (exprIn Γ used e s) (Gave (r .ty) (r .number))
+      → Ran nums directory ends scope slots slots′ frame frame′ Γ (exprIn Γ used e s) (Gave (r .ty) (r .number))
 
 -- one without operands, with one whose operand begins at an index, with two whose first begins there, a call
-pub record AsksLeafAt (nums directory ends scope offsets entries widths slots frame : List ℕ) (depth at : ℕ)
+pub record AsksLeafAt (nums directory ends scope slots frame : List ℕ) (depth at : ℕ)
     : Type 0 where
-  pub asks : AsksExpr nums directory ends scope offsets entries widths slots frame depth at
+  pub asks : AsksExpr nums directory ends scope slots frame depth at
   pub leaf : LeafAt nums ends depth at
 
-pub record AsksOne (nums directory ends scope offsets entries widths slots frame : List ℕ) (depth at first : ℕ)
+pub record AsksOne (nums directory ends scope slots frame : List ℕ) (depth at first : ℕ)
     : Type 0 where
-  pub asks : AsksExpr nums directory ends scope offsets entries widths slots frame depth at
+  pub asks : AsksExpr nums directory ends scope slots frame depth at
   pub one : OneAt nums ends depth at first
 
-pub record AsksTwo (nums directory ends scope offsets entries widths slots frame : List ℕ) (depth at first : ℕ)
+pub record AsksTwo (nums directory ends scope slots frame : List ℕ) (depth at first : ℕ)
     : Type 0 where
-  pub asks : AsksExpr nums directory ends scope offsets entries widths slots frame depth at
+  pub asks : AsksExpr nums directory ends scope slots frame depth at
   pub two : TwoAt nums ends depth at first
 
-pub record AsksValue (nums directory ends scope offsets entries widths slots frame : List ℕ) (depth at : ℕ)
+pub record AsksValue (nums directory ends scope slots frame : List ℕ) (depth at : ℕ)
     : Type 0 where
-  pub asks : AsksExpr nums directory ends scope offsets entries widths slots frame depth at
+  pub asks : AsksExpr nums directory ends scope slots frame depth at
   pub tagged : getD nums at 0 ≡ 13
 
 -- a call, as an expression or a statement: its callable is found
@@ -71,7 +71,7 @@ pub record CallAt (nums ends : List ℕ) (depth at : ℕ) (Γ : Scope) (f : ℕ)
   pub stand : StandsArgs nums ends (depth - 1) (at + 3) xs
   pub is : callableBelow (Γ .program) (Γ .reach) f ≡ some c
 
-pub record AsksCall (nums directory ends scope offsets entries widths slots frame : List ℕ) (depth at : ℕ)
+pub record AsksCall (nums directory ends scope slots frame : List ℕ) (depth at : ℕ)
     : Type 0 where
   pub scopeOf : Scope
   pub used : ℕ
@@ -80,23 +80,23 @@ pub record AsksCall (nums directory ends scope offsets entries widths slots fram
   pub callable : ℕ
   pub args : Args
   pub found : Callable
-  pub stage : Stage nums directory ends scope offsets entries widths slots frame scopeOf used entryList state
+  pub stage : Stage nums directory ends scope slots frame scopeOf used entryList state
   pub call : CallAt nums ends depth at scopeOf callable args found
   pub deep : depth ≤ deepest
   pub going : Goes (counterOf slots) (callIn scopeOf used callable args (found .parameters) state)
 
-pub record RunsCall (nums directory ends scope offsets entries widths slots slots′ frame frame′ : List ℕ) (depth at : ℕ)
+pub record RunsCall (nums directory ends scope slots slots′ frame frame′ : List ℕ) (depth at : ℕ)
     (r : Ended) : Type 0 where
   pub runs : (Γ : Scope) (used : ℕ) (es : List Entry) (s : State) (f : ℕ) (xs : Args) (c : Callable)
-      → Stage nums directory ends scope offsets entries widths slots frame Γ used es s
+      → Stage nums directory ends scope slots frame Γ used es s
       → CallAt nums ends depth at Γ f xs c → Goes (counterOf slots) (callIn Γ used f xs (c .parameters) s)
-      → Ran nums directory ends scope offsets slots slots′ frame frame′ Γ (callIn Γ used f xs (c .parameters) s) (Ends r)
+      → Ran nums directory ends scope slots slots′ frame frame′ Γ (callIn Γ used f xs (c .parameters) s) (Ends r)
 
 -- one argument, whose parameter stands at an index
 unfoldable pub argIn : Scope → ℕ → Expr → Parameter → M State ℕ
 argIn Γ used e p = goIn Γ p (placeIn e) (exprIn Γ used e)
 
-pub record AsksArg (nums directory ends scope offsets entries widths slots frame : List ℕ) (depth at parameters : ℕ)
+pub record AsksArg (nums directory ends scope slots frame : List ℕ) (depth at parameters : ℕ)
     : Type 0 where
   pub scopeOf : Scope
   pub used : ℕ
@@ -104,7 +104,7 @@ pub record AsksArg (nums directory ends scope offsets entries widths slots frame
   pub state : State
   pub expr : Expr
   pub parameter : Parameter
-  pub stage : Stage nums directory ends scope offsets entries widths slots frame scopeOf used entryList state
+  pub stage : Stage nums directory ends scope slots frame scopeOf used entryList state
   pub stands : StandsExpr nums ends depth at expr
   pub direction : Holds nums parameters (directionNumber (parameter .direction))
   pub deep : depth ≤ deepest
@@ -114,12 +114,12 @@ pub record Went (p : Parameter) (r n : ℕ) : Type 0 where
   pub is : n ≡ r
   pub fit : FitParameter p n
 
-pub record RunsArg (nums directory ends scope offsets entries widths slots slots′ frame frame′ : List ℕ)
+pub record RunsArg (nums directory ends scope slots slots′ frame frame′ : List ℕ)
     (depth at parameters r : ℕ) : Type 0 where
   pub runs : (Γ : Scope) (used : ℕ) (es : List Entry) (s : State) (e : Expr) (p : Parameter)
-      → Stage nums directory ends scope offsets entries widths slots frame Γ used es s → StandsExpr nums ends depth at e
+      → Stage nums directory ends scope slots frame Γ used es s → StandsExpr nums ends depth at e
       → Holds nums parameters (directionNumber (p .direction)) → Goes (counterOf slots) (argIn Γ used e p s)
-      → Ran nums directory ends scope offsets slots slots′ frame frame′ Γ (argIn Γ used e p s) (Went p r)
+      → Ran nums directory ends scope slots slots′ frame frame′ Γ (argIn Γ used e p s) (Went p r)
 
 -- so many arguments, into free slots one after the other
 pub record ArgsAt (nums ends frame : List ℕ) (depth at parameters count slot : ℕ) (Γ : Scope) (xs : Args)
@@ -130,7 +130,7 @@ pub record ArgsAt (nums ends frame : List ℕ) (depth at parameters count slot :
   pub own : ownOf Γ ≤ slot
   pub inside : slot + count ≤ length frame
 
-pub record AsksArgs (nums directory ends scope offsets entries widths slots frame : List ℕ)
+pub record AsksArgs (nums directory ends scope slots frame : List ℕ)
     (depth at parameters count slot : ℕ) : Type 0 where
   pub scopeOf : Scope
   pub used : ℕ
@@ -138,7 +138,7 @@ pub record AsksArgs (nums directory ends scope offsets entries widths slots fram
   pub state : State
   pub args : Args
   pub list : List Parameter
-  pub stage : Stage nums directory ends scope offsets entries widths slots frame scopeOf used entryList state
+  pub stage : Stage nums directory ends scope slots frame scopeOf used entryList state
   pub given : ArgsAt nums ends frame depth at parameters count slot scopeOf args list
   pub few : count ≤ mostArguments
   pub deep : depth ≤ deepest
@@ -148,98 +148,98 @@ pub record Laying (frame : List ℕ) (slot : ℕ) (ps : List Parameter) (ns : Li
   pub laid : Laid frame slot ns
   pub fit : All2 FitParameter ps ns
 
-pub record RunsArgs (nums directory ends scope offsets entries widths slots slots′ frame frame′ : List ℕ)
+pub record RunsArgs (nums directory ends scope slots slots′ frame frame′ : List ℕ)
     (depth at parameters count slot : ℕ) : Type 0 where
   pub runs : (Γ : Scope) (used : ℕ) (es : List Entry) (s : State) (xs : Args) (ps : List Parameter)
-      → Stage nums directory ends scope offsets entries widths slots frame Γ used es s
+      → Stage nums directory ends scope slots frame Γ used es s
       → ArgsAt nums ends frame depth at parameters count slot Γ xs ps → Goes (counterOf slots) (argsIn Γ used xs ps s)
-      → Ran nums directory ends scope offsets slots slots′ frame frame′ Γ (argsIn Γ used xs ps s) (Laying frame′ slot ps)
+      → Ran nums directory ends scope slots slots′ frame frame′ Γ (argsIn Γ used xs ps s) (Laying frame′ slot ps)
 
 -- the body of callable f
-pub record AsksBody (nums directory ends offsets entries widths slots frame : List ℕ) (f : ℕ) : Type 0 where
+pub record AsksBody (nums directory ends slots frame : List ℕ) (f : ℕ) : Type 0 where
   pub program : Program
   pub found : Callable
   pub used : ℕ
   pub entryList : List Entry
   pub given : List ℕ
   pub cells : List Cell
-  pub called : Called nums directory ends offsets entries widths slots frame f program found used entryList given cells
+  pub called : Called nums directory ends slots frame f program found used entryList given cells
   pub going : Goes (counterOf slots) (bodyIn program f found used given cells)
 
-pub record RunsBody (nums directory ends offsets entries widths slots slots′ frame frame′ : List ℕ) (f : ℕ) (r : Ended)
+pub record RunsBody (nums directory ends slots slots′ frame frame′ : List ℕ) (f : ℕ) (r : Ended)
     : Type 0 where
   pub runs : (P : Program) (c : Callable) (used : ℕ) (es : List Entry) (ns : List ℕ) (cells : List Cell)
-      → Called nums directory ends offsets entries widths slots frame f P c used es ns cells
+      → Called nums directory ends slots frame f P c used es ns cells
       → Goes (counterOf slots) (bodyIn P f c used ns cells)
       → RanBody slots slots′ frame frame′ P c (bodyIn P f c used ns cells) r
 
 -- a statement; one of a tag
-pub record AsksStmt (nums directory ends scope offsets entries widths slots frame : List ℕ) (depth at : ℕ)
+pub record AsksStmt (nums directory ends scope slots frame : List ℕ) (depth at : ℕ)
     : Type 0 where
   pub scopeOf : Scope
   pub used : ℕ
   pub entryList : List Entry
   pub state : State
   pub stmt : Stmt
-  pub stage : Stage nums directory ends scope offsets entries widths slots frame scopeOf used entryList state
+  pub stage : Stage nums directory ends scope slots frame scopeOf used entryList state
   pub stands : StandsStmt nums ends depth at stmt
   pub deep : depth ≤ deepest
   pub going : Goes (counterOf slots) (stmtIn scopeOf used entryList stmt state)
 
-pub record RunsStmt (nums directory ends scope offsets entries widths slots slots′ frame frame′ : List ℕ) (depth at : ℕ)
+pub record RunsStmt (nums directory ends scope slots slots′ frame frame′ : List ℕ) (depth at : ℕ)
     (r : Ended) : Type 0 where
   pub runs : (Γ : Scope) (used : ℕ) (es : List Entry) (s : State) (st : Stmt)
-      → Stage nums directory ends scope offsets entries widths slots frame Γ used es s → StandsStmt nums ends depth at st
+      → Stage nums directory ends scope slots frame Γ used es s → StandsStmt nums ends depth at st
       → Goes (counterOf slots) (stmtIn Γ used es st s)
-      → Ran nums directory ends scope offsets slots slots′ frame frame′ Γ (stmtIn Γ used es st s) (Ends r)
+      → Ran nums directory ends scope slots slots′ frame frame′ Γ (stmtIn Γ used es st s) (Ends r)
 
-pub record AsksTagged (tag : ℕ) (nums directory ends scope offsets entries widths slots frame : List ℕ) (depth at : ℕ)
+pub record AsksTagged (tag : ℕ) (nums directory ends scope slots frame : List ℕ) (depth at : ℕ)
     : Type 0 where
-  pub asks : AsksStmt nums directory ends scope offsets entries widths slots frame depth at
+  pub asks : AsksStmt nums directory ends scope slots frame depth at
   pub tagged : getD nums at 0 ≡ tag
 
 -- one that runs no other construct
-pub record AsksPlain (nums directory ends scope offsets entries widths slots frame : List ℕ) (depth at : ℕ)
+pub record AsksPlain (nums directory ends scope slots frame : List ℕ) (depth at : ℕ)
     : Type 0 where
-  pub asks : AsksStmt nums directory ends scope offsets entries widths slots frame depth at
+  pub asks : AsksStmt nums directory ends scope slots frame depth at
   pub single : SingleAt nums ends depth at
 
 -- so many members of a block
-pub record AsksStmts (nums directory ends scope offsets entries widths slots frame : List ℕ) (depth at count : ℕ)
+pub record AsksStmts (nums directory ends scope slots frame : List ℕ) (depth at count : ℕ)
     : Type 0 where
   pub scopeOf : Scope
   pub used : ℕ
   pub entryList : List Entry
   pub state : State
   pub stmts : Stmts
-  pub stage : Stage nums directory ends scope offsets entries widths slots frame scopeOf used entryList state
+  pub stage : Stage nums directory ends scope slots frame scopeOf used entryList state
   pub stand : StandsStmts nums ends depth at stmts
   pub counts : count ≡ memberCount stmts
   pub deep : depth ≤ deepest
   pub going : Goes (counterOf slots) (stmtsIn scopeOf used entryList stmts state)
 
-pub record RunsStmts (nums directory ends scope offsets entries widths slots slots′ frame frame′ : List ℕ)
+pub record RunsStmts (nums directory ends scope slots slots′ frame frame′ : List ℕ)
     (depth at count : ℕ) (r : Ended) : Type 0 where
   pub runs : (Γ : Scope) (used : ℕ) (es : List Entry) (s : State) (ss : Stmts)
-      → Stage nums directory ends scope offsets entries widths slots frame Γ used es s
+      → Stage nums directory ends scope slots frame Γ used es s
       → StandsStmts nums ends depth at ss → count ≡ memberCount ss → Goes (counterOf slots) (stmtsIn Γ used es ss s)
-      → Ran nums directory ends scope offsets slots slots′ frame frame′ Γ (stmtsIn Γ used es ss s) (Ends r)
+      → Ran nums directory ends scope slots slots′ frame frame′ Γ (stmtsIn Γ used es ss s) (Ends r)
 
 -- a table, applied in the apply body
-pub record AsksTable (nums directory ends scope offsets entries widths slots frame : List ℕ) (t : ℕ) : Type 0 where
+pub record AsksTable (nums directory ends scope slots frame : List ℕ) (t : ℕ) : Type 0 where
   pub program : Program
   pub used : ℕ
   pub entryList : List Entry
   pub state : State
-  pub stage : Stage nums directory ends scope offsets entries widths slots frame (applyScope program) used entryList state
+  pub stage : Stage nums directory ends scope slots frame (applyScope program) used entryList state
   pub going : Goes (counterOf slots) (tableIn program used entryList t state)
 
-pub record RunsTable (nums directory ends scope offsets entries widths slots slots′ frame frame′ : List ℕ) (t : ℕ)
+pub record RunsTable (nums directory ends scope slots slots′ frame frame′ : List ℕ) (t : ℕ)
     (r : Ended) : Type 0 where
   pub runs : (P : Program) (used : ℕ) (es : List Entry) (s : State)
-      → Stage nums directory ends scope offsets entries widths slots frame (applyScope P) used es s
+      → Stage nums directory ends scope slots frame (applyScope P) used es s
       → Goes (counterOf slots) (tableIn P used es t s)
-      → Ran nums directory ends scope offsets slots slots′ frame frame′ (applyScope P) (tableIn P used es t s) (Ends r)
+      → Ran nums directory ends scope slots slots′ frame frame′ (applyScope P) (tableIn P used es t s) (Ends r)
 
 -- its keys: their numbers in slots one after the other
 unfoldable pub KeyNumbers : List ℕ → ℕ → List Worked → Type 0
@@ -252,48 +252,50 @@ pub record KeysAt (nums ends keys : List ℕ) (j from count : ℕ) (ks : List Ke
   pub slots : length keys ≡ mostKeys
   pub inside : j + count ≤ mostKeys
 
-pub record AsksKeys (nums directory ends scope offsets entries widths slots frame keys : List ℕ) (j from count : ℕ)
+pub record AsksKeys (nums directory ends scope slots frame keys : List ℕ) (j from count : ℕ)
     : Type 0 where
   pub program : Program
   pub used : ℕ
   pub entryList : List Entry
   pub state : State
   pub keyList : List Key
-  pub stage : Stage nums directory ends scope offsets entries widths slots frame (applyScope program) used entryList state
+  pub stage : Stage nums directory ends scope slots frame (applyScope program) used entryList state
   pub keyed : KeysAt nums ends keys j from count keyList
   pub going : Goes (counterOf slots) (keysIn program used keyList state)
 
-pub record RunsKeys (nums directory ends scope offsets entries widths slots slots′ frame frame′ keys keys′ : List ℕ)
+pub record RunsKeys (nums directory ends scope slots slots′ frame frame′ keys keys′ : List ℕ)
     (j from count : ℕ) : Type 0 where
   pub same : length keys′ ≡ length keys
   pub before : (i : ℕ) → i < j → getD keys′ i 0 ≡ getD keys i 0
   pub runs : (P : Program) (used : ℕ) (es : List Entry) (s : State) (ks : List Key)
-      → Stage nums directory ends scope offsets entries widths slots frame (applyScope P) used es s
+      → Stage nums directory ends scope slots frame (applyScope P) used es s
       → KeysAt nums ends keys j from count ks → Goes (counterOf slots) (keysIn P used ks s)
-      → Ran nums directory ends scope offsets slots slots′ frame frame′ (applyScope P) (keysIn P used ks s)
+      → Ran nums directory ends scope slots slots′ frame frame′ (applyScope P) (keysIn P used ks s)
       (KeyNumbers keys′ j)
 
--- an action that a table lists, by its position, with numbers of the file as its arguments
+-- an action that a table lists: its position stands at an index, and its arguments from another on
 pub record ActionAt (nums : List ℕ) (actions from : ℕ) (T : Table) (ns : List ℕ) : Type 0 where
   pub listed : StandsNumerals nums (actions + 1) (T .actions)
   pub given : HoldsAll nums from ns
 
-pub record AsksAction (nums directory ends scope offsets entries widths slots frame : List ℕ)
-    (actions position from : ℕ) : Type 0 where
+pub record AsksAction (nums directory ends slots frame : List ℕ) (actions at from : ℕ) : Type 0 where
+  pub scope : List ℕ
   pub program : Program
   pub used : ℕ
   pub entryList : List Entry
   pub state : State
   pub table : Table
   pub numbers : List ℕ
-  pub stage : Stage nums directory ends scope offsets entries widths slots frame (applyScope program) used entryList state
+  pub stage : Stage nums directory ends scope slots frame (applyScope program) used entryList state
   pub action : ActionAt nums actions from table numbers
-  pub going : Goes (counterOf slots) (actionIn program used table position numbers state)
+  pub inside : at < length nums
+  pub near : from ≤ at + 2
+  pub going : Goes (counterOf slots) (actionIn program used table (getD nums at 0) numbers state)
 
-pub record RunsAction (nums directory ends scope offsets entries widths slots slots′ frame frame′ : List ℕ)
-    (actions position from : ℕ) (r : Ended) : Type 0 where
-  pub runs : (P : Program) (used : ℕ) (es : List Entry) (s : State) (T : Table) (ns : List ℕ)
-      → Stage nums directory ends scope offsets entries widths slots frame (applyScope P) used es s
-      → ActionAt nums actions from T ns → Goes (counterOf slots) (actionIn P used T position ns s)
-      → Ran nums directory ends scope offsets slots slots′ frame frame′ (applyScope P) (actionIn P used T position ns s)
+pub record RunsAction (nums directory ends slots slots′ frame frame′ : List ℕ) (actions at from : ℕ) (r : Ended)
+    : Type 0 where
+  pub runs : (scope : List ℕ) (P : Program) (used : ℕ) (es : List Entry) (s : State) (T : Table) (ns : List ℕ)
+      → Stage nums directory ends scope slots frame (applyScope P) used es s
+      → ActionAt nums actions from T ns → Goes (counterOf slots) (actionIn P used T (getD nums at 0) ns s)
+      → Ran nums directory ends scope slots slots′ frame frame′ (applyScope P) (actionIn P used T (getD nums at 0) ns s)
       (Ends r)

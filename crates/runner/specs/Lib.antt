@@ -1,4 +1,5 @@
 pub mod Runs
 pub mod Forms
 pub mod Claims
+pub mod Prepares
 pub mod Whole

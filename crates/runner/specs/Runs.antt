@@ -4,18 +4,20 @@ use mathlib.Core.Bool.{true, false}
 use mathlib.Core.Option.{some}
 use mathlib.Core.Path.{_≡_}
 use mathlib.Core.List.{List}
-use Prim.Native.Nat.{ℕ, _+_, _≤_}
+use Prim.Native.Nat.{ℕ, _+_, _*_, _≤_}
 use lib.ListN.{length, getD, getElem?}
+use Rattle.rules.specs.Words.{widest}
 use Rattle.rules.specs.Syntax.{Value, Expr, Args, Stmt, Stmts, Parameter, Callable, Key, Table, Program}
+use Rattle.rules.specs.Reading.{mostKeys}
 use Rattle.rules.specs.Form.{ok, isApply, Scope, applyScope, judgeProgram}
-use Rattle.rules.specs.Lists.{Entry, Cell, mostEntries}
+use Rattle.rules.specs.Lists.{Entry, Cell, mostEntries, keyWidth}
 use Rattle.rules.specs.Running as rules
 use Rattle.rules.specs.Running.{State, Ending, Seen, Out, done, M, nowhere, Calls, runExpr, runArgs, runCall, runStmt, runStmts, runBody, callsBelow, Worked, runKeys, runAction, runTable}
 use Rattle.rules.specs.Answers.{workingSlots}
 use Rattle.rules.proofs.Predicates.{All2}
 use Rattle.rules.proofs.Fits.{FitParameter, StoreFits}
+use Rattle.shape.specs.Directory.{offsetsSlot, entriesSlot, widthsSlot}
 use Rattle.program.specs.Stands.{StandsProgram}
-use Rattle.program.specs.Keys.{WidthsOf}
 use Rattle.store.specs.Mirrors.{MirrorsStore, OffsetsOf, Scene}
 use Rattle.lookup.specs.LookingUp.{StandsEntries}
 use Rattle.steps.specs.declared.Ended.{Ended}
@@ -62,29 +64,33 @@ unfoldable pub actionIn : Program → ℕ → Table → ℕ → List ℕ → M S
 actionIn P used T position ns = runAction P used (callsOf (applyScope P)) T position ns
 
 -- what stays as it is during a run: a judged program's entries, and the widths of its tables' keys
-pub record Tables (nums entries widths : List ℕ) (P : Program) (es : List Entry) : Type 0 where
+abbrev pub widthSlot : ℕ → ℕ → ℕ
+widthSlot t j = widthsSlot + mostKeys * t + j
+
+pub record Tables (nums directory : List ℕ) (P : Program) (es : List Entry) : Type 0 where
   pub judged : judgeProgram P ≡ ok tt
-  pub stand : StandsEntries P nums entries 1 es
-  pub count : getD entries 0 0 ≡ length es
+  pub stand : StandsEntries P nums directory (entriesSlot + 1) es
+  pub count : getD directory entriesSlot 0 ≡ length es
   pub few : length es ≤ mostEntries
-  pub wide : WidthsOf P widths
+  pub wide : (t j : ℕ) (T : Table) (k : Key) → getElem? (P .tables) t ≡ some T → getElem? (T .keys) j ≡ some k
+      → (getD directory (widthSlot t j) 0 ≡ keyWidth P k) × (getD directory (widthSlot t j) 0 ≤ widest)
 
 -- a body in its run: the working slots that the rules do not have in use are those behind its own
-pub record Stage (nums directory ends scope offsets entries widths slots frame : List ℕ) (Γ : Scope) (used : ℕ)
+pub record Stage (nums directory ends scope slots frame : List ℕ) (Γ : Scope) (used : ℕ)
     (es : List Entry) (s : State) : Type 0 where
-  pub scene : Scene nums directory ends scope offsets slots frame Γ s
-  pub tables : Tables nums entries widths (Γ .program) es
+  pub scene : Scene nums directory ends scope slots frame Γ s
+  pub tables : Tables nums directory (Γ .program) es
   pub few : ownOf Γ ≤ mostOwn
   pub room : used + length frame ≡ workingSlots + ownOf Γ
   pub apply : isApply (Γ .body) ≡ true → Γ ≡ applyScope (Γ .program)
 
 -- a call of callable f: its numbers are in the first slots of its frame, and the rest of them is free
-pub record Called (nums directory ends offsets entries widths slots frame : List ℕ) (f : ℕ) (P : Program)
+pub record Called (nums directory ends slots frame : List ℕ) (f : ℕ) (P : Program)
     (c : Callable) (used : ℕ) (es : List Entry) (ns : List ℕ) (cells : List Cell) : Type 0 where
   pub end : ℕ
   pub stands : StandsProgram nums directory ends P end
-  pub offset : OffsetsOf P offsets
-  pub tables : Tables nums entries widths P es
+  pub offset : OffsetsOf P directory offsetsSlot
+  pub tables : Tables nums directory P es
   pub is : getElem? (P .callables) f ≡ some c
   pub fits : StoreFits P cells
   pub store : MirrorsStore slots cells

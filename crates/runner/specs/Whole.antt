@@ -9,6 +9,7 @@ use Rattle.rules.specs.Lists.{Entry, Cell, slotsOf}
 use Rattle.rules.specs.Running.{Ending, Seen, Out, done, signalOf, runProgram}
 use Rattle.rules.specs.Answers.{workingSlots}
 use Rattle.rules.proofs.Fits.{StoreFits}
+use Rattle.shape.specs.Directory.{offsetsSlot}
 use Rattle.program.specs.Stands.{StandsProgram}
 use Rattle.lists.specs.Stands.{HoldsAll}
 use Rattle.store.specs.Mirrors.{storeSlots, MirrorsStore, OffsetsOf}
@@ -17,12 +18,12 @@ use Rattle.steps.specs.Outcomes.{Goes, counterOf, Ends}
 use Rattle.runner.specs.Runs.{Tables}
 
 -- a judged program with its entries and its first store, and working slots behind the store's
-pub record Ready (nums directory ends offsets entries widths slots frame : List ℕ) (store size : ℕ) (P : Program)
+pub record Ready (nums directory ends slots frame : List ℕ) (store size : ℕ) (P : Program)
     (es : List Entry) (cells : List Cell) : Type 0 where
   pub end : ℕ
   pub stands : StandsProgram nums directory ends P end
-  pub offset : OffsetsOf P offsets
-  pub tables : Tables nums entries widths P es
+  pub offset : OffsetsOf P directory offsetsSlot
+  pub tables : Tables nums directory P es
   pub fits : StoreFits P cells
   pub numbers : HoldsAll nums store (slotsOf cells)
   pub sized : size ≡ length (slotsOf cells)
@@ -32,11 +33,11 @@ pub record Ready (nums directory ends offsets entries widths slots frame : List 
 abbrev pub programRun : Program → List Entry → List Cell → Out (List Cell) Signal
 programRun P es cells = runProgram workingSlots P es cells
 
-pub record AsksRun (nums directory ends offsets entries widths slots frame : List ℕ) (store size : ℕ) : Type 0 where
+pub record AsksRun (nums directory ends slots frame : List ℕ) (store size : ℕ) : Type 0 where
   pub program : Program
   pub entryList : List Entry
   pub cells : List Cell
-  pub ready : Ready nums directory ends offsets entries widths slots frame store size program entryList cells
+  pub ready : Ready nums directory ends slots frame store size program entryList cells
   pub going : Goes 0 (programRun program entryList cells)
 
 -- the rules' signal and final store; the steps are counted
@@ -48,10 +49,10 @@ pub record RanWhole (slots : List ℕ) (P : Program) (o : Out (List Cell) Signal
   pub store : MirrorsStore slots cells
   pub counted : counterOf slots ≡ length seen
 
-pub record RunsWhole (nums directory ends offsets entries widths slots slots′ frame : List ℕ) (store size : ℕ) (r : Signal)
+pub record RunsWhole (nums directory ends slots slots′ frame : List ℕ) (store size : ℕ) (r : Signal)
     : Type 0 where
   pub runs : (P : Program) (es : List Entry) (cells : List Cell)
-      → Ready nums directory ends offsets entries widths slots frame store size P es cells
+      → Ready nums directory ends slots frame store size P es cells
       → Goes 0 (programRun P es cells) → RanWhole slots′ P (programRun P es cells) r
 
 -- the signal of an ending

@@ -1,11 +1,12 @@
 // The runner: runs a judged program by the rules, from the numbers of its file and what the judge left. The store stands
 // in slots of its own, one for each number in file order, and the last of them counts steps; frames stand in the working
 // slots that are lent.
+ghost use Rattle.runner.specs.Prepares.{AsksLay, Lays, AsksPrepare, Prepares};
 ghost use Rattle.runner.specs.Whole.{AsksRun, RunsWhole, TellsSignal};
 use rules::Signal;
 use shape::limits::DEEPEST;
 use steps::Ended;
-use steps::operands::COUNTER;
+use store::COUNTER;
 use store::STORE;
 use store::fill::copy;
 
@@ -23,39 +24,48 @@ fn signal_of(ended: Ended) -> Signal
     }
 }
 
-// The run of an accepted file whose store has so many numbers from an index on. It leaves the final store's numbers in
-// the slots, and the steps behind them.
+// So many numbers are put into the slots of the directory from one on.
+fn lay(numbers: &[u64], count: usize, slot: usize, directory: &mut [u64])
+    requires { ⌜ AsksLay (now numbers) (now directory) count slot ⌝ }
+    ensures { λ r. ⌜ Lays (now (numbers .entry)) (now (directory .entry)) (now (directory .exit)) count slot ⌝ }
+{
+    copy(numbers, 0, count, &mut directory[slot..]);
+}
+
+// What a run looks up is put behind the parts that the directory has: where the globals stand in the store, where the
+// entries begin, the widths of the tables' keys.
+pub fn prepare(
+    offsets: &[u64; lists::OFFSETS],
+    entries: &[u64; lists::ENTRIES],
+    widths: &[u64; program::WIDTHS],
+    directory: &mut [u64; shape::SLOTS],
+)
+    requires { ⌜ AsksPrepare (now offsets) (now entries) (now widths) (now directory) ⌝ }
+    ensures { λ r. ⌜ Prepares (now (offsets .entry)) (now (entries .entry)) (now (widths .entry)) (now (directory .entry)) (now (directory .exit)) ⌝ }
+{
+    lay(offsets, lists::OFFSETS, shape::OFFSETS, directory);
+    lay(entries, lists::ENTRIES, shape::ENTRIES, directory);
+    lay(widths, program::WIDTHS, shape::WIDTHS, directory);
+}
+
+// The run of an accepted file that is prepared, whose store has so many numbers from an index on. It leaves the final
+// store's numbers in the slots, and the steps behind them.
 pub fn run(
     nums: &[u64],
     ends: &[u64],
     directory: &[u64; shape::SLOTS],
-    offsets: &[u64; lists::OFFSETS],
-    entries: &[u64; lists::ENTRIES],
-    widths: &[u64; program::WIDTHS],
     store: usize,
     size: usize,
     slots: &mut [u64; STORE],
     frame: &mut [u64],
 ) -> Signal
-    requires { ⌜ AsksRun (now nums) (now directory) (now ends) (now offsets) (now entries) (now widths) (now slots) (now frame) store size ⌝ }
-    ensures { λ r. ⌜ RunsWhole (now (nums .entry)) (now (directory .entry)) (now (ends .entry)) (now (offsets .entry)) (now (entries .entry)) (now (widths .entry)) (now (slots .entry)) (now (slots .exit)) (now (frame .entry)) store size r ⌝ }
+    requires { ⌜ AsksRun (now nums) (now directory) (now ends) (now slots) (now frame) store size ⌝ }
+    ensures { λ r. ⌜ RunsWhole (now (nums .entry)) (now (directory .entry)) (now (ends .entry)) (now (slots .entry)) (now (slots .exit)) (now (frame .entry)) store size r ⌝ }
 {
     copy(nums, store, size, slots);
     slots[COUNTER] = 0;
     let scope = [directory[shape::CALLABLES], 0, 0, 0, 0, program::APPLY, 0];
     let body = directory[shape::BODY] as usize;
-    let ended = running::run_stmt(
-        nums,
-        ends,
-        directory,
-        &scope,
-        offsets,
-        entries,
-        widths,
-        DEEPEST,
-        body,
-        slots,
-        frame,
-    );
+    let ended = running::run_stmt(nums, ends, directory, &scope, DEEPEST, body, slots, frame);
     signal_of(ended)
 }

@@ -1,6 +1,7 @@
 // A run: expressions, argument lists, statements and calls run each other, the callable number and the remaining depth
 // falling. A body's parameters and locals stand in the first slots of its frame; a call is lent the slots behind them,
 // and its arguments are put there before.
+ghost use Prim.Native.Nat.{_+_};
 ghost use Rattle.runner.specs.Claims.{AsksExpr, RunsExpr, AsksLeafAt, AsksOne, AsksTwo, AsksValue, AsksCall, RunsCall, AsksArg, RunsArg, AsksArgs, RunsArgs, AsksBody, RunsBody, AsksStmt, RunsStmt, AsksTagged, AsksPlain, AsksStmts, RunsStmts, AsksTable, RunsTable, AsksKeys, RunsKeys, AsksAction, RunsAction};
 use lookup::Lookup;
 use shape::limits::DEEPEST;
@@ -38,129 +39,34 @@ fn run_expr(
     ends: &[u64],
     directory: &[u64; shape::SLOTS],
     scope: &[u64; program::SCOPE],
-    offsets: &[u64; lists::OFFSETS],
-    entries: &[u64; lists::ENTRIES],
-    widths: &[u64; program::WIDTHS],
     depth: usize,
     at: usize,
     slots: &mut [u64; STORE],
     frame: &mut [u64],
 ) -> Value
-    requires { ⌜ AsksExpr (now nums) (now directory) (now ends) (now scope) (now offsets) (now entries) (now widths) (now slots) (now frame) depth at ⌝ }
-    ensures { λ r. ⌜ RunsExpr (now (nums .entry)) (now (directory .entry)) (now (ends .entry)) (now (scope .entry)) (now (offsets .entry)) (now (entries .entry)) (now (widths .entry)) (now (slots .entry)) (now (slots .exit)) (now (frame .entry)) (now (frame .exit)) depth at r ⌝ }
+    requires { ⌜ AsksExpr (now nums) (now directory) (now ends) (now scope) (now slots) (now frame) depth at ⌝ }
+    ensures { λ r. ⌜ RunsExpr (now (nums .entry)) (now (directory .entry)) (now (ends .entry)) (now (scope .entry)) (now (slots .entry)) (now (slots .exit)) (now (frame .entry)) (now (frame .exit)) depth at r ⌝ }
 {
     let tag = nums[at];
     match tag {
-        operands::NOT => run_one(
-            nums,
-            ends,
-            directory,
-            scope,
-            offsets,
-            entries,
-            widths,
-            depth,
-            at,
-            at + 1,
-            slots,
-            frame,
-        ),
-        operands::COMPLEMENT => run_one(
-            nums,
-            ends,
-            directory,
-            scope,
-            offsets,
-            entries,
-            widths,
-            depth,
-            at,
-            at + 1,
-            slots,
-            frame,
-        ),
-        operands::BINARY => run_two(
-            nums,
-            ends,
-            directory,
-            scope,
-            offsets,
-            entries,
-            widths,
-            depth,
-            at,
-            at + 2,
-            slots,
-            frame,
-        ),
-        operands::CAST => run_one(
-            nums,
-            ends,
-            directory,
-            scope,
-            offsets,
-            entries,
-            widths,
-            depth,
-            at,
-            at + 2,
-            slots,
-            frame,
-        ),
-        operands::SLICE => run_one(
-            nums,
-            ends,
-            directory,
-            scope,
-            offsets,
-            entries,
-            widths,
-            depth,
-            at,
-            at + 3,
-            slots,
-            frame,
-        ),
+        operands::NOT => run_one(nums, ends, directory, scope, depth, at, 1, slots, frame),
+        operands::COMPLEMENT => run_one(nums, ends, directory, scope, depth, at, 1, slots, frame),
+        operands::BINARY => run_two(nums, ends, directory, scope, depth, at, 2, slots, frame),
+        operands::CAST => run_one(nums, ends, directory, scope, depth, at, 2, slots, frame),
+        operands::SLICE => run_one(nums, ends, directory, scope, depth, at, 3, slots, frame),
         operands::CONCATENATION => run_two(
             nums,
             ends,
             directory,
             scope,
-            offsets,
-            entries,
-            widths,
             depth,
             at,
-            at + 1,
+            1,
             slots,
             frame,
         ),
-        operands::CALL => run_value(
-            nums,
-            ends,
-            directory,
-            scope,
-            offsets,
-            entries,
-            widths,
-            depth,
-            at,
-            slots,
-            frame,
-        ),
-        _ => run_leaf(
-            nums,
-            ends,
-            directory,
-            scope,
-            offsets,
-            entries,
-            widths,
-            depth,
-            at,
-            slots,
-            frame,
-        ),
+        operands::CALL => run_value(nums, ends, directory, scope, depth, at, slots, frame),
+        _ => run_leaf(nums, ends, directory, scope, depth, at, slots, frame),
     }
 }
 
@@ -170,88 +76,57 @@ fn run_leaf(
     ends: &[u64],
     directory: &[u64; shape::SLOTS],
     scope: &[u64; program::SCOPE],
-    offsets: &[u64; lists::OFFSETS],
-    entries: &[u64; lists::ENTRIES],
-    widths: &[u64; program::WIDTHS],
     depth: usize,
     at: usize,
     slots: &mut [u64; STORE],
     frame: &mut [u64],
 ) -> Value
-    requires { ⌜ AsksLeafAt (now nums) (now directory) (now ends) (now scope) (now offsets) (now entries) (now widths) (now slots) (now frame) depth at ⌝ }
-    ensures { λ r. ⌜ RunsExpr (now (nums .entry)) (now (directory .entry)) (now (ends .entry)) (now (scope .entry)) (now (offsets .entry)) (now (entries .entry)) (now (widths .entry)) (now (slots .entry)) (now (slots .exit)) (now (frame .entry)) (now (frame .exit)) depth at r ⌝ }
+    requires { ⌜ AsksLeafAt (now nums) (now directory) (now ends) (now scope) (now slots) (now frame) depth at ⌝ }
+    ensures { λ r. ⌜ RunsExpr (now (nums .entry)) (now (directory .entry)) (now (ends .entry)) (now (scope .entry)) (now (slots .entry)) (now (slots .exit)) (now (frame .entry)) (now (frame .exit)) depth at r ⌝ }
 {
     count_step(slots);
-    operands::leaf(nums, ends, directory, scope, offsets, at, slots, frame)
+    operands::leaf(nums, ends, directory, scope, at, slots, frame)
 }
 
-// One with one operand, which begins at `first`.
+// One with one operand, which begins so many numbers behind its tag.
 fn run_one(
     nums: &[u64],
     ends: &[u64],
     directory: &[u64; shape::SLOTS],
     scope: &[u64; program::SCOPE],
-    offsets: &[u64; lists::OFFSETS],
-    entries: &[u64; lists::ENTRIES],
-    widths: &[u64; program::WIDTHS],
     depth: usize,
     at: usize,
-    first: usize,
+    behind: usize,
     slots: &mut [u64; STORE],
     frame: &mut [u64],
 ) -> Value
-    requires { ⌜ AsksOne (now nums) (now directory) (now ends) (now scope) (now offsets) (now entries) (now widths) (now slots) (now frame) depth at first ⌝ }
-    ensures { λ r. ⌜ RunsExpr (now (nums .entry)) (now (directory .entry)) (now (ends .entry)) (now (scope .entry)) (now (offsets .entry)) (now (entries .entry)) (now (widths .entry)) (now (slots .entry)) (now (slots .exit)) (now (frame .entry)) (now (frame .exit)) depth at r ⌝ }
+    requires { ⌜ AsksOne (now nums) (now directory) (now ends) (now scope) (now slots) (now frame) depth at (at + behind) ⌝ }
+    ensures { λ r. ⌜ RunsExpr (now (nums .entry)) (now (directory .entry)) (now (ends .entry)) (now (scope .entry)) (now (slots .entry)) (now (slots .exit)) (now (frame .entry)) (now (frame .exit)) depth at r ⌝ }
 {
     count_step(slots);
-    let a = run_expr(
-        nums,
-        ends,
-        directory,
-        scope,
-        offsets,
-        entries,
-        widths,
-        depth - 1,
-        first,
-        slots,
-        frame,
-    );
+    let first = at + behind;
+    let a = run_expr(nums, ends, directory, scope, depth - 1, first, slots, frame);
     operands::one(nums, at, a)
 }
 
-// One with two operands, the first of which begins at `first`: both and either may stop behind it.
+// One with two operands, the first of which begins so many numbers behind its tag: both and either may stop after it.
 fn run_two(
     nums: &[u64],
     ends: &[u64],
     directory: &[u64; shape::SLOTS],
     scope: &[u64; program::SCOPE],
-    offsets: &[u64; lists::OFFSETS],
-    entries: &[u64; lists::ENTRIES],
-    widths: &[u64; program::WIDTHS],
     depth: usize,
     at: usize,
-    first: usize,
+    behind: usize,
     slots: &mut [u64; STORE],
     frame: &mut [u64],
 ) -> Value
-    requires { ⌜ AsksTwo (now nums) (now directory) (now ends) (now scope) (now offsets) (now entries) (now widths) (now slots) (now frame) depth at first ⌝ }
-    ensures { λ r. ⌜ RunsExpr (now (nums .entry)) (now (directory .entry)) (now (ends .entry)) (now (scope .entry)) (now (offsets .entry)) (now (entries .entry)) (now (widths .entry)) (now (slots .entry)) (now (slots .exit)) (now (frame .entry)) (now (frame .exit)) depth at r ⌝ }
+    requires { ⌜ AsksTwo (now nums) (now directory) (now ends) (now scope) (now slots) (now frame) depth at (at + behind) ⌝ }
+    ensures { λ r. ⌜ RunsExpr (now (nums .entry)) (now (directory .entry)) (now (ends .entry)) (now (scope .entry)) (now (slots .entry)) (now (slots .exit)) (now (frame .entry)) (now (frame .exit)) depth at r ⌝ }
 {
     count_step(slots);
-    let a = run_expr(
-        nums,
-        ends,
-        directory,
-        scope,
-        offsets,
-        entries,
-        widths,
-        depth - 1,
-        first,
-        slots,
-        frame,
-    );
+    let first = at + behind;
+    let a = run_expr(nums, ends, directory, scope, depth - 1, first, slots, frame);
     if operands::stops_early(nums, at, a) {
         a
     } else {
@@ -261,9 +136,6 @@ fn run_two(
             ends,
             directory,
             scope,
-            offsets,
-            entries,
-            widths,
             depth - 1,
             second,
             slots,
@@ -279,31 +151,16 @@ fn run_value(
     ends: &[u64],
     directory: &[u64; shape::SLOTS],
     scope: &[u64; program::SCOPE],
-    offsets: &[u64; lists::OFFSETS],
-    entries: &[u64; lists::ENTRIES],
-    widths: &[u64; program::WIDTHS],
     depth: usize,
     at: usize,
     slots: &mut [u64; STORE],
     frame: &mut [u64],
 ) -> Value
-    requires { ⌜ AsksValue (now nums) (now directory) (now ends) (now scope) (now offsets) (now entries) (now widths) (now slots) (now frame) depth at ⌝ }
-    ensures { λ r. ⌜ RunsExpr (now (nums .entry)) (now (directory .entry)) (now (ends .entry)) (now (scope .entry)) (now (offsets .entry)) (now (entries .entry)) (now (widths .entry)) (now (slots .entry)) (now (slots .exit)) (now (frame .entry)) (now (frame .exit)) depth at r ⌝ }
+    requires { ⌜ AsksValue (now nums) (now directory) (now ends) (now scope) (now slots) (now frame) depth at ⌝ }
+    ensures { λ r. ⌜ RunsExpr (now (nums .entry)) (now (directory .entry)) (now (ends .entry)) (now (scope .entry)) (now (slots .entry)) (now (slots .exit)) (now (frame .entry)) (now (frame .exit)) depth at r ⌝ }
 {
     count_step(slots);
-    let ended = run_call(
-        nums,
-        ends,
-        directory,
-        scope,
-        offsets,
-        entries,
-        widths,
-        depth,
-        at,
-        slots,
-        frame,
-    );
+    let ended = run_call(nums, ends, directory, scope, depth, at, slots, frame);
     returned(ended)
 }
 
@@ -314,62 +171,33 @@ fn run_call(
     ends: &[u64],
     directory: &[u64; shape::SLOTS],
     scope: &[u64; program::SCOPE],
-    offsets: &[u64; lists::OFFSETS],
-    entries: &[u64; lists::ENTRIES],
-    widths: &[u64; program::WIDTHS],
     depth: usize,
     at: usize,
     slots: &mut [u64; STORE],
     frame: &mut [u64],
 ) -> Ended
-    requires { ⌜ AsksCall (now nums) (now directory) (now ends) (now scope) (now offsets) (now entries) (now widths) (now slots) (now frame) depth at ⌝ }
-    ensures { λ r. ⌜ RunsCall (now (nums .entry)) (now (directory .entry)) (now (ends .entry)) (now (scope .entry)) (now (offsets .entry)) (now (entries .entry)) (now (widths .entry)) (now (slots .entry)) (now (slots .exit)) (now (frame .entry)) (now (frame .exit)) depth at r ⌝ }
+    requires { ⌜ AsksCall (now nums) (now directory) (now ends) (now scope) (now slots) (now frame) depth at ⌝ }
+    ensures { λ r. ⌜ RunsCall (now (nums .entry)) (now (directory .entry)) (now (ends .entry)) (now (scope .entry)) (now (slots .entry)) (now (slots .exit)) (now (frame .entry)) (now (frame .exit)) depth at r ⌝ }
 {
     let f = nums[at + 1] as usize;
     let head = program::head_of(nums, ends, directory, f);
-    let parameters = head.parameters;
-    let count = head.count as usize;
     let own = own_slots(scope);
     run_args(
         nums,
         ends,
         directory,
         scope,
-        offsets,
-        entries,
-        widths,
         depth - 1,
         at + 3,
-        parameters,
-        count,
+        head.parameters,
+        head.count as usize,
         own,
         slots,
         frame,
     );
-    let ended = run_body(
-        nums,
-        ends,
-        directory,
-        offsets,
-        entries,
-        widths,
-        f,
-        slots,
-        &mut frame[own..],
-    );
-    finish_call(
-        nums,
-        ends,
-        scope,
-        offsets,
-        at + 3,
-        parameters,
-        count,
-        own,
-        ended,
-        slots,
-        frame,
-    )
+    let ended = run_body(nums, ends, directory, f, slots, &mut frame[own..]);
+    finish_call(nums, ends, directory, scope, at, head, ended, slots, frame);
+    ended
 }
 
 // So many arguments, into the slots from one on. Each is kept once those behind it are worked out, so a call among them
@@ -379,47 +207,28 @@ fn run_args(
     ends: &[u64],
     directory: &[u64; shape::SLOTS],
     scope: &[u64; program::SCOPE],
-    offsets: &[u64; lists::OFFSETS],
-    entries: &[u64; lists::ENTRIES],
-    widths: &[u64; program::WIDTHS],
     depth: usize,
     at: usize,
-    parameters: usize,
+    param: usize,
     count: usize,
     slot: usize,
     slots: &mut [u64; STORE],
     frame: &mut [u64],
 )
-    requires { ⌜ AsksArgs (now nums) (now directory) (now ends) (now scope) (now offsets) (now entries) (now widths) (now slots) (now frame) depth at parameters count slot ⌝ }
-    ensures { λ r. ⌜ RunsArgs (now (nums .entry)) (now (directory .entry)) (now (ends .entry)) (now (scope .entry)) (now (offsets .entry)) (now (entries .entry)) (now (widths .entry)) (now (slots .entry)) (now (slots .exit)) (now (frame .entry)) (now (frame .exit)) depth at parameters count slot ⌝ }
+    requires { ⌜ AsksArgs (now nums) (now directory) (now ends) (now scope) (now slots) (now frame) depth at param count slot ⌝ }
+    ensures { λ r. ⌜ RunsArgs (now (nums .entry)) (now (directory .entry)) (now (ends .entry)) (now (scope .entry)) (now (slots .entry)) (now (slots .exit)) (now (frame .entry)) (now (frame .exit)) depth at param count slot ⌝ }
 {
     if count != 0 {
-        let number = run_arg(
-            nums,
-            ends,
-            directory,
-            scope,
-            offsets,
-            entries,
-            widths,
-            depth,
-            at,
-            parameters,
-            slots,
-            frame,
-        );
+        let number = run_arg(nums, ends, directory, scope, depth, at, param, slots, frame);
         let next = ends[at] as usize;
         run_args(
             nums,
             ends,
             directory,
             scope,
-            offsets,
-            entries,
-            widths,
             depth,
             next,
-            parameters + 2,
+            param + 2,
             count - 1,
             slot + 1,
             slots,
@@ -435,35 +244,20 @@ fn run_arg(
     ends: &[u64],
     directory: &[u64; shape::SLOTS],
     scope: &[u64; program::SCOPE],
-    offsets: &[u64; lists::OFFSETS],
-    entries: &[u64; lists::ENTRIES],
-    widths: &[u64; program::WIDTHS],
     depth: usize,
     at: usize,
-    parameters: usize,
+    param: usize,
     slots: &mut [u64; STORE],
     frame: &mut [u64],
 ) -> u64
-    requires { ⌜ AsksArg (now nums) (now directory) (now ends) (now scope) (now offsets) (now entries) (now widths) (now slots) (now frame) depth at parameters ⌝ }
-    ensures { λ r. ⌜ RunsArg (now (nums .entry)) (now (directory .entry)) (now (ends .entry)) (now (scope .entry)) (now (offsets .entry)) (now (entries .entry)) (now (widths .entry)) (now (slots .entry)) (now (slots .exit)) (now (frame .entry)) (now (frame .exit)) depth at parameters r ⌝ }
+    requires { ⌜ AsksArg (now nums) (now directory) (now ends) (now scope) (now slots) (now frame) depth at param ⌝ }
+    ensures { λ r. ⌜ RunsArg (now (nums .entry)) (now (directory .entry)) (now (ends .entry)) (now (scope .entry)) (now (slots .entry)) (now (slots .exit)) (now (frame .entry)) (now (frame .exit)) depth at param r ⌝ }
 {
-    if nums[parameters] == OUT {
+    if nums[param] == OUT {
         count_step(slots);
         0
     } else {
-        let a = run_expr(
-            nums,
-            ends,
-            directory,
-            scope,
-            offsets,
-            entries,
-            widths,
-            depth,
-            at,
-            slots,
-            frame,
-        );
+        let a = run_expr(nums, ends, directory, scope, depth, at, slots, frame);
         a.number
     }
 }
@@ -473,15 +267,12 @@ fn run_body(
     nums: &[u64],
     ends: &[u64],
     directory: &[u64; shape::SLOTS],
-    offsets: &[u64; lists::OFFSETS],
-    entries: &[u64; lists::ENTRIES],
-    widths: &[u64; program::WIDTHS],
     f: usize,
     slots: &mut [u64; STORE],
     frame: &mut [u64],
 ) -> Ended
-    requires { ⌜ AsksBody (now nums) (now directory) (now ends) (now offsets) (now entries) (now widths) (now slots) (now frame) f ⌝ }
-    ensures { λ r. ⌜ RunsBody (now (nums .entry)) (now (directory .entry)) (now (ends .entry)) (now (offsets .entry)) (now (entries .entry)) (now (widths .entry)) (now (slots .entry)) (now (slots .exit)) (now (frame .entry)) (now (frame .exit)) f r ⌝ }
+    requires { ⌜ AsksBody (now nums) (now directory) (now ends) (now slots) (now frame) f ⌝ }
+    ensures { λ r. ⌜ RunsBody (now (nums .entry)) (now (directory .entry)) (now (ends .entry)) (now (slots .entry)) (now (slots .exit)) (now (frame .entry)) (now (frame .exit)) f r ⌝ }
 {
     let head = program::head_of(nums, ends, directory, f);
     let body = program::frame_of(nums, ends, directory, f);
@@ -502,9 +293,6 @@ fn run_body(
         ends,
         directory,
         &scope,
-        offsets,
-        entries,
-        widths,
         DEEPEST,
         body.body,
         slots,
@@ -518,110 +306,23 @@ pub(crate) fn run_stmt(
     ends: &[u64],
     directory: &[u64; shape::SLOTS],
     scope: &[u64; program::SCOPE],
-    offsets: &[u64; lists::OFFSETS],
-    entries: &[u64; lists::ENTRIES],
-    widths: &[u64; program::WIDTHS],
     depth: usize,
     at: usize,
     slots: &mut [u64; STORE],
     frame: &mut [u64],
 ) -> Ended
-    requires { ⌜ AsksStmt (now nums) (now directory) (now ends) (now scope) (now offsets) (now entries) (now widths) (now slots) (now frame) depth at ⌝ }
-    ensures { λ r. ⌜ RunsStmt (now (nums .entry)) (now (directory .entry)) (now (ends .entry)) (now (scope .entry)) (now (offsets .entry)) (now (entries .entry)) (now (widths .entry)) (now (slots .entry)) (now (slots .exit)) (now (frame .entry)) (now (frame .exit)) depth at r ⌝ }
+    requires { ⌜ AsksStmt (now nums) (now directory) (now ends) (now scope) (now slots) (now frame) depth at ⌝ }
+    ensures { λ r. ⌜ RunsStmt (now (nums .entry)) (now (directory .entry)) (now (ends .entry)) (now (scope .entry)) (now (slots .entry)) (now (slots .exit)) (now (frame .entry)) (now (frame .exit)) depth at r ⌝ }
 {
     let tag = nums[at];
     match tag {
-        ASSIGN => run_assign(
-            nums,
-            ends,
-            directory,
-            scope,
-            offsets,
-            entries,
-            widths,
-            depth,
-            at,
-            slots,
-            frame,
-        ),
-        IF => run_if(
-            nums,
-            ends,
-            directory,
-            scope,
-            offsets,
-            entries,
-            widths,
-            depth,
-            at,
-            slots,
-            frame,
-        ),
-        BLOCK => run_block(
-            nums,
-            ends,
-            directory,
-            scope,
-            offsets,
-            entries,
-            widths,
-            depth,
-            at,
-            slots,
-            frame,
-        ),
-        CALL => run_call_stmt(
-            nums,
-            ends,
-            directory,
-            scope,
-            offsets,
-            entries,
-            widths,
-            depth,
-            at,
-            slots,
-            frame,
-        ),
-        APPLY => run_apply(
-            nums,
-            ends,
-            directory,
-            scope,
-            offsets,
-            entries,
-            widths,
-            depth,
-            at,
-            slots,
-            frame,
-        ),
-        RETURN_VALUE => run_return(
-            nums,
-            ends,
-            directory,
-            scope,
-            offsets,
-            entries,
-            widths,
-            depth,
-            at,
-            slots,
-            frame,
-        ),
-        _ => run_single(
-            nums,
-            ends,
-            directory,
-            scope,
-            offsets,
-            entries,
-            widths,
-            depth,
-            at,
-            slots,
-            frame,
-        ),
+        ASSIGN => run_assign(nums, ends, directory, scope, depth, at, slots, frame),
+        IF => run_if(nums, ends, directory, scope, depth, at, slots, frame),
+        BLOCK => run_block(nums, ends, directory, scope, depth, at, slots, frame),
+        CALL => run_call_stmt(nums, ends, directory, scope, depth, at, slots, frame),
+        APPLY => run_apply(nums, ends, directory, scope, depth, at, slots, frame),
+        RETURN_VALUE => run_return(nums, ends, directory, scope, depth, at, slots, frame),
+        _ => run_single(nums, ends, directory, scope, depth, at, slots, frame),
     }
 }
 
@@ -631,19 +332,16 @@ fn run_single(
     ends: &[u64],
     directory: &[u64; shape::SLOTS],
     scope: &[u64; program::SCOPE],
-    offsets: &[u64; lists::OFFSETS],
-    entries: &[u64; lists::ENTRIES],
-    widths: &[u64; program::WIDTHS],
     depth: usize,
     at: usize,
     slots: &mut [u64; STORE],
     frame: &mut [u64],
 ) -> Ended
-    requires { ⌜ AsksPlain (now nums) (now directory) (now ends) (now scope) (now offsets) (now entries) (now widths) (now slots) (now frame) depth at ⌝ }
-    ensures { λ r. ⌜ RunsStmt (now (nums .entry)) (now (directory .entry)) (now (ends .entry)) (now (scope .entry)) (now (offsets .entry)) (now (entries .entry)) (now (widths .entry)) (now (slots .entry)) (now (slots .exit)) (now (frame .entry)) (now (frame .exit)) depth at r ⌝ }
+    requires { ⌜ AsksPlain (now nums) (now directory) (now ends) (now scope) (now slots) (now frame) depth at ⌝ }
+    ensures { λ r. ⌜ RunsStmt (now (nums .entry)) (now (directory .entry)) (now (ends .entry)) (now (scope .entry)) (now (slots .entry)) (now (slots .exit)) (now (frame .entry)) (now (frame .exit)) depth at r ⌝ }
 {
     count_step(slots);
-    steps::singles::single(nums, offsets, at, slots)
+    steps::singles::single(nums, directory, at, slots)
 }
 
 // An assignment.
@@ -652,33 +350,18 @@ fn run_assign(
     ends: &[u64],
     directory: &[u64; shape::SLOTS],
     scope: &[u64; program::SCOPE],
-    offsets: &[u64; lists::OFFSETS],
-    entries: &[u64; lists::ENTRIES],
-    widths: &[u64; program::WIDTHS],
     depth: usize,
     at: usize,
     slots: &mut [u64; STORE],
     frame: &mut [u64],
 ) -> Ended
-    requires { ⌜ AsksTagged 1 (now nums) (now directory) (now ends) (now scope) (now offsets) (now entries) (now widths) (now slots) (now frame) depth at ⌝ }
-    ensures { λ r. ⌜ RunsStmt (now (nums .entry)) (now (directory .entry)) (now (ends .entry)) (now (scope .entry)) (now (offsets .entry)) (now (entries .entry)) (now (widths .entry)) (now (slots .entry)) (now (slots .exit)) (now (frame .entry)) (now (frame .exit)) depth at r ⌝ }
+    requires { ⌜ AsksTagged 1 (now nums) (now directory) (now ends) (now scope) (now slots) (now frame) depth at ⌝ }
+    ensures { λ r. ⌜ RunsStmt (now (nums .entry)) (now (directory .entry)) (now (ends .entry)) (now (scope .entry)) (now (slots .entry)) (now (slots .exit)) (now (frame .entry)) (now (frame .exit)) depth at r ⌝ }
 {
     count_step(slots);
     let value = ends[at + 1] as usize;
-    let a = run_expr(
-        nums,
-        ends,
-        directory,
-        scope,
-        offsets,
-        entries,
-        widths,
-        depth - 1,
-        value,
-        slots,
-        frame,
-    );
-    write_place(nums, scope, offsets, at + 1, a.number, slots, frame);
+    let a = run_expr(nums, ends, directory, scope, depth - 1, value, slots, frame);
+    write_place(nums, directory, scope, at + 1, a.number, slots, frame);
     Ended::Onward
 }
 
@@ -688,61 +371,23 @@ fn run_if(
     ends: &[u64],
     directory: &[u64; shape::SLOTS],
     scope: &[u64; program::SCOPE],
-    offsets: &[u64; lists::OFFSETS],
-    entries: &[u64; lists::ENTRIES],
-    widths: &[u64; program::WIDTHS],
     depth: usize,
     at: usize,
     slots: &mut [u64; STORE],
     frame: &mut [u64],
 ) -> Ended
-    requires { ⌜ AsksTagged 2 (now nums) (now directory) (now ends) (now scope) (now offsets) (now entries) (now widths) (now slots) (now frame) depth at ⌝ }
-    ensures { λ r. ⌜ RunsStmt (now (nums .entry)) (now (directory .entry)) (now (ends .entry)) (now (scope .entry)) (now (offsets .entry)) (now (entries .entry)) (now (widths .entry)) (now (slots .entry)) (now (slots .exit)) (now (frame .entry)) (now (frame .exit)) depth at r ⌝ }
+    requires { ⌜ AsksTagged 2 (now nums) (now directory) (now ends) (now scope) (now slots) (now frame) depth at ⌝ }
+    ensures { λ r. ⌜ RunsStmt (now (nums .entry)) (now (directory .entry)) (now (ends .entry)) (now (scope .entry)) (now (slots .entry)) (now (slots .exit)) (now (frame .entry)) (now (frame .exit)) depth at r ⌝ }
 {
     count_step(slots);
-    let c = run_expr(
-        nums,
-        ends,
-        directory,
-        scope,
-        offsets,
-        entries,
-        widths,
-        depth - 1,
-        at + 1,
-        slots,
-        frame,
-    );
+    let inner = depth - 1;
+    let c = run_expr(nums, ends, directory, scope, inner, at + 1, slots, frame);
     let first = ends[at + 1] as usize;
     if c.number == 0 {
         let second = ends[first] as usize;
-        run_stmt(
-            nums,
-            ends,
-            directory,
-            scope,
-            offsets,
-            entries,
-            widths,
-            depth - 1,
-            second,
-            slots,
-            frame,
-        )
+        run_stmt(nums, ends, directory, scope, inner, second, slots, frame)
     } else {
-        run_stmt(
-            nums,
-            ends,
-            directory,
-            scope,
-            offsets,
-            entries,
-            widths,
-            depth - 1,
-            first,
-            slots,
-            frame,
-        )
+        run_stmt(nums, ends, directory, scope, inner, first, slots, frame)
     }
 }
 
@@ -752,16 +397,13 @@ fn run_block(
     ends: &[u64],
     directory: &[u64; shape::SLOTS],
     scope: &[u64; program::SCOPE],
-    offsets: &[u64; lists::OFFSETS],
-    entries: &[u64; lists::ENTRIES],
-    widths: &[u64; program::WIDTHS],
     depth: usize,
     at: usize,
     slots: &mut [u64; STORE],
     frame: &mut [u64],
 ) -> Ended
-    requires { ⌜ AsksTagged 3 (now nums) (now directory) (now ends) (now scope) (now offsets) (now entries) (now widths) (now slots) (now frame) depth at ⌝ }
-    ensures { λ r. ⌜ RunsStmt (now (nums .entry)) (now (directory .entry)) (now (ends .entry)) (now (scope .entry)) (now (offsets .entry)) (now (entries .entry)) (now (widths .entry)) (now (slots .entry)) (now (slots .exit)) (now (frame .entry)) (now (frame .exit)) depth at r ⌝ }
+    requires { ⌜ AsksTagged 3 (now nums) (now directory) (now ends) (now scope) (now slots) (now frame) depth at ⌝ }
+    ensures { λ r. ⌜ RunsStmt (now (nums .entry)) (now (directory .entry)) (now (ends .entry)) (now (scope .entry)) (now (slots .entry)) (now (slots .exit)) (now (frame .entry)) (now (frame .exit)) depth at r ⌝ }
 {
     count_step(slots);
     let count = nums[at + 1];
@@ -770,9 +412,6 @@ fn run_block(
         ends,
         directory,
         scope,
-        offsets,
-        entries,
-        widths,
         depth - 1,
         at + 2,
         count,
@@ -787,34 +426,19 @@ fn run_stmts(
     ends: &[u64],
     directory: &[u64; shape::SLOTS],
     scope: &[u64; program::SCOPE],
-    offsets: &[u64; lists::OFFSETS],
-    entries: &[u64; lists::ENTRIES],
-    widths: &[u64; program::WIDTHS],
     depth: usize,
     at: usize,
     count: u64,
     slots: &mut [u64; STORE],
     frame: &mut [u64],
 ) -> Ended
-    requires { ⌜ AsksStmts (now nums) (now directory) (now ends) (now scope) (now offsets) (now entries) (now widths) (now slots) (now frame) depth at count ⌝ }
-    ensures { λ r. ⌜ RunsStmts (now (nums .entry)) (now (directory .entry)) (now (ends .entry)) (now (scope .entry)) (now (offsets .entry)) (now (entries .entry)) (now (widths .entry)) (now (slots .entry)) (now (slots .exit)) (now (frame .entry)) (now (frame .exit)) depth at count r ⌝ }
+    requires { ⌜ AsksStmts (now nums) (now directory) (now ends) (now scope) (now slots) (now frame) depth at count ⌝ }
+    ensures { λ r. ⌜ RunsStmts (now (nums .entry)) (now (directory .entry)) (now (ends .entry)) (now (scope .entry)) (now (slots .entry)) (now (slots .exit)) (now (frame .entry)) (now (frame .exit)) depth at count r ⌝ }
 {
     let mut next = at;
     let mut left = count;
     while left != 0 {
-        let ended = run_stmt(
-            nums,
-            ends,
-            directory,
-            scope,
-            offsets,
-            entries,
-            widths,
-            depth,
-            next,
-            slots,
-            frame,
-        );
+        let ended = run_stmt(nums, ends, directory, scope, depth, next, slots, frame);
         match ended {
             Ended::Onward => {
                 next = ends[next] as usize;
@@ -834,31 +458,16 @@ fn run_call_stmt(
     ends: &[u64],
     directory: &[u64; shape::SLOTS],
     scope: &[u64; program::SCOPE],
-    offsets: &[u64; lists::OFFSETS],
-    entries: &[u64; lists::ENTRIES],
-    widths: &[u64; program::WIDTHS],
     depth: usize,
     at: usize,
     slots: &mut [u64; STORE],
     frame: &mut [u64],
 ) -> Ended
-    requires { ⌜ AsksTagged 4 (now nums) (now directory) (now ends) (now scope) (now offsets) (now entries) (now widths) (now slots) (now frame) depth at ⌝ }
-    ensures { λ r. ⌜ RunsStmt (now (nums .entry)) (now (directory .entry)) (now (ends .entry)) (now (scope .entry)) (now (offsets .entry)) (now (entries .entry)) (now (widths .entry)) (now (slots .entry)) (now (slots .exit)) (now (frame .entry)) (now (frame .exit)) depth at r ⌝ }
+    requires { ⌜ AsksTagged 4 (now nums) (now directory) (now ends) (now scope) (now slots) (now frame) depth at ⌝ }
+    ensures { λ r. ⌜ RunsStmt (now (nums .entry)) (now (directory .entry)) (now (ends .entry)) (now (scope .entry)) (now (slots .entry)) (now (slots .exit)) (now (frame .entry)) (now (frame .exit)) depth at r ⌝ }
 {
     count_step(slots);
-    let ended = run_call(
-        nums,
-        ends,
-        directory,
-        scope,
-        offsets,
-        entries,
-        widths,
-        depth,
-        at,
-        slots,
-        frame,
-    );
+    let ended = run_call(nums, ends, directory, scope, depth, at, slots, frame);
     after_call(ended)
 }
 
@@ -868,16 +477,13 @@ fn run_return(
     ends: &[u64],
     directory: &[u64; shape::SLOTS],
     scope: &[u64; program::SCOPE],
-    offsets: &[u64; lists::OFFSETS],
-    entries: &[u64; lists::ENTRIES],
-    widths: &[u64; program::WIDTHS],
     depth: usize,
     at: usize,
     slots: &mut [u64; STORE],
     frame: &mut [u64],
 ) -> Ended
-    requires { ⌜ AsksTagged 6 (now nums) (now directory) (now ends) (now scope) (now offsets) (now entries) (now widths) (now slots) (now frame) depth at ⌝ }
-    ensures { λ r. ⌜ RunsStmt (now (nums .entry)) (now (directory .entry)) (now (ends .entry)) (now (scope .entry)) (now (offsets .entry)) (now (entries .entry)) (now (widths .entry)) (now (slots .entry)) (now (slots .exit)) (now (frame .entry)) (now (frame .exit)) depth at r ⌝ }
+    requires { ⌜ AsksTagged 6 (now nums) (now directory) (now ends) (now scope) (now slots) (now frame) depth at ⌝ }
+    ensures { λ r. ⌜ RunsStmt (now (nums .entry)) (now (directory .entry)) (now (ends .entry)) (now (scope .entry)) (now (slots .entry)) (now (slots .exit)) (now (frame .entry)) (now (frame .exit)) depth at r ⌝ }
 {
     count_step(slots);
     let a = run_expr(
@@ -885,9 +491,6 @@ fn run_return(
         ends,
         directory,
         scope,
-        offsets,
-        entries,
-        widths,
         depth - 1,
         at + 1,
         slots,
@@ -905,31 +508,17 @@ fn run_apply(
     ends: &[u64],
     directory: &[u64; shape::SLOTS],
     scope: &[u64; program::SCOPE],
-    offsets: &[u64; lists::OFFSETS],
-    entries: &[u64; lists::ENTRIES],
-    widths: &[u64; program::WIDTHS],
     depth: usize,
     at: usize,
     slots: &mut [u64; STORE],
     frame: &mut [u64],
 ) -> Ended
-    requires { ⌜ AsksTagged 5 (now nums) (now directory) (now ends) (now scope) (now offsets) (now entries) (now widths) (now slots) (now frame) depth at ⌝ }
-    ensures { λ r. ⌜ RunsStmt (now (nums .entry)) (now (directory .entry)) (now (ends .entry)) (now (scope .entry)) (now (offsets .entry)) (now (entries .entry)) (now (widths .entry)) (now (slots .entry)) (now (slots .exit)) (now (frame .entry)) (now (frame .exit)) depth at r ⌝ }
+    requires { ⌜ AsksTagged 5 (now nums) (now directory) (now ends) (now scope) (now slots) (now frame) depth at ⌝ }
+    ensures { λ r. ⌜ RunsStmt (now (nums .entry)) (now (directory .entry)) (now (ends .entry)) (now (scope .entry)) (now (slots .entry)) (now (slots .exit)) (now (frame .entry)) (now (frame .exit)) depth at r ⌝ }
 {
     count_step(slots);
     let t = nums[at + 1];
-    run_table(
-        nums,
-        ends,
-        directory,
-        scope,
-        offsets,
-        entries,
-        widths,
-        t,
-        slots,
-        frame,
-    )
+    run_table(nums, ends, directory, scope, t, slots, frame)
 }
 
 // Table t: its keys, then the action of the entry that is found, or the default.
@@ -938,15 +527,12 @@ fn run_table(
     ends: &[u64],
     directory: &[u64; shape::SLOTS],
     scope: &[u64; program::SCOPE],
-    offsets: &[u64; lists::OFFSETS],
-    entries: &[u64; lists::ENTRIES],
-    widths: &[u64; program::WIDTHS],
     t: u64,
     slots: &mut [u64; STORE],
     frame: &mut [u64],
 ) -> Ended
-    requires { ⌜ AsksTable (now nums) (now directory) (now ends) (now scope) (now offsets) (now entries) (now widths) (now slots) (now frame) t ⌝ }
-    ensures { λ r. ⌜ RunsTable (now (nums .entry)) (now (directory .entry)) (now (ends .entry)) (now (scope .entry)) (now (offsets .entry)) (now (entries .entry)) (now (widths .entry)) (now (slots .entry)) (now (slots .exit)) (now (frame .entry)) (now (frame .exit)) t r ⌝ }
+    requires { ⌜ AsksTable (now nums) (now directory) (now ends) (now scope) (now slots) (now frame) t ⌝ }
+    ensures { λ r. ⌜ RunsTable (now (nums .entry)) (now (directory .entry)) (now (ends .entry)) (now (scope .entry)) (now (slots .entry)) (now (slots .exit)) (now (frame .entry)) (now (frame .exit)) t r ⌝ }
 {
     let parts = program::table_of(nums, ends, directory, t as usize);
     let table = parts.at;
@@ -958,9 +544,6 @@ fn run_table(
         ends,
         directory,
         scope,
-        offsets,
-        entries,
-        widths,
         0,
         table + 1,
         nums[table],
@@ -968,36 +551,10 @@ fn run_table(
         frame,
         &mut keys,
     );
-    let Lookup::Found(entry) = lookup::look_up(nums, ends, entries, widths, &keys, t, table) else {
-        return run_action(
-            nums,
-            ends,
-            directory,
-            scope,
-            offsets,
-            entries,
-            widths,
-            actions,
-            nums[default],
-            default + 2,
-            slots,
-            frame,
-        );
+    let Lookup::Found(entry) = lookup::look_up(nums, ends, directory, &keys, t, table) else {
+        return run_action(nums, ends, directory, actions, default, 2, slots, frame);
     };
-    run_action(
-        nums,
-        ends,
-        directory,
-        scope,
-        offsets,
-        entries,
-        widths,
-        actions,
-        nums[entry],
-        entry + 1,
-        slots,
-        frame,
-    )
+    run_action(nums, ends, directory, actions, entry, 1, slots, frame)
 }
 
 // So many keys, the first of which stands at `from`: their numbers, from number j on.
@@ -1006,9 +563,6 @@ fn run_keys(
     ends: &[u64],
     directory: &[u64; shape::SLOTS],
     scope: &[u64; program::SCOPE],
-    offsets: &[u64; lists::OFFSETS],
-    entries: &[u64; lists::ENTRIES],
-    widths: &[u64; program::WIDTHS],
     j: usize,
     from: usize,
     count: u64,
@@ -1016,32 +570,18 @@ fn run_keys(
     frame: &mut [u64],
     keys: &mut [u64; program::MOST_KEYS],
 )
-    requires { ⌜ AsksKeys (now nums) (now directory) (now ends) (now scope) (now offsets) (now entries) (now widths) (now slots) (now frame) (now keys) j from count ⌝ }
-    ensures { λ r. ⌜ RunsKeys (now (nums .entry)) (now (directory .entry)) (now (ends .entry)) (now (scope .entry)) (now (offsets .entry)) (now (entries .entry)) (now (widths .entry)) (now (slots .entry)) (now (slots .exit)) (now (frame .entry)) (now (frame .exit)) (now (keys .entry)) (now (keys .exit)) j from count ⌝ }
+    requires { ⌜ AsksKeys (now nums) (now directory) (now ends) (now scope) (now slots) (now frame) (now keys) j from count ⌝ }
+    ensures { λ r. ⌜ RunsKeys (now (nums .entry)) (now (directory .entry)) (now (ends .entry)) (now (scope .entry)) (now (slots .entry)) (now (slots .exit)) (now (frame .entry)) (now (frame .exit)) (now (keys .entry)) (now (keys .exit)) j from count ⌝ }
 {
     if count != 0 {
-        let a = run_expr(
-            nums,
-            ends,
-            directory,
-            scope,
-            offsets,
-            entries,
-            widths,
-            DEEPEST,
-            from + 1,
-            slots,
-            frame,
-        );
-        let next = ends[from + 1] as usize;
+        let key = from + 1;
+        let a = run_expr(nums, ends, directory, scope, DEEPEST, key, slots, frame);
+        let next = ends[key] as usize;
         run_keys(
             nums,
             ends,
             directory,
             scope,
-            offsets,
-            entries,
-            widths,
             j + 1,
             next,
             count - 1,
@@ -1053,38 +593,25 @@ fn run_keys(
     }
 }
 
-// An action that a table lists, by its position, with numbers of the file as its arguments.
+// An action that a table lists: its position there stands at an index, and its arguments so many numbers behind.
 fn run_action(
     nums: &[u64],
     ends: &[u64],
     directory: &[u64; shape::SLOTS],
-    scope: &[u64; program::SCOPE],
-    offsets: &[u64; lists::OFFSETS],
-    entries: &[u64; lists::ENTRIES],
-    widths: &[u64; program::WIDTHS],
     actions: usize,
-    position: u64,
-    from: usize,
+    at: usize,
+    behind: usize,
     slots: &mut [u64; STORE],
     frame: &mut [u64],
 ) -> Ended
-    requires { ⌜ AsksAction (now nums) (now directory) (now ends) (now scope) (now offsets) (now entries) (now widths) (now slots) (now frame) actions position from ⌝ }
-    ensures { λ r. ⌜ RunsAction (now (nums .entry)) (now (directory .entry)) (now (ends .entry)) (now (scope .entry)) (now (offsets .entry)) (now (entries .entry)) (now (widths .entry)) (now (slots .entry)) (now (slots .exit)) (now (frame .entry)) (now (frame .exit)) actions position from r ⌝ }
+    requires { ⌜ AsksAction (now nums) (now directory) (now ends) (now slots) (now frame) actions at (at + behind) ⌝ }
+    ensures { λ r. ⌜ RunsAction (now (nums .entry)) (now (directory .entry)) (now (ends .entry)) (now (slots .entry)) (now (slots .exit)) (now (frame .entry)) (now (frame .exit)) actions at (at + behind) r ⌝ }
 {
-    let f = nums[actions + 1 + position as usize] as usize;
+    let position = nums[at] as usize;
+    let f = nums[actions + 1 + position] as usize;
     let head = program::head_of(nums, ends, directory, f);
     let count = head.count as usize;
-    copy(nums, from, count, frame);
-    let ended = run_body(
-        nums,
-        ends,
-        directory,
-        offsets,
-        entries,
-        widths,
-        f,
-        slots,
-        frame,
-    );
+    copy(nums, at + behind, count, frame);
+    let ended = run_body(nums, ends, directory, f, slots, frame);
     after_call(ended)
 }

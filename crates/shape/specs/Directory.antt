@@ -1,13 +1,15 @@
 -- The directory: where the parts of a program begin, for the passes that come after. A list has a slot for its count
 -- and one for each member it may have; the apply body and the program's end have a slot each. Slots of members that a
--- list has not are left as found.
+-- list has not are left as found. The slots behind these are for what a run looks up besides: where each global stands in
+-- the store, where each entry begins, the widths of the tables' keys.
 use mathlib.Core.List.{List, [], _∷_, map}
-use Prim.Native.Nat.{ℕ, _+_}
+use Prim.Native.Nat.{ℕ, _+_, _*_}
 use lib.ListN.{length}
 use lib.Seq.{sets}
 use Rattle.rules.specs.Syntax.{Program, HeaderTy, Global, Callable, Table}
 use Rattle.rules.specs.Syntax.{Stmt, empty, assign, ifElse, block, callStmt, apply, returnValue, return, exit, setValid, setInvalid}
-use Rattle.rules.specs.Reading.{Got, got, bad, mostHeaders, mostGlobals, mostCallables, mostTables}
+use Rattle.rules.specs.Reading.{Got, got, bad, mostHeaders, mostGlobals, mostCallables, mostTables, mostKeys}
+use Rattle.rules.specs.Lists.{mostEntries}
 
 -- a statement's own tag
 unfoldable pub stmtAt : Stmt → ℕ
@@ -23,7 +25,7 @@ stmtAt (exit at) = at
 stmtAt (setValid at global) = at
 stmtAt (setInvalid at global) = at
 
--- the slots: those of the lists' counts, the body's, the end's, and how many there are
+-- the slots: those of the lists' counts, the body's, the end's; the first of those for a run; and how many there are
 abbrev pub headersSlot : ℕ
 headersSlot = 0
 
@@ -42,8 +44,17 @@ bodySlot = tablesSlot + 1 + mostTables
 abbrev pub endSlot : ℕ
 endSlot = bodySlot + 1
 
+abbrev pub offsetsSlot : ℕ
+offsetsSlot = endSlot + 1
+
+abbrev pub entriesSlot : ℕ
+entriesSlot = offsetsSlot + mostGlobals + 1
+
+abbrev pub widthsSlot : ℕ
+widthsSlot = entriesSlot + 1 + mostEntries
+
 abbrev pub slotCount : ℕ
-slotCount = endSlot + 1
+slotCount = widthsSlot + mostKeys * mostTables
 
 -- a list from a slot on: its count, then where each member begins
 unfoldable pub listed : List ℕ → ℕ → List ℕ → List ℕ

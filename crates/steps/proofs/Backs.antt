@@ -139,15 +139,14 @@ unfolding oneBack pure
 none-is Γ p e n s d = rw (d, oneBack) refl
 
 -- one argument
-module _ (nums scope offsets slots frame : List ℕ) (at parameters slot : ℕ) where
-  pub back-asks : AsksOneBack nums scope offsets slots frame at parameters slot → 2 ≤ getD nums parameters 0
-      → AsksWrite nums scope offsets slots frame at
+module _ (nums directory scope slots frame : List ℕ) (at parameters slot : ℕ) where
+  pub back-asks : AsksOneBack nums directory scope slots frame at parameters slot → 2 ≤ getD nums parameters 0
+      → AsksWrite nums directory scope slots frame at
   back-asks a h =
       let d : comesBack (a .parameter .direction) ≡ true
       = back-is (a .parameter .direction) (omega (arith, a .left .direction .is)) in
       let b = back-of (a .scopeOf) (a .parameter) (a .expr) (a .number) (a .state) (a .counted) d (a .going) in
       record {
-        directory = a .directory;
         ends = a .ends;
         asks = record {
           scopeOf = a .scopeOf;
@@ -164,28 +163,28 @@ module _ (nums scope offsets slots frame : List ℕ) (at parameters slot : ℕ) 
   same-value t u n m e f = let same : t ≡ u = cc in let k : m ≡ n = cc in (k, rw (k, ← same) f)
 
   pub back-written : (slots′ frame′ : List ℕ) → 2 ≤ getD nums parameters 0
-      → Writes nums scope offsets slots slots′ frame frame′ at (getD frame slot 0)
-      → BacksOne nums scope offsets slots slots′ frame frame′ at parameters slot
+      → Writes nums directory scope slots slots′ frame frame′ at (getD frame slot 0)
+      → BacksOne nums directory scope slots slots′ frame frame′ at parameters slot
   back-written slots′ frame′ h w = record {
-    backs = λ directory ends Γ s e p n counted l g.
+    backs = λ ends Γ s e p n counted l g.
         let d : comesBack (p .direction) ≡ true = back-is (p .direction) (omega (arith, l .direction .is)) in
         let b = back-of Γ p e n s counted d g in
         let v = same-value (p .ty) (b .target .ty) n (b .target .number) (b .target .value) (l .fit) in
         let k : getD frame slot 0 ≡ b .target .number = l .is ∙ sym (v .0) in
-        let made : Becomes nums directory ends scope offsets slots slots′ frame frame′ Γ s
+        let made : Becomes nums directory ends scope slots slots′ frame frame′ Γ s
         (put (b .place) (getD frame slot 0) s)
-        = w .written directory ends .writes Γ s (b .place) (b .target .ty) (l .scene)
+        = w .written ends .writes Γ s (b .place) (b .target .ty) (l .scene)
         (names-of (b .place) (l .stands) (b .names)) (b .target .declares) (rw k (v .1)) in
-        back-ran directory ends Γ s e p n slots′ frame′ b d k made (l .scene);
+        back-ran ends Γ s e p n slots′ frame′ b d k made (l .scene);
   }
     where
-      back-ran : (directory ends : List ℕ) (Γ : Scope) (s : State) (e : Expr) (p : Parameter) (n : ℕ)
+      back-ran : (ends : List ℕ) (Γ : Scope) (s : State) (e : Expr) (p : Parameter) (n : ℕ)
           (slots′ frame′ : List ℕ) (b : Back Γ p e n) → comesBack (p .direction) ≡ true
           → getD frame slot 0 ≡ b .target .number
-          → Becomes nums directory ends scope offsets slots slots′ frame frame′ Γ s (put (b .place) (getD frame slot 0) s)
-          → Scene nums directory ends scope offsets slots frame Γ s
-          → RanBack nums directory ends scope offsets slots slots′ frame frame′ Γ (oneBack Γ p e n s)
-      back-ran directory ends Γ s e p n slots′ frame′ b d k made h =
+          → Becomes nums directory ends scope slots slots′ frame frame′ Γ s (put (b .place) (getD frame slot 0) s)
+          → Scene nums directory ends scope slots frame Γ s
+          → RanBack nums directory ends scope slots slots′ frame frame′ Γ (oneBack Γ p e n s)
+      back-ran ends Γ s e p n slots′ frame′ b d k made h =
           let own : length (s .parameters) + length (s .locals) ≡ ownOf Γ
           = omega (arith, all2-length (h .fits .parameters-fit), all2-length (h .fits .locals-fit)) in
           record {
@@ -193,9 +192,9 @@ module _ (nums scope offsets slots frame : List ℕ) (at parameters slot : ℕ) 
             keeps = rw own at (made .keeps);
           }
 
-  pub back-none : getD nums parameters 0 < 2 → BacksOne nums scope offsets slots slots frame frame at parameters slot
+  pub back-none : getD nums parameters 0 < 2 → BacksOne nums directory scope slots slots frame frame at parameters slot
   back-none h = record {
-    backs = λ directory ends Γ s e p n counted l g. record {
+    backs = λ ends Γ s e p n counted l g. record {
       ran = ran-here s tt (l .scene) (none-is Γ p e n s (back-not (p .direction) (omega (arith, l .direction .is)))) tt;
       keeps = record { same = refl; free = λ i k. refl };
     };

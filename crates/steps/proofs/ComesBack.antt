@@ -17,9 +17,9 @@ use Rattle.values.specs.Claims.{valueOf}
 use Rattle.steps.specs.declared.Ended.{Ended}
 use Rattle.steps.specs.declared.Ended.the-variants.{Onward, Returned, ReturnedValue, Exited}
 use Rattle.steps.specs.Outcomes.{Goes, Ran, Gave, Ends, ends-onward, ends-returned, ends-value, ends-exited}
-use Rattle.steps.specs.Calls.{oneBack, LeftOne, AsksOneBack, RanBack, BacksOne, Left, AsksBack, Backs, AsksFinish, Finishes, AfterCall, Returns}
+use Rattle.steps.specs.Calls.{ownOf, AsksOwn, Owns, oneBack, LeftOne, AsksOneBack, RanBack, BacksOne, Left, AsksBack, Backs, TellsBack, AsksFinish, Finishes, AfterCall, Returns}
 use Rattle.steps.proofs.Backs.{none-is}
-use Rattle.steps.proofs.Going.{Begun, not-nowhere, then-goes, rest-from, more-none, ran-here, ran-map, ran-then}
+use Rattle.steps.proofs.Going.{Begun, not-nowhere, then-goes, rest-from, more-none, ran-here, ran-then}
 
 -- arguments, parameters and numbers come together
 pub record Together (xs : Args) (ps : List Parameter) (ns : List ℕ) : Type 0 where
@@ -88,11 +88,11 @@ fit-first : {p : Parameter} {ps : List Parameter} {n : ℕ} {ns : List ℕ} → 
     → FitParameter p n × All2 FitParameter ps ns
 fit-first (cons f fs) = (f, fs)
 
-module _ {nums directory ends scope offsets slots frame : List ℕ} {at parameters count slot : ℕ} {Γ : Scope}
+module _ {nums directory ends scope slots frame : List ℕ} {at parameters count slot : ℕ} {Γ : Scope}
     {s : State} {e : Expr} {xs : Args} {p : Parameter} {ps : List Parameter} {n : ℕ} {ns : List ℕ}
-    (l : Left nums directory ends scope offsets slots frame at parameters count slot Γ s (arg e xs) (p ∷ ps) (n ∷ ns))
+    (l : Left nums directory ends scope slots frame at parameters count slot Γ s (arg e xs) (p ∷ ps) (n ∷ ns))
   where
-    one-left : LeftOne nums directory ends scope offsets slots frame at parameters slot Γ s e p n
+    one-left : LeftOne nums directory ends scope slots frame at parameters slot Γ s e p n
     unfolding StandsParameters argCount
     one-left =
         let z : slot + 0 ≡ slot = omega arith in
@@ -108,8 +108,8 @@ module _ {nums directory ends scope offsets slots frame : List ℕ} {at paramete
         }
 
     rest-left : (slots₁ frame₁ : List ℕ) {o : Out State (Unit {0})}
-        → (h : RanBack nums directory ends scope offsets slots slots₁ frame frame₁ Γ o)
-        → Left nums directory ends scope offsets slots₁ frame₁ (getD ends at 0) (parameters + 2) (count - 1) (slot + 1) Γ
+        → (h : RanBack nums directory ends scope slots slots₁ frame frame₁ Γ o)
+        → Left nums directory ends scope slots₁ frame₁ (getD ends at 0) (parameters + 2) (count - 1) (slot + 1) Γ
         (h .ran .state) xs ps ns
     unfolding StandsParameters argCount
     rest-left slots₁ frame₁ h = record {
@@ -129,12 +129,12 @@ module _ {nums directory ends scope offsets slots frame : List ℕ} {at paramete
       };
     }
 
-module _ (nums ends scope offsets slots frame : List ℕ) (at parameters count slot : ℕ) where
+module _ (nums directory ends scope slots frame : List ℕ) (at parameters count slot : ℕ) where
   -- what is left of a call, with its first argument apart
-  record Apart (directory : List ℕ) (Γ : Scope) (s : State) (xs : Args) (ps : List Parameter) (ns : List ℕ)
+  record Apart (Γ : Scope) (s : State) (xs : Args) (ps : List Parameter) (ns : List ℕ)
       (counted : ℕ) : Type 0 where
     pub parts : Together xs ps ns
-    pub left : Left nums directory ends scope offsets slots frame at parameters count slot Γ s
+    pub left : Left nums directory ends scope slots frame at parameters count slot Γ s
         (arg (parts .expr) (parts .others)) (parts .parameter ∷ parts .parameters) (parts .number ∷ parts .numbers)
     pub same : comeBack Γ xs ps ns s
         ≡ (oneBack Γ (parts .parameter) (parts .expr) (parts .number)
@@ -142,13 +142,13 @@ module _ (nums ends scope offsets slots frame : List ℕ) (at parameters count s
     pub going : Begun counted (oneBack Γ (parts .parameter) (parts .expr) (parts .number))
         (λ _. comeBack Γ (parts .others) (parts .parameters) (parts .numbers)) s
 
-  apart : (directory : List ℕ) (Γ : Scope) (s : State) (xs : Args) (ps : List Parameter) (ns : List ℕ) (counted : ℕ)
-      → Left nums directory ends scope offsets slots frame at parameters count slot Γ s xs ps ns
-      → Goes counted (comeBack Γ xs ps ns s) → (count ≡ 0 → ⊥) → Apart directory Γ s xs ps ns counted
-  apart directory Γ s xs ps ns counted l g x =
+  apart : (Γ : Scope) (s : State) (xs : Args) (ps : List Parameter) (ns : List ℕ) (counted : ℕ)
+      → Left nums directory ends scope slots frame at parameters count slot Γ s xs ps ns
+      → Goes counted (comeBack Γ xs ps ns s) → (count ≡ 0 → ⊥) → Apart Γ s xs ps ns counted
+  apart Γ s xs ps ns counted l g x =
       go (together Γ s xs ps ns counted count g (l .counts) x)
     where
-      go : Together xs ps ns → Apart directory Γ s xs ps ns counted
+      go : Together xs ps ns → Apart Γ s xs ps ns counted
       go t =
           let same : comeBack Γ xs ps ns s
           ≡ (oneBack Γ (t .parameter) (t .expr) (t .number) >>= λ _. comeBack Γ (t .others) (t .parameters) (t .numbers)) s
@@ -161,14 +161,13 @@ module _ (nums ends scope offsets slots frame : List ℕ) (at parameters count s
             going = then-goes _ _ s (rw same at g);
           }
 
-  module _ (a : AsksBack nums ends scope offsets slots frame at parameters count slot) (x : count ≡ 0 → ⊥) where
-    this : Apart (a .directory) (a .scopeOf) (a .state) (a .args) (a .list) (a .numbers) (a .counted)
-    this = apart (a .directory) (a .scopeOf) (a .state) (a .args) (a .list) (a .numbers) (a .counted) (a .left)
+  module _ (a : AsksBack nums directory ends scope slots frame at parameters count slot) (x : count ≡ 0 → ⊥) where
+    this : Apart (a .scopeOf) (a .state) (a .args) (a .list) (a .numbers) (a .counted)
+    this = apart (a .scopeOf) (a .state) (a .args) (a .list) (a .numbers) (a .counted) (a .left)
         (a .going) x
 
-    pub first-asks : AsksOneBack nums scope offsets slots frame at parameters slot
+    pub first-asks : AsksOneBack nums directory scope slots frame at parameters slot
     first-asks = record {
-      directory = a .directory;
       ends = ends;
       scopeOf = a .scopeOf;
       state = a .state;
@@ -191,14 +190,13 @@ module _ (nums ends scope offsets slots frame : List ℕ) (at parameters count s
     slot-low = one-left (this .left) .inside
 
     pub rest-asks : (slots₁ frame₁ : List ℕ)
-        → BacksOne nums scope offsets slots slots₁ frame frame₁ at parameters slot
-        → AsksBack nums ends scope offsets slots₁ frame₁ (getD ends at 0) (parameters + 2) (count - 1) (slot + 1)
+        → BacksOne nums directory scope slots slots₁ frame frame₁ at parameters slot
+        → AsksBack nums directory ends scope slots₁ frame₁ (getD ends at 0) (parameters + 2) (count - 1) (slot + 1)
     rest-asks slots₁ frame₁ b =
         let p = this .parts in
-        let h = b .backs (a .directory) ends (a .scopeOf) (a .state) (p .expr) (p .parameter) (p .number) (a .counted)
+        let h = b .backs ends (a .scopeOf) (a .state) (p .expr) (p .parameter) (p .number) (a .counted)
         (one-left (this .left)) (this .going .first) in
         record {
-          directory = a .directory;
           scopeOf = a .scopeOf;
           state = h .ran .state;
           args = p .others;
@@ -209,33 +207,33 @@ module _ (nums ends scope offsets slots frame : List ℕ) (at parameters count s
           going = rest-from _ _ _ _ _ _ (h .ran .is) (this .going);
         }
 
-  back-ran : (directory : List ℕ) (slots₁ slots₂ frame₁ frame₂ : List ℕ) (Γ : Scope) (s : State) (xs : Args)
+  back-ran : (slots₁ slots₂ frame₁ frame₂ : List ℕ) (Γ : Scope) (s : State) (xs : Args)
       (ps : List Parameter) (ns : List ℕ) (counted : ℕ) → (x : count ≡ 0 → ⊥)
-      → BacksOne nums scope offsets slots slots₁ frame frame₁ at parameters slot
-      → Backs nums ends scope offsets slots₁ slots₂ frame₁ frame₂ (getD ends at 0) (parameters + 2) (count - 1) (slot + 1)
-      → Apart directory Γ s xs ps ns counted
-      → Ran nums directory ends scope offsets slots slots₂ frame frame₂ Γ (comeBack Γ xs ps ns s) (λ _. Unit {0})
-  back-ran directory slots₁ slots₂ frame₁ frame₂ Γ s xs ps ns counted x b c t =
+      → BacksOne nums directory scope slots slots₁ frame frame₁ at parameters slot
+      → Backs nums directory ends scope slots₁ slots₂ frame₁ frame₂ (getD ends at 0) (parameters + 2) (count - 1) (slot + 1)
+      → Apart Γ s xs ps ns counted
+      → Ran nums directory ends scope slots slots₂ frame frame₂ Γ (comeBack Γ xs ps ns s) (λ _. Unit {0})
+  back-ran slots₁ slots₂ frame₁ frame₂ Γ s xs ps ns counted x b c t =
       let p = t .parts in
-      let h = b .backs directory ends Γ s (p .expr) (p .parameter) (p .number) counted (one-left (t .left))
+      let h = b .backs ends Γ s (p .expr) (p .parameter) (p .number) counted (one-left (t .left))
       (t .going .first) in
-      let r = c .backs directory Γ (h .ran .state) (p .others) (p .parameters) (p .numbers)
+      let r = c .backs Γ (h .ran .state) (p .others) (p .parameters) (p .numbers)
       (counted + length (h .ran .seen)) (rest-left (t .left) slots₁ frame₁ h)
       (rest-from _ _ _ _ _ _ (h .ran .is) (t .going)) in
       rw (t .same) (ran-then _ _ s (h .ran) r)
 
   pub backs-all : (slots₁ slots₂ frame₁ frame₂ : List ℕ) → (count ≡ 0 → ⊥)
-      → BacksOne nums scope offsets slots slots₁ frame frame₁ at parameters slot
-      → Backs nums ends scope offsets slots₁ slots₂ frame₁ frame₂ (getD ends at 0) (parameters + 2) (count - 1) (slot + 1)
-      → Backs nums ends scope offsets slots slots₂ frame frame₂ at parameters count slot
+      → BacksOne nums directory scope slots slots₁ frame frame₁ at parameters slot
+      → Backs nums directory ends scope slots₁ slots₂ frame₁ frame₂ (getD ends at 0) (parameters + 2) (count - 1) (slot + 1)
+      → Backs nums directory ends scope slots slots₂ frame frame₂ at parameters count slot
   backs-all slots₁ slots₂ frame₁ frame₂ x b c = record {
-    backs = λ directory Γ s xs ps ns counted l g. back-ran directory slots₁ slots₂ frame₁ frame₂ Γ s xs ps ns counted x b
-        c (apart directory Γ s xs ps ns counted l g x);
+    backs = λ Γ s xs ps ns counted l g. back-ran slots₁ slots₂ frame₁ frame₂ Γ s xs ps ns counted x b
+        c (apart Γ s xs ps ns counted l g x);
   }
 
-  pub backs-none : count ≡ 0 → Backs nums ends scope offsets slots slots frame frame at parameters count slot
+  pub backs-none : count ≡ 0 → Backs nums directory ends scope slots slots frame frame at parameters count slot
   backs-none e = record {
-    backs = λ directory Γ s xs ps ns counted l g. ran-here s (tt {0}) (l .scene)
+    backs = λ Γ s xs ps ns counted l g. ran-here s (tt {0}) (l .scene)
         (no-back Γ s xs ps ns counted (no-args xs (omega (arith, l .counts))) g) (tt {0});
   }
 
@@ -252,7 +250,7 @@ no-exit ended r e stays-onward q = let z : _≡_ {A = ℕ} 0 1 = cc in omega ari
 no-exit ended r e stays-returned q = let z : _≡_ {A = ℕ} 0 1 = cc in omega arith
 no-exit ended r e stays-value q = let z : _≡_ {A = ℕ} 0 1 = cc in omega arith
 
-module _ (nums ends scope offsets slots frame : List ℕ) (at parameters count slot : ℕ) where
+module _ (nums directory ends scope slots frame : List ℕ) (at parameters count : ℕ) where
   after-goes : (Γ : Scope) (s : State) (ended : Ended) (ending : Ending) (m : M State (Unit {0})) (counted : ℕ)
       → Ends ended ending → (ended ≡ Exited → ⊥) → Goes counted (afterBody ending m s) → Goes counted (m s)
   unfolding afterBody
@@ -261,43 +259,60 @@ module _ (nums ends scope offsets slots frame : List ℕ) (at parameters count s
   after-goes Γ s ended ending m counted (ends-value v) x g = then-goes m _ s g .first
   after-goes Γ s ended ending m counted ends-exited x g = absurd (x refl)
 
-  pub finish-asks : (ended r : Ended) → AsksFinish nums ends scope offsets slots frame at parameters count slot ended
-      → ended ≡ r → Stays r → AsksBack nums ends scope offsets slots frame at parameters count slot
-  finish-asks ended r a e w = record {
-    directory = a .directory;
-    scopeOf = a .scopeOf;
-    state = a .state;
-    args = a .args;
-    list = a .list;
-    numbers = a .numbers;
-    left = a .left;
-    counted = a .counted;
-    going = after-goes (a .scopeOf) (a .state) ended (a .ending) (comeBack (a .scopeOf) (a .args) (a .list) (a .numbers))
-        (a .counted) (a .told) (no-exit ended r e w) (a .going);
-  }
+  module _ (ended : Ended) (a : AsksFinish nums directory ends scope slots frame at parameters count ended) where
+    pub finish-low : at + 3 < 2 ^ 64
+    finish-low = omega (arith, a .inside, a .left .scene .scopes .program .numbers)
 
-  after-ran : (directory slots′ frame′ : List ℕ) (Γ : Scope) (s : State) (ended : Ended) (ending : Ending)
+    pub finish-own : AsksOwn scope
+    finish-own = record {
+      nums = nums;
+      directory = directory;
+      ends = ends;
+      scopeOf = a .scopeOf;
+      stands = a .left .scene .scopes;
+      few = a .few;
+    }
+
+    pub finish-asks : (b : Bool) (own : ℕ) → TellsBack ended b → b ≡ true → Owns scope own
+        → AsksBack nums directory ends scope slots frame (at + 3) parameters count own
+    finish-asks b own t e o =
+        let is : own ≡ ownOf (a .scopeOf) = o .is nums directory ends (a .scopeOf) (a .left .scene .scopes) in
+        rw is (record {
+          scopeOf = a .scopeOf;
+          state = a .state;
+          args = a .args;
+          list = a .list;
+          numbers = a .numbers;
+          left = a .left;
+          counted = a .counted;
+          going = after-goes (a .scopeOf) (a .state) ended (a .ending)
+              (comeBack (a .scopeOf) (a .args) (a .list) (a .numbers)) (a .counted) (a .told) (t .back e) (a .going);
+        })
+
+  after-ran : (slots′ frame′ : List ℕ) (Γ : Scope) (s : State) (ended : Ended) (ending : Ending)
       (m : M State (Unit {0})) → Ends ended ending → (ended ≡ Exited → ⊥)
-      → Ran nums directory ends scope offsets slots slots′ frame frame′ Γ (m s) (λ _. Unit {0})
-      → Ran nums directory ends scope offsets slots slots′ frame frame′ Γ (afterBody ending m s) (Ends ended)
+      → Ran nums directory ends scope slots slots′ frame frame′ Γ (m s) (λ _. Unit {0})
+      → Ran nums directory ends scope slots slots′ frame frame′ Γ (afterBody ending m s) (Ends ended)
   unfolding afterBody pure
-  after-ran directory slots′ frame′ Γ s ended ending m ends-onward x r =
+  after-ran slots′ frame′ Γ s ended ending m ends-onward x r =
       ran-then m _ s r (ran-here (r .state) onward (r .scene) refl ends-onward)
-  after-ran directory slots′ frame′ Γ s ended ending m ends-returned x r =
+  after-ran slots′ frame′ Γ s ended ending m ends-returned x r =
       ran-then m _ s r (ran-here (r .state) returned (r .scene) refl ends-returned)
-  after-ran directory slots′ frame′ Γ s ended ending m (ends-value v) x r =
+  after-ran slots′ frame′ Γ s ended ending m (ends-value v) x r =
       ran-then m _ s r (ran-here (r .state) (returnedValue _) (r .scene) refl (ends-value v))
-  after-ran directory slots′ frame′ Γ s ended ending m ends-exited x r = absurd (x refl)
+  after-ran slots′ frame′ Γ s ended ending m ends-exited x r = absurd (x refl)
 
-  pub finish-done : (slots′ frame′ : List ℕ) (ended r : Ended) → ended ≡ r → Stays r
-      → Backs nums ends scope offsets slots slots′ frame frame′ at parameters count slot
-      → Finishes nums ends scope offsets slots slots′ frame frame′ at parameters count slot ended r
-  finish-done slots′ frame′ ended r e w b = record {
-    finishes = λ directory Γ s xs ps ns ending counted l t g.
-        let x : ended ≡ Exited → ⊥ = no-exit ended r e w in
-        ran-map (after-ran directory slots′ frame′ Γ s ended ending
-        (comeBack Γ xs ps ns) t x (b .backs directory Γ s xs ps ns counted l
-        (after-goes Γ s ended ending (comeBack Γ xs ps ns) counted t x g))) λ _ k. rw e at k;
+  pub finish-done : (slots′ frame′ : List ℕ) (ended : Ended) (b : Bool) (own : ℕ) → TellsBack ended b → b ≡ true
+      → Owns scope own → Backs nums directory ends scope slots slots′ frame frame′ (at + 3) parameters count own
+      → Finishes nums directory ends scope slots slots′ frame frame′ at parameters count ended
+  finish-done slots′ frame′ ended b own t e o k = record {
+    finishes = λ Γ s xs ps ns ending counted l q g.
+        let is : own ≡ ownOf Γ = o .is nums directory ends Γ (l .scene .scopes) in
+        let there : Backs nums directory ends scope slots slots′ frame frame′ (at + 3) parameters count (ownOf Γ)
+        = rw is at k in
+        after-ran slots′ frame′ Γ s ended ending (comeBack Γ xs ps ns) q (t .back e)
+        (there .backs Γ s xs ps ns counted l
+        (after-goes Γ s ended ending (comeBack Γ xs ps ns) counted q (t .back e) g));
   }
 
   exit-is : (Γ : Scope) (s : State) (ended : Ended) (ending : Ending) (m : M State (Unit {0})) → Ends ended ending
@@ -308,14 +323,25 @@ module _ (nums ends scope offsets slots frame : List ℕ) (at parameters count s
   exit-is Γ s ended ending m (ends-value v) e = let z : _≡_ {A = ℕ} 0 1 = cc in absurd (omega arith)
   exit-is Γ s ended ending m ends-exited e = refl
 
-  pub finish-exit : (ended : Ended) → ended ≡ Exited
-      → Finishes nums ends scope offsets slots slots frame frame at parameters count slot ended Exited
-  finish-exit ended e = record {
-    finishes = λ directory Γ s xs ps ns ending counted l t g. ran-here s exited (l .scene)
-        (exit-is Γ s ended ending (comeBack Γ xs ps ns) t e) ends-exited;
+  pub finish-exit : (ended : Ended) (b : Bool) → TellsBack ended b → b ≡ false
+      → Finishes nums directory ends scope slots slots frame frame at parameters count ended
+  finish-exit ended b t e = record {
+    finishes = λ Γ s xs ps ns ending counted l q g. ran-here s exited (l .scene)
+        (exit-is Γ s ended ending (comeBack Γ xs ps ns) q (t .none e)) (rw (t .none e) ends-exited);
   }
 
-pub ruleset finishing = (finish-asks, finish-done, finish-exit, stays-onward, stays-returned, stays-value)
+pub ruleset finishing = (finish-low, finish-own, finish-asks, finish-done, finish-exit)
+
+pub back-told : (ended r : Ended) → ended ≡ r → Stays r → TellsBack ended true
+back-told ended r e w = record {
+  back = λ _. no-exit ended r e w;
+  none = λ q. let z : _≡_ {A = ℕ} 0 1 = cc in absurd (omega arith);
+}
+
+pub exit-told : (ended : Ended) → ended ≡ Exited → TellsBack ended false
+exit-told ended e = record { back = λ q. let z : _≡_ {A = ℕ} 0 1 = cc in absurd (omega arith); none = λ _. e }
+
+pub ruleset backTold = (back-told, exit-told, stays-onward, stays-returned, stays-value)
 
 -- a statement that calls
 exits-told : (ended : Ended) (ending : Ending) → Ends ended ending → ended ≡ Exited → Ends Exited (afterCall ending)

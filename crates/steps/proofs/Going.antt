@@ -195,10 +195,10 @@ pub counter-ticked : (slots : List ℕ) → length slots ≡ storeSlots → coun
 counter-ticked slots n = getD-set-same slots counterSlot (counterOf slots + 1) 0 (omega (arith, n))
 
 -- and stand in the slots
-module _ {nums directory ends scope offsets : List ℕ} {Γ : Scope} where
+module _ {nums directory ends scope : List ℕ} {Γ : Scope} where
   pub ran-here : {A : Type 0} {Answers : A → Type 0} {slots frame : List ℕ} (s : State) (a : A) {o : Out State A}
-      → Scene nums directory ends scope offsets slots frame Γ s → o ≡ done a s [] → Answers a
-      → Ran nums directory ends scope offsets slots slots frame frame Γ o Answers
+      → Scene nums directory ends scope slots frame Γ s → o ≡ done a s [] → Answers a
+      → Ran nums directory ends scope slots slots frame frame Γ o Answers
   ran-here s a h e r = record {
     answer = a;
     state = s;
@@ -211,9 +211,9 @@ module _ {nums directory ends scope offsets : List ℕ} {Γ : Scope} where
   }
 
   pub ran-map : {A : Type 0} {Answers Others : A → Type 0} {slots slots′ frame frame′ : List ℕ} {o : Out State A}
-      → Ran nums directory ends scope offsets slots slots′ frame frame′ Γ o Answers
+      → Ran nums directory ends scope slots slots′ frame frame′ Γ o Answers
       → ((a : A) → Answers a → Others a)
-      → Ran nums directory ends scope offsets slots slots′ frame frame′ Γ o Others
+      → Ran nums directory ends scope slots slots′ frame frame′ Γ o Others
   ran-map h f = record {
     answer = h .answer;
     state = h .state;
@@ -227,9 +227,9 @@ module _ {nums directory ends scope offsets : List ℕ} {Γ : Scope} where
 
   pub ran-then : {A B : Type 0} {Answers : A → Type 0} {Others : B → Type 0}
       {slots slots₁ slots₂ frame frame₁ frame₂ : List ℕ} (m : M State A) (k : A → M State B) (s : State)
-      → (h : Ran nums directory ends scope offsets slots slots₁ frame frame₁ Γ (m s) Answers)
-      → Ran nums directory ends scope offsets slots₁ slots₂ frame₁ frame₂ Γ (k (h .answer) (h .state)) Others
-      → Ran nums directory ends scope offsets slots slots₂ frame frame₂ Γ ((m >>= k) s) Others
+      → (h : Ran nums directory ends scope slots slots₁ frame frame₁ Γ (m s) Answers)
+      → Ran nums directory ends scope slots₁ slots₂ frame₁ frame₂ Γ (k (h .answer) (h .state)) Others
+      → Ran nums directory ends scope slots slots₂ frame frame₂ Γ ((m >>= k) s) Others
   unfolding more
   ran-then m k s h g = record {
     answer = g .answer;
@@ -244,8 +244,8 @@ module _ {nums directory ends scope offsets : List ℕ} {Γ : Scope} where
 
   pub ran-tick : {A : Type 0} {Answers : A → Type 0} {slots slots′ frame frame′ : List ℕ} (m : M State A) (s : State)
       → length slots ≡ storeSlots
-      → Ran nums directory ends scope offsets (ticked slots) slots′ frame frame′ Γ (m s) Answers
-      → Ran nums directory ends scope offsets slots slots′ frame frame′ Γ (tick m s) Answers
+      → Ran nums directory ends scope (ticked slots) slots′ frame frame′ Γ (m s) Answers
+      → Ran nums directory ends scope slots slots′ frame frame′ Γ (tick m s) Answers
   unfolding tick more
   ran-tick {slots = slots} m s n h =
       let one : counterOf (ticked slots) ≡ counterOf slots + 1 = counter-ticked slots n in
@@ -261,8 +261,8 @@ module _ {nums directory ends scope offsets : List ℕ} {Γ : Scope} where
       }
 
   pub ran-becomes : {slots slots′ frame frame′ : List ℕ} (f : State → Option State) (s : State)
-      → Becomes nums directory ends scope offsets slots slots′ frame frame′ Γ s (f s)
-      → Ran nums directory ends scope offsets slots slots′ frame frame′ Γ (puts f s) (λ _. Unit {0})
+      → Becomes nums directory ends scope slots slots′ frame frame′ Γ s (f s)
+      → Ran nums directory ends scope slots slots′ frame frame′ Γ (puts f s) (λ _. Unit {0})
   unfolding puts setTo
   ran-becomes f s b = record {
     answer = tt;

@@ -78,8 +78,8 @@ valid-gave Γ g s widths mark e m = record {
   isValue = record { most = omega arith; fit = rw (m .told) (mark-fits (m .valid)) };
 }
 
-module _ (nums directory ends scope offsets slots frame : List ℕ) (at : ℕ)
-    (asks : AsksLeaf nums directory ends scope offsets slots frame at) where
+module _ (nums directory ends scope slots frame : List ℕ) (at : ℕ)
+    (asks : AsksLeaf nums directory ends scope slots frame at) where
   pub leaf-inside : at < length nums
   leaf-inside = expr-begins (asks .stands) .inside
 
@@ -114,7 +114,7 @@ module _ (nums directory ends scope offsets slots frame : List ℕ) (at : ℕ)
   pub valid-inside : getD nums at 0 ≡ 6 → at + 1 < length nums
   valid-inside e = valid-view e .holds .inside
 
-  pub valid-asks : getD nums at 0 ≡ 6 → AsksHeader offsets slots (getD nums (at + 1) 0)
+  pub valid-asks : getD nums at 0 ≡ 6 → AsksHeader directory slots (getD nums (at + 1) 0)
   unfolding leafIn
   valid-asks e =
       let v = valid-view e in
@@ -122,7 +122,6 @@ module _ (nums directory ends scope offsets slots frame : List ℕ) (at : ℕ)
       = valid-known (asks .scopeOf) (v .number) (asks .counted) (asks .state) (rw (v .same) at (asks .going)) in
       record {
         nums = nums;
-        directory = directory;
         ends = ends;
         scope = scope;
         frame = frame;
@@ -156,10 +155,10 @@ place-of Γ s counted (on-slice t h l a) g x y z = not-nowhere s g
 place-of Γ s counted (on-concatenation t a b) g x y z = not-nowhere s g
 place-of Γ s counted (on-call t f n xs) g x y z = not-nowhere s g
 
-module _ (nums directory ends scope offsets slots frame : List ℕ) (at : ℕ) where
-  pub place-asks : AsksLeaf nums directory ends scope offsets slots frame at → (getD nums at 0 ≡ 0 → ⊥)
+module _ (nums directory ends scope slots frame : List ℕ) (at : ℕ) where
+  pub place-asks : AsksLeaf nums directory ends scope slots frame at → (getD nums at 0 ≡ 0 → ⊥)
       → (getD nums at 0 ≡ 1 → ⊥) → (getD nums at 0 ≡ 6 → ⊥)
-      → AsksPlace nums directory ends scope offsets slots frame at
+      → AsksPlace nums directory ends scope slots frame at
   unfolding leafIn
   place-asks asks x y z =
       let p = place-of (asks .scopeOf) (asks .state) (asks .counted) (asks .stands) (asks .going) x y z in
@@ -176,7 +175,7 @@ module _ (nums directory ends scope offsets slots frame : List ℕ) (at : ℕ) w
       }
 
   pub bool-gives : getD nums at 0 ≡ 0
-      → GivesLeaf nums directory ends scope offsets slots frame at 0 (getD nums (at + 1) 0)
+      → GivesLeaf nums directory ends scope slots frame at 0 (getD nums (at + 1) 0)
   unfolding ExprView
   bool-gives q = record {
     gives = λ Γ s e depth counted h w g.
@@ -185,7 +184,7 @@ module _ (nums directory ends scope offsets slots frame : List ℕ) (at : ℕ) w
   }
 
   pub bits-gives : getD nums at 0 ≡ 1
-      → GivesLeaf nums directory ends scope offsets slots frame at (getD nums (at + 1) 0) (getD nums (at + 2) 0)
+      → GivesLeaf nums directory ends scope slots frame at (getD nums (at + 1) 0) (getD nums (at + 2) 0)
   unfolding ExprView
   bits-gives q = record {
     gives = λ Γ s e depth counted h w g.
@@ -195,17 +194,17 @@ module _ (nums directory ends scope offsets slots frame : List ℕ) (at : ℕ) w
   }
 
   header-gave : (Γ : Scope) (s : State) (e : Expr) (g other mark counted : ℕ) → e ≡ validOf at g → other ≡ g
-      → ReadsMark offsets slots other mark → Scene nums directory ends scope offsets slots frame Γ s
+      → ReadsMark directory slots other mark → Scene nums directory ends scope slots frame Γ s
       → Goes counted (leafIn Γ e s) → LeafGave s (leafIn Γ e s) 0 mark
   unfolding leafIn
   header-gave Γ s e g other mark counted same k r h going =
       let known : Known (andLook (shapeFor Γ g) headerOnly) = valid-known Γ g counted s (rw same at going) in
       let there : Marked s g mark
-      = (rw k at r) .reads nums directory ends scope frame Γ s (known .member) h (known .is) in
+      = (rw k at r) .reads nums ends scope frame Γ s (known .member) h (known .is) in
       rw same (valid-gave Γ g s (known .member) mark (known .is) there)
 
-  pub valid-gives : (mark : ℕ) → getD nums at 0 ≡ 6 → ReadsMark offsets slots (getD nums (at + 1) 0) mark
-      → GivesLeaf nums directory ends scope offsets slots frame at 0 mark
+  pub valid-gives : (mark : ℕ) → getD nums at 0 ≡ 6 → ReadsMark directory slots (getD nums (at + 1) 0) mark
+      → GivesLeaf nums directory ends scope slots frame at 0 mark
   unfolding ExprView
   valid-gives mark q r = record {
     gives = λ Γ s e depth counted h w g.
@@ -214,8 +213,8 @@ module _ (nums directory ends scope offsets slots frame : List ℕ) (at : ℕ) w
   }
 
   pub place-gives : (r : values.Value) → (getD nums at 0 ≡ 0 → ⊥) → (getD nums at 0 ≡ 1 → ⊥)
-      → (getD nums at 0 ≡ 6 → ⊥) → ReadsPlace nums directory ends scope offsets slots frame at r
-      → GivesLeaf nums directory ends scope offsets slots frame at (r .ty) (r .number)
+      → (getD nums at 0 ≡ 6 → ⊥) → ReadsPlace nums directory ends scope slots frame at r
+      → GivesLeaf nums directory ends scope slots frame at (r .ty) (r .number)
   unfolding leafIn
   place-gives r x y z reads = record {
     gives = λ Γ s e depth counted h w g.

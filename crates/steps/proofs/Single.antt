@@ -99,24 +99,24 @@ outside b ending counted s g =
     let w = must-then-goes _ _ s g in
     must-then-is _ _ s (w .0)
 
-module _ {nums directory ends scope offsets slots frame : List ℕ} {Γ : Scope} where
+module _ {nums directory ends scope slots frame : List ℕ} {Γ : Scope} where
   changes-ran : (g counted : ℕ) (f : Cell → Option Cell) (s : State) (slots′ : List ℕ)
-      → Scene nums directory ends scope offsets slots frame Γ s → ChangesHeader f offsets slots slots′ g
+      → Scene nums directory ends scope slots frame Γ s → ChangesHeader f directory slots slots′ g
       → Goes counted ((changeHeader Γ g f >>= λ _. pure onward) s)
-      → Ran nums directory ends scope offsets slots slots′ frame frame Γ ((changeHeader Γ g f >>= λ _. pure onward) s)
+      → Ran nums directory ends scope slots slots′ frame frame Γ ((changeHeader Γ g f >>= λ _. pure onward) s)
       (Ends Onward)
   unfolding changeHeader pure
   changes-ran g counted f s slots′ h c going =
       let k = changes-known Γ g counted f s going in
-      let ran : Ran nums directory ends scope offsets slots slots′ frame frame Γ (puts (changeStore f g) s) (λ _. Unit {0})
-      = ran-becomes (changeStore f g) s (c .changes nums directory ends scope frame Γ s (k .member) h (k .is)) in
-      let made : Ran nums directory ends scope offsets slots slots′ frame frame Γ (changeHeader Γ g f s) (λ _. Unit {0})
+      let ran : Ran nums directory ends scope slots slots′ frame frame Γ (puts (changeStore f g) s) (λ _. Unit {0})
+      = ran-becomes (changeStore f g) s (c .changes nums ends scope frame Γ s (k .member) h (k .is)) in
+      let made : Ran nums directory ends scope slots slots′ frame frame Γ (changeHeader Γ g f s) (λ _. Unit {0})
       = rw (some-then-is (andLook (shapeFor Γ g) headerOnly) (λ _. puts (changeStore f g)) s (k .is)) ran in
       ran-then (changeHeader Γ g f) (λ _. pure onward) s made (ran-here (made .state) onward (made .scene) refl
       ends-onward)
 
-module _ (nums offsets slots : List ℕ) (at : ℕ) where
-  module _ (a : AsksSingle nums offsets slots at) where
+module _ (nums directory slots : List ℕ) (at : ℕ) where
+  module _ (a : AsksSingle nums directory slots at) where
     this : SingleOf nums at (getD nums at 0) (a .stmt)
     this = single-of (a .scopeOf) (a .state) (a .counted) (a .stands) (a .going)
 
@@ -128,7 +128,7 @@ module _ (nums offsets slots : List ℕ) (at : ℕ) where
 
     asks-header : (make : ℕ → Stmt) (f : Cell → Option Cell)
         → ((g : ℕ) → singleIn (a .scopeOf) (make g) ≡ (changeHeader (a .scopeOf) g f >>= λ _. pure onward))
-        → HeaderOf nums at make (a .stmt) → AsksHeader offsets slots (getD nums (at + 1) 0)
+        → HeaderOf nums at make (a .stmt) → AsksHeader directory slots (getD nums (at + 1) 0)
     asks-header make f e h =
         let going : Goes (a .counted) (singleIn (a .scopeOf) (make (getD nums (at + 1) 0)) (a .state))
         = rw (h .is) at (a .going) in
@@ -136,7 +136,6 @@ module _ (nums offsets slots : List ℕ) (at : ℕ) where
         (rw (e (getD nums (at + 1) 0)) at going) in
         record {
           nums = nums;
-          directory = a .directory;
           ends = a .ends;
           scope = a .scope;
           frame = a .frame;
@@ -150,7 +149,7 @@ module _ (nums offsets slots : List ℕ) (at : ℕ) where
     pub valid-inside : getD nums at 0 ≡ 9 → at + 1 < length nums
     valid-inside q = valid-is nums at this q .inside
 
-    pub valid-asks : getD nums at 0 ≡ 9 → AsksHeader offsets slots (getD nums (at + 1) 0)
+    pub valid-asks : getD nums at 0 ≡ 9 → AsksHeader directory slots (getD nums (at + 1) 0)
     unfolding singleIn
     valid-asks q = asks-header (setValid at) makeValid (λ g. refl) (valid-is nums at this q)
 
@@ -159,7 +158,7 @@ module _ (nums offsets slots : List ℕ) (at : ℕ) where
       pub invalid-inside : at + 1 < length nums
       invalid-inside = invalid-is nums at this w x y z .inside
 
-      pub invalid-asks : AsksHeader offsets slots (getD nums (at + 1) 0)
+      pub invalid-asks : AsksHeader directory slots (getD nums (at + 1) 0)
       unfolding singleIn
       invalid-asks = asks-header (setInvalid at) makeInvalid (λ g. refl) (invalid-is nums at this w x y z)
 
@@ -177,51 +176,51 @@ module _ (nums offsets slots : List ℕ) (at : ℕ) where
   unfolding singleIn
   exit-ran Γ s st counted e g = rw e (outside (Γ .body) exited counted s (rw e at g))
 
-  header-ran : (directory ends scope frame : List ℕ) (Γ : Scope) (s : State) (st : Stmt) (g counted : ℕ)
+  header-ran : (ends scope frame : List ℕ) (Γ : Scope) (s : State) (st : Stmt) (g counted : ℕ)
       (make : ℕ → Stmt) (f : Cell → Option Cell) (slots′ : List ℕ)
       → singleIn Γ (make g) ≡ (changeHeader Γ g f >>= λ _. pure onward) → st ≡ make g
-      → Scene nums directory ends scope offsets slots frame Γ s → ChangesHeader f offsets slots slots′ g
+      → Scene nums directory ends scope slots frame Γ s → ChangesHeader f directory slots slots′ g
       → Goes counted (singleIn Γ st s)
-      → Ran nums directory ends scope offsets slots slots′ frame frame Γ (singleIn Γ st s) (Ends Onward)
-  header-ran directory ends scope frame Γ s st g counted make f slots′ e same h c going =
+      → Ran nums directory ends scope slots slots′ frame frame Γ (singleIn Γ st s) (Ends Onward)
+  header-ran ends scope frame Γ s st g counted make f slots′ e same h c going =
       let there : Goes counted (singleIn Γ (make g) s) = rw same at going in
       rw (same, e) (changes-ran g counted f s slots′ h c (rw e at there))
 
-  pub empty-runs : getD nums at 0 ≡ 0 → RunsSingle nums offsets slots slots at Onward
+  pub empty-runs : getD nums at 0 ≡ 0 → RunsSingle nums directory slots slots at Onward
   empty-runs q = record {
-    runs = λ directory ends scope frame Γ s st depth counted h w g. ran-here s onward h
+    runs = λ ends scope frame Γ s st depth counted h w g. ran-here s onward h
         (empty-ran Γ s st (empty-is nums at (single-of Γ s counted w g) q)) ends-onward;
   }
 
-  pub return-runs : getD nums at 0 ≡ 7 → RunsSingle nums offsets slots slots at Returned
+  pub return-runs : getD nums at 0 ≡ 7 → RunsSingle nums directory slots slots at Returned
   return-runs q = record {
-    runs = λ directory ends scope frame Γ s st depth counted h w g. ran-here s returned h
+    runs = λ ends scope frame Γ s st depth counted h w g. ran-here s returned h
         (return-ran Γ s st counted (return-is nums at (single-of Γ s counted w g) q) g) ends-returned;
   }
 
-  pub exit-runs : getD nums at 0 ≡ 8 → RunsSingle nums offsets slots slots at Exited
+  pub exit-runs : getD nums at 0 ≡ 8 → RunsSingle nums directory slots slots at Exited
   exit-runs q = record {
-    runs = λ directory ends scope frame Γ s st depth counted h w g. ran-here s exited h
+    runs = λ ends scope frame Γ s st depth counted h w g. ran-here s exited h
         (exit-ran Γ s st counted (exit-is nums at (single-of Γ s counted w g) q) g) ends-exited;
   }
 
   pub valid-runs : (slots′ : List ℕ) → getD nums at 0 ≡ 9
-      → ChangesHeader makeValid offsets slots slots′ (getD nums (at + 1) 0)
-      → RunsSingle nums offsets slots slots′ at Onward
+      → ChangesHeader makeValid directory slots slots′ (getD nums (at + 1) 0)
+      → RunsSingle nums directory slots slots′ at Onward
   unfolding singleIn
   valid-runs slots′ q c = record {
-    runs = λ directory ends scope frame Γ s st depth counted h w g. header-ran directory ends scope frame Γ s st
+    runs = λ ends scope frame Γ s st depth counted h w g. header-ran ends scope frame Γ s st
         (getD nums (at + 1) 0) counted (setValid at) makeValid slots′ refl
         (valid-is nums at (single-of Γ s counted w g) q .is) h c g;
   }
 
   pub invalid-runs : (slots′ : List ℕ) → (getD nums at 0 ≡ 0 → ⊥) → (getD nums at 0 ≡ 7 → ⊥)
       → (getD nums at 0 ≡ 8 → ⊥) → (getD nums at 0 ≡ 9 → ⊥)
-      → ChangesHeader makeInvalid offsets slots slots′ (getD nums (at + 1) 0)
-      → RunsSingle nums offsets slots slots′ at Onward
+      → ChangesHeader makeInvalid directory slots slots′ (getD nums (at + 1) 0)
+      → RunsSingle nums directory slots slots′ at Onward
   unfolding singleIn
   invalid-runs slots′ x y z u c = record {
-    runs = λ directory ends scope frame Γ s st depth counted h w g. header-ran directory ends scope frame Γ s st
+    runs = λ ends scope frame Γ s st depth counted h w g. header-ran ends scope frame Γ s st
         (getD nums (at + 1) 0) counted (setInvalid at) makeInvalid slots′ refl
         (invalid-is nums at (single-of Γ s counted w g) x y z u .is) h c g;
   }

@@ -92,13 +92,13 @@ onTwo (concatenation at a b) v u = concatenationOn v u
 onTwo (callExpr at f xs) v u = none
 
 -- an expression without operands, from which the rules go on
-pub record AsksLeaf (nums directory ends scope offsets slots frame : List ℕ) (at : ℕ) : Type 0 where
+pub record AsksLeaf (nums directory ends scope slots frame : List ℕ) (at : ℕ) : Type 0 where
   pub scopeOf : Scope
   pub state : State
   pub expr : Expr
   pub depth : ℕ
   pub counted : ℕ
-  pub scene : Scene nums directory ends scope offsets slots frame scopeOf state
+  pub scene : Scene nums directory ends scope slots frame scopeOf state
   pub stands : StandsExpr nums ends depth at expr
   pub going : Goes counted (leafIn scopeOf expr state)
 
@@ -107,9 +107,9 @@ pub record LeafGave (s : State) (o : Out State Value) (ty number : ℕ) : Type 0
   pub is : o ≡ done (valueOf ty number) s []
   pub isValue : IsValue ty number
 
-pub record GivesLeaf (nums directory ends scope offsets slots frame : List ℕ) (at ty number : ℕ) : Type 0 where
+pub record GivesLeaf (nums directory ends scope slots frame : List ℕ) (at ty number : ℕ) : Type 0 where
   pub gives : (Γ : Scope) (s : State) (e : Expr) (depth counted : ℕ)
-      → Scene nums directory ends scope offsets slots frame Γ s → StandsExpr nums ends depth at e
+      → Scene nums directory ends scope slots frame Γ s → StandsExpr nums ends depth at e
       → Goes counted (leafIn Γ e s) → LeafGave s (leafIn Γ e s) ty number
 
 -- an expression with one operand, which has a value

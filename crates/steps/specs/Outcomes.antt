@@ -21,13 +21,13 @@ abbrev pub counterOf : List ℕ → ℕ
 counterOf slots = getD slots counterSlot 0
 
 -- what the rules come to, as it stands in the slots afterwards; and what their answer is in the runner's terms
-pub record Ran {A : Type 0} (nums directory ends scope offsets slots slots′ frame frame′ : List ℕ) (Γ : Scope)
+pub record Ran {A : Type 0} (nums directory ends scope slots slots′ frame frame′ : List ℕ) (Γ : Scope)
     (o : Out State A) (Answers : A → Type 0) : Type 0 where
   pub answer : A
   pub state : State
   pub seen : Seen
   pub is : o ≡ done answer state seen
-  pub scene : Scene nums directory ends scope offsets slots′ frame′ Γ state
+  pub scene : Scene nums directory ends scope slots′ frame′ Γ state
   pub counted : counterOf slots′ ≡ counterOf slots + length seen
   pub same : length frame′ ≡ length frame
   pub answers : Answers answer

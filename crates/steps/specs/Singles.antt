@@ -24,8 +24,7 @@ singleIn Γ (exit at) = notInFunction (Γ .body) exited
 singleIn Γ (setValid at g) = rules._>>=_ (changeHeader Γ g makeValid) λ _. pure onward
 singleIn Γ (setInvalid at g) = rules._>>=_ (changeHeader Γ g makeInvalid) λ _. pure onward
 
-pub record AsksSingle (nums offsets slots : List ℕ) (at : ℕ) : Type 0 where
-  pub directory : List ℕ
+pub record AsksSingle (nums directory slots : List ℕ) (at : ℕ) : Type 0 where
   pub ends : List ℕ
   pub scope : List ℕ
   pub frame : List ℕ
@@ -34,12 +33,12 @@ pub record AsksSingle (nums offsets slots : List ℕ) (at : ℕ) : Type 0 where
   pub stmt : Stmt
   pub depth : ℕ
   pub counted : ℕ
-  pub scene : Scene nums directory ends scope offsets slots frame scopeOf state
+  pub scene : Scene nums directory ends scope slots frame scopeOf state
   pub stands : StandsStmt nums ends depth at stmt
   pub going : Goes counted (singleIn scopeOf stmt state)
 
-pub record RunsSingle (nums offsets slots slots′ : List ℕ) (at : ℕ) (r : Ended) : Type 0 where
-  pub runs : (directory ends scope frame : List ℕ) (Γ : Scope) (s : State) (st : Stmt) (depth counted : ℕ)
-      → Scene nums directory ends scope offsets slots frame Γ s → StandsStmt nums ends depth at st
+pub record RunsSingle (nums directory slots slots′ : List ℕ) (at : ℕ) (r : Ended) : Type 0 where
+  pub runs : (ends scope frame : List ℕ) (Γ : Scope) (s : State) (st : Stmt) (depth counted : ℕ)
+      → Scene nums directory ends scope slots frame Γ s → StandsStmt nums ends depth at st
       → Goes counted (singleIn Γ st s)
-      → Ran nums directory ends scope offsets slots slots′ frame frame Γ (singleIn Γ st s) (Ends r)
+      → Ran nums directory ends scope slots slots′ frame frame Γ (singleIn Γ st s) (Ends r)

@@ -1,6 +1,7 @@
 // Around a call: where its arguments go, and what comes back.
-ghost use Rattle.steps.specs.Calls.{AsksOwn, Owns, AsksKeep, Keeps, AsksOneBack, BacksOne, AsksBack, Backs, AsksFinish, Finishes, AfterCall, Returns};
+ghost use Rattle.steps.specs.Calls.{AsksOwn, Owns, AsksKeep, Keeps, AsksOneBack, BacksOne, AsksBack, Backs, TellsBack, AsksFinish, Finishes, AfterCall, Returns};
 use crate::Ended;
+use program::Head;
 use store::STORE;
 use store::write_place;
 use values::Value;
@@ -27,20 +28,20 @@ pub fn keep(slot: usize, number: u64, frame: &mut [u64])
 // What comes back of one argument: the number that the callee left in a slot, where the direction is out or inout.
 fn write_back(
     nums: &[u64],
+    directory: &[u64; shape::SLOTS],
     scope: &[u64; program::SCOPE],
-    offsets: &[u64; lists::OFFSETS],
     at: usize,
     parameters: usize,
     slot: usize,
     slots: &mut [u64; STORE],
     frame: &mut [u64],
 )
-    requires { ⌜ AsksOneBack (now nums) (now scope) (now offsets) (now slots) (now frame) at parameters slot ⌝ }
-    ensures { λ r. ⌜ BacksOne (now (nums .entry)) (now (scope .entry)) (now (offsets .entry)) (now (slots .entry)) (now (slots .exit)) (now (frame .entry)) (now (frame .exit)) at parameters slot ⌝ }
+    requires { ⌜ AsksOneBack (now nums) (now directory) (now scope) (now slots) (now frame) at parameters slot ⌝ }
+    ensures { λ r. ⌜ BacksOne (now (nums .entry)) (now (directory .entry)) (now (scope .entry)) (now (slots .entry)) (now (slots .exit)) (now (frame .entry)) (now (frame .exit)) at parameters slot ⌝ }
 {
     if OUT <= nums[parameters] {
         let number = frame[slot];
-        write_place(nums, scope, offsets, at, number, slots, frame);
+        write_place(nums, directory, scope, at, number, slots, frame);
     }
 }
 
@@ -49,8 +50,8 @@ fn write_back(
 fn come_back(
     nums: &[u64],
     ends: &[u64],
+    directory: &[u64; shape::SLOTS],
     scope: &[u64; program::SCOPE],
-    offsets: &[u64; lists::OFFSETS],
     at: usize,
     parameters: usize,
     count: usize,
@@ -58,16 +59,16 @@ fn come_back(
     slots: &mut [u64; STORE],
     frame: &mut [u64],
 )
-    requires { ⌜ AsksBack (now nums) (now ends) (now scope) (now offsets) (now slots) (now frame) at parameters count slot ⌝ }
-    ensures { λ r. ⌜ Backs (now (nums .entry)) (now (ends .entry)) (now (scope .entry)) (now (offsets .entry)) (now (slots .entry)) (now (slots .exit)) (now (frame .entry)) (now (frame .exit)) at parameters count slot ⌝ }
+    requires { ⌜ AsksBack (now nums) (now directory) (now ends) (now scope) (now slots) (now frame) at parameters count slot ⌝ }
+    ensures { λ r. ⌜ Backs (now (nums .entry)) (now (directory .entry)) (now (ends .entry)) (now (scope .entry)) (now (slots .entry)) (now (slots .exit)) (now (frame .entry)) (now (frame .exit)) at parameters count slot ⌝ }
 {
     if count != 0 {
-        write_back(nums, scope, offsets, at, parameters, slot, slots, frame);
+        write_back(nums, directory, scope, at, parameters, slot, slots, frame);
         come_back(
             nums,
             ends,
+            directory,
             scope,
-            offsets,
             ends[at] as usize,
             parameters + 2,
             count - 1,
@@ -78,70 +79,47 @@ fn come_back(
     }
 }
 
-// What comes back behind a body that ended in some way: an exit writes nothing back.
+// Whether a body's numbers come back, by how it ended: an exit writes nothing back.
+fn comes_back(ended: Ended) -> bool
+    ensures { λ r. ⌜ TellsBack ended r ⌝ }
+{
+    match ended {
+        Ended::Onward => true,
+        Ended::Returned => true,
+        Ended::ReturnedValue { ty: _, number: _ } => true,
+        Ended::Exited => false,
+    }
+}
+
+// What comes back of a call, by its callable's head and by how the body ended.
 pub fn finish_call(
     nums: &[u64],
     ends: &[u64],
+    directory: &[u64; shape::SLOTS],
     scope: &[u64; program::SCOPE],
-    offsets: &[u64; lists::OFFSETS],
     at: usize,
-    parameters: usize,
-    count: usize,
-    slot: usize,
+    head: Head,
     ended: Ended,
     slots: &mut [u64; STORE],
     frame: &mut [u64],
-) -> Ended
-    requires { ⌜ AsksFinish (now nums) (now ends) (now scope) (now offsets) (now slots) (now frame) at parameters count slot ended ⌝ }
-    ensures { λ r. ⌜ Finishes (now (nums .entry)) (now (ends .entry)) (now (scope .entry)) (now (offsets .entry)) (now (slots .entry)) (now (slots .exit)) (now (frame .entry)) (now (frame .exit)) at parameters count slot ended r ⌝ }
+)
+    requires { ⌜ AsksFinish (now nums) (now directory) (now ends) (now scope) (now slots) (now frame) at (head .parameters) (head .count) ended ⌝ }
+    ensures { λ r. ⌜ Finishes (now (nums .entry)) (now (directory .entry)) (now (ends .entry)) (now (scope .entry)) (now (slots .entry)) (now (slots .exit)) (now (frame .entry)) (now (frame .exit)) at (head .parameters) (head .count) ended ⌝ }
 {
-    match ended {
-        Ended::Onward => {
-            come_back(
-                nums,
-                ends,
-                scope,
-                offsets,
-                at,
-                parameters,
-                count,
-                slot,
-                slots,
-                frame,
-            );
-            Ended::Onward
-        }
-        Ended::Returned => {
-            come_back(
-                nums,
-                ends,
-                scope,
-                offsets,
-                at,
-                parameters,
-                count,
-                slot,
-                slots,
-                frame,
-            );
-            Ended::Returned
-        }
-        Ended::ReturnedValue { ty, number } => {
-            come_back(
-                nums,
-                ends,
-                scope,
-                offsets,
-                at,
-                parameters,
-                count,
-                slot,
-                slots,
-                frame,
-            );
-            Ended::ReturnedValue { ty, number }
-        }
-        Ended::Exited => Ended::Exited,
+    if comes_back(ended) {
+        let own = own_slots(scope);
+        come_back(
+            nums,
+            ends,
+            directory,
+            scope,
+            at + 3,
+            head.parameters,
+            head.count as usize,
+            own,
+            slots,
+            frame,
+        );
     }
 }
 

@@ -1,6 +1,7 @@
 // What an expression does with the values of its operands, and expressions that have none.
 ghost use Rattle.steps.specs.Outcomes.{AsksCount, Counts};
 ghost use Rattle.steps.specs.Operands.{AsksLeaf, GivesLeaf, AsksOneOn, GivesOne, AsksStop, TellsStop, AsksTwoOn, GivesTwo};
+use store::COUNTER;
 use store::STORE;
 use store::headers::valid_mark;
 use store::read_place;
@@ -32,9 +33,6 @@ const BOTH: u64 = 12;
 
 const EITHER: u64 = 13;
 
-// The slot of the store's that counts steps.
-pub const COUNTER: usize = 544;
-
 // A step is counted: its construct begins.
 pub fn count_step(slots: &mut [u64; STORE])
     requires { ⌜ AsksCount (now slots) ⌝ }
@@ -49,13 +47,12 @@ pub fn leaf(
     ends: &[u64],
     directory: &[u64; shape::SLOTS],
     scope: &[u64; program::SCOPE],
-    offsets: &[u64; lists::OFFSETS],
     at: usize,
     slots: &[u64; STORE],
     frame: &[u64],
 ) -> Value
-    requires { ⌜ AsksLeaf (now nums) (now directory) (now ends) (now scope) (now offsets) (now slots) (now frame) at ⌝ }
-    ensures { λ r. ⌜ GivesLeaf (now (nums .entry)) (now (directory .entry)) (now (ends .entry)) (now (scope .entry)) (now (offsets .entry)) (now (slots .entry)) (now (frame .entry)) at (r .ty) (r .number) ⌝ }
+    requires { ⌜ AsksLeaf (now nums) (now directory) (now ends) (now scope) (now slots) (now frame) at ⌝ }
+    ensures { λ r. ⌜ GivesLeaf (now (nums .entry)) (now (directory .entry)) (now (ends .entry)) (now (scope .entry)) (now (slots .entry)) (now (frame .entry)) at (r .ty) (r .number) ⌝ }
 {
     let tag = nums[at];
     match tag {
@@ -69,9 +66,9 @@ pub fn leaf(
         },
         VALID => Value {
             ty: 0,
-            number: valid_mark(offsets, slots, nums[at + 1] as usize),
+            number: valid_mark(directory, slots, nums[at + 1] as usize),
         },
-        _ => read_place(nums, ends, directory, scope, offsets, slots, frame, at),
+        _ => read_place(nums, ends, directory, scope, slots, frame, at),
     }
 }
 

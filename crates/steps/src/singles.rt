@@ -17,12 +17,12 @@ const SET_VALID: u64 = 9;
 // An empty statement, a return without a value, an exit, or a header that is made valid or invalid.
 pub fn single(
     nums: &[u64],
-    offsets: &[u64; lists::OFFSETS],
+    directory: &[u64; shape::SLOTS],
     at: usize,
     slots: &mut [u64; STORE],
 ) -> Ended
-    requires { ⌜ AsksSingle (now nums) (now offsets) (now slots) at ⌝ }
-    ensures { λ r. ⌜ RunsSingle (now (nums .entry)) (now (offsets .entry)) (now (slots .entry)) (now (slots .exit)) at r ⌝ }
+    requires { ⌜ AsksSingle (now nums) (now directory) (now slots) at ⌝ }
+    ensures { λ r. ⌜ RunsSingle (now (nums .entry)) (now (directory .entry)) (now (slots .entry)) (now (slots .exit)) at r ⌝ }
 {
     let tag = nums[at];
     match tag {
@@ -31,12 +31,12 @@ pub fn single(
         EXIT => Ended::Exited,
         SET_VALID => {
             let header = nums[at + 1] as usize;
-            set_valid(offsets, header, slots);
+            set_valid(directory, header, slots);
             Ended::Onward
         }
         _ => {
             let header = nums[at + 1] as usize;
-            set_invalid(offsets, header, slots);
+            set_invalid(directory, header, slots);
             Ended::Onward
         }
     }

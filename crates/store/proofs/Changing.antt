@@ -60,12 +60,12 @@ pub record Made (f : Cell → Option Cell) (slots slots′ : List ℕ) (start : 
   pub size : length (slotsOfCell cell) ≡ length (slotsOfCell c)
   pub replaced : Replaced slots slots′ start (slotsOfCell cell)
 
-module _ (nums directory ends scope offsets slots frame : List ℕ) (Γ : Scope) (s : State)
-    (h : Scene nums directory ends scope offsets slots frame Γ s) (g : ℕ) (shape : Shape)
-    (c : CellOf offsets (s .store) g shape) where
+module _ (nums directory ends scope slots frame : List ℕ) (Γ : Scope) (s : State)
+    (h : Scene nums directory ends scope slots frame Γ s) (g : ℕ) (shape : Shape)
+    (c : CellOf directory (s .store) g shape) where
   pub store-becomes : (f : Cell → Option Cell) (slots′ : List ℕ) → Made f slots slots′ (startOf (s .store) g) (c .cell)
       → SomeOf (StateFits Γ) (changeStore f g s)
-      → Becomes nums directory ends scope offsets slots slots′ frame frame Γ s (changeStore f g s)
+      → Becomes nums directory ends scope slots slots′ frame frame Γ s (changeStore f g s)
   unfolding changeStore andLook withStore
   store-becomes f slots′ m k =
       let e : change f (s .store) g ≡ some (set (s .store) g (m .cell))
@@ -92,14 +92,14 @@ pub put-fits : (Γ : Scope) (p : Place) (s : State) (t : Ty) (n : ℕ) → State
 put-fits Γ p s t n f d h = from-some (rw d at (put-at Γ p s f)) n h
 
 -- a place of a tag is written
-pub spot-writes : (nums directory ends scope offsets slots slots′ frame frame′ : List ℕ) (at number tag last : ℕ)
+pub spot-writes : (nums directory ends scope slots slots′ frame frame′ : List ℕ) (at number tag last : ℕ)
     (q : Place)
     → Names nums at tag last q → getD nums at 0 ≡ tag
-    → ((Γ : Scope) (s : State) (t : Ty) → Scene nums directory ends scope offsets slots frame Γ s
+    → ((Γ : Scope) (s : State) (t : Ty) → Scene nums directory ends scope slots frame Γ s
     → declared Γ q ≡ some t
-    → Fit t number → Becomes nums directory ends scope offsets slots slots′ frame frame′ Γ s (put q number s))
-    → WritesPlace nums directory ends scope offsets slots slots′ frame frame′ at number
-spot-writes nums directory ends scope offsets slots slots′ frame frame′ at number tag last q names is becomes = record {
+    → Fit t number → Becomes nums directory ends scope slots slots′ frame frame′ Γ s (put q number s))
+    → WritesPlace nums directory ends scope slots slots′ frame frame′ at number
+spot-writes nums directory ends scope slots slots′ frame frame′ at number tag last q names is becomes = record {
   writes = λ Γ s p t h k d fit.
       let n : Named nums last p q = names p k is in
       rw (n .is) (becomes Γ s t h (rw (n .is) at d) fit);

@@ -39,8 +39,8 @@ module _ (nums scope frame : List ℕ) (at : ℕ) where
   parameterTyAt = getD scope 1 0 + 2 * i + 1
 
   -- in whatever state stands there
-  module _ (directory ends offsets slots : List ℕ) (Γ : Scope) (s : State) (t : Ty)
-      (h : Scene nums directory ends scope offsets slots frame Γ s) where
+  module _ (directory ends slots : List ℕ) (Γ : Scope) (s : State) (t : Ty)
+      (h : Scene nums directory ends scope slots frame Γ s) where
     local-typed : declared Γ (local i) ≡ some t → HoldsTy nums localTyAt t
     unfolding declared
     local-typed d = type-at nums (getD scope 3 0) (Γ .locals) (h .scopes .locals) i t d
@@ -86,16 +86,16 @@ module _ (nums scope frame : List ℕ) (at : ℕ) where
   module _ (asks : AsksFramed localTag nums scope frame at) where
     pub local-room : FrameRoom nums frame at localTyAt localSlot
     local-room =
-        let a = asked nums (asks .directory) (asks .ends) scope (asks .offsets) (asks .slots) frame at localTag (at + 1)
+        let a = asked nums (asks .directory) (asks .ends) scope (asks .slots) frame at localTag (at + 1)
         (local i)
         (named-local nums at) (asks .is) (asks .asks) in
         record {
           few = a .few;
           behind = a .behind;
-          typed = local-typed (asks .directory) (asks .ends) (asks .offsets) (asks .slots) (a .scopeOf) (a .state)
+          typed = local-typed (asks .directory) (asks .ends) (asks .slots) (a .scopeOf) (a .state)
               (a .ty)
               (a .scene) (a .declares) .inside;
-          inside = local-spot (asks .directory) (asks .ends) (asks .offsets) (asks .slots) (a .scopeOf) (a .state)
+          inside = local-spot (asks .directory) (asks .ends) (asks .slots) (a .scopeOf) (a .state)
               (a .ty)
               (a .scene) (a .declares) .inside;
         }
@@ -103,35 +103,35 @@ module _ (nums scope frame : List ℕ) (at : ℕ) where
     pub local-reads : ReadsFramed nums scope frame at
         (record { ty = getD nums localTyAt 0; number = getD frame localSlot 0 })
     local-reads = record {
-      framed = λ directory ends offsets slots. spot-reads nums directory ends scope offsets slots frame at localTag
+      framed = λ directory ends slots. spot-reads nums directory ends scope slots frame at localTag
           (at + 1)
           (local i)
           (named-local nums at) (asks .is) frame (getD nums localTyAt 0) localSlot
-          (local-spot directory ends offsets slots);
+          (local-spot directory ends slots);
     }
 
   module _ (asks : AsksFramed parameterTag nums scope frame at) where
     pub parameter-room : FrameRoom nums frame at parameterTyAt i
     parameter-room =
-        let a = asked nums (asks .directory) (asks .ends) scope (asks .offsets) (asks .slots) frame at parameterTag
+        let a = asked nums (asks .directory) (asks .ends) scope (asks .slots) frame at parameterTag
         (at + 1)
         (parameter i) (named-parameter nums at) (asks .is) (asks .asks) in
         record {
           few = a .few;
           behind = a .behind;
-          typed = parameter-typed (asks .directory) (asks .ends) (asks .offsets) (asks .slots) (a .scopeOf) (a .state)
+          typed = parameter-typed (asks .directory) (asks .ends) (asks .slots) (a .scopeOf) (a .state)
               (a .ty) (a .scene) (a .declares) .inside;
-          inside = parameter-spot (asks .directory) (asks .ends) (asks .offsets) (asks .slots) (a .scopeOf) (a .state)
+          inside = parameter-spot (asks .directory) (asks .ends) (asks .slots) (a .scopeOf) (a .state)
               (a .ty) (a .scene) (a .declares) .inside;
         }
 
     pub parameter-reads : ReadsFramed nums scope frame at
         (record { ty = getD nums parameterTyAt 0; number = getD frame i 0 })
     parameter-reads = record {
-      framed = λ directory ends offsets slots. spot-reads nums directory ends scope offsets slots frame at
+      framed = λ directory ends slots. spot-reads nums directory ends scope slots frame at
           parameterTag (at + 1)
           (parameter i) (named-parameter nums at) (asks .is) frame (getD nums parameterTyAt 0) i
-          (parameter-spot directory ends offsets slots);
+          (parameter-spot directory ends slots);
     }
 
 pub ruleset frames = (local-reads, parameter-reads)

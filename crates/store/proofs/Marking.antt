@@ -12,6 +12,7 @@ use Rattle.rules.specs.Lists.{Cell, headerCell, markOf, slotsOfCell}
 use Rattle.rules.specs.Running.{State, headerOnly, shapeFor, validIn, zeroed, makeValid, makeInvalid, changeStore}
 use Rattle.rules.proofs.Predicates.{All2, nil, cons, SomeOf, isSome, some-then, from-some}
 use Rattle.rules.proofs.Fits.{CellFits, validFits, invalidFits, StateFits, make-valid, make-invalid, store-change, with-store}
+use Rattle.shape.specs.Directory.{offsetsSlot}
 use Rattle.store.specs.Mirrors.{storeSlots, Scene}
 use Rattle.store.specs.Changes.{AsksHeader, Marked, ReadsMark, ChangesHeader}
 use Rattle.store.specs.Fills.{AsksClear, Clears}
@@ -83,11 +84,11 @@ invalidated (invalidFits {ns = ns} h) = record {
 }
 
 -- in whatever state stands there
-module _ (nums directory ends scope offsets slots frame : List ℕ) (g : ℕ) (Γ : Scope) (s : State) (widths : List ℕ)
-    (h : Scene nums directory ends scope offsets slots frame Γ s)
+module _ (nums directory ends scope slots frame : List ℕ) (g : ℕ) (Γ : Scope) (s : State) (widths : List ℕ)
+    (h : Scene nums directory ends scope slots frame Γ s)
     (is : andLook (shapeFor Γ g) headerOnly ≡ some widths) where
-  headerAt : CellOf offsets (s .store) g (aHeader widths)
-  headerAt = cell-of nums directory ends scope offsets slots frame Γ s h g (aHeader widths)
+  headerAt : CellOf directory (s .store) g (aHeader widths)
+  headerAt = cell-of nums directory ends scope slots frame Γ s h g (aHeader widths)
       (shaped-header Γ g widths is)
 
   header-inside : startOf (s .store) g + length (slotsOfCell (headerAt .cell)) < storeSlots
@@ -97,11 +98,11 @@ module _ (nums directory ends scope offsets slots frame : List ℕ) (g : ℕ) (�
       → getD slots (startOf (s .store) g + j) 0 ≡ getD (slotsOfCell (headerAt .cell)) j 0
   numbers = cell-reads slots (s .store) g (headerAt .cell) (headerAt .found) (h .store)
 
-  marked : Marked s g (getD slots (getD offsets g 0) 0)
+  marked : Marked s g (getD slots (getD directory (offsetsSlot + g) 0) 0)
   unfolding andLook
   marked =
       let m = mark-in (headerAt .fits) in
-      let first : getD offsets g 0 ≡ startOf (s .store) g + 0 = omega (arith, headerAt .start) in
+      let first : getD directory (offsetsSlot + g) 0 ≡ startOf (s .store) g + 0 = omega (arith, headerAt .start) in
       record {
         valid = m .valid;
         is = rw (headerAt .found) (m .is);
@@ -117,10 +118,10 @@ module _ (nums directory ends scope offsets slots frame : List ℕ) (g : ℕ) (�
       some-then (from-some (rw (shaped-header Γ g widths is) at (store-change (h .fits .store-fits) g)) f k) λ cells q.
       isSome (with-store Γ (h .fits) q)
 
-  made-valid : Made makeValid slots (set slots (getD offsets g 0) 1) (startOf (s .store) g) (headerAt .cell)
+  made-valid : Made makeValid slots (set slots (getD directory (offsetsSlot + g) 0) 1) (startOf (s .store) g) (headerAt .cell)
   made-valid =
       let v = validated (headerAt .fits) in
-      let first : getD offsets g 0 ≡ startOf (s .store) g + 0 = omega (arith, headerAt .start) in
+      let first : getD directory (offsetsSlot + g) 0 ≡ startOf (s .store) g + 0 = omega (arith, headerAt .start) in
       record {
         cell = v .cell;
         is = v .is;
@@ -129,7 +130,7 @@ module _ (nums directory ends scope offsets slots frame : List ℕ) (g : ℕ) (�
             (omega (arith, header-inside, h .store .count)) (omega (arith, fields-in (headerAt .fits))) numbers);
       }
 
-  made-invalid : (slots′ : List ℕ) → Clears slots slots′ (getD offsets g 0) (getD offsets (g + 1) 0)
+  made-invalid : (slots′ : List ℕ) → Clears slots slots′ (getD directory (offsetsSlot + g) 0) (getD directory (offsetsSlot + g + 1) 0)
       → Made makeInvalid slots slots′ (startOf (s .store) g) (headerAt .cell)
   made-invalid slots′ k =
       let v = invalidated (headerAt .fits) in
@@ -147,17 +148,17 @@ module _ (nums directory ends scope offsets slots frame : List ℕ) (g : ℕ) (�
       }
 
 -- the mark
-module _ (offsets slots : List ℕ) (g : ℕ) where
+module _ (directory slots : List ℕ) (g : ℕ) where
   pub record HeaderRoom : Type 0 where
     pub few : g < mostGlobals
-    pub inside : getD offsets g 0 < storeSlots
-    pub next : getD offsets (g + 1) 0 ≤ storeSlots
+    pub inside : getD directory (offsetsSlot + g) 0 < storeSlots
+    pub next : getD directory (offsetsSlot + g + 1) 0 ≤ storeSlots
 
-  pub header-room : AsksHeader offsets slots g → HeaderRoom
+  pub header-room : AsksHeader directory slots g → HeaderRoom
   header-room a =
-      let c = headerAt (a .nums) (a .directory) (a .ends) (a .scope) offsets slots (a .frame) g (a .scopeOf) (a .state)
+      let c = headerAt (a .nums) directory (a .ends) (a .scope) slots (a .frame) g (a .scopeOf) (a .state)
       (a .widths) (a .scene) (a .is) in
-      let i = header-inside (a .nums) (a .directory) (a .ends) (a .scope) offsets slots (a .frame) g (a .scopeOf)
+      let i = header-inside (a .nums) directory (a .ends) (a .scope) slots (a .frame) g (a .scopeOf)
       (a .state)
       (a .widths) (a .scene) (a .is) in
       record {
@@ -166,40 +167,40 @@ module _ (offsets slots : List ℕ) (g : ℕ) where
         next = omega (arith, i, c .next);
       }
 
-  pub header-clears : AsksHeader offsets slots g → AsksClear slots (getD offsets g 0) (getD offsets (g + 1) 0)
+  pub header-clears : AsksHeader directory slots g → AsksClear slots (getD directory (offsetsSlot + g) 0) (getD directory (offsetsSlot + g + 1) 0)
   header-clears a =
-      let c = headerAt (a .nums) (a .directory) (a .ends) (a .scope) offsets slots (a .frame) g (a .scopeOf) (a .state)
+      let c = headerAt (a .nums) directory (a .ends) (a .scope) slots (a .frame) g (a .scopeOf) (a .state)
       (a .widths) (a .scene) (a .is) in
       record {
         up = omega (arith, c .start, c .next);
         most = omega (arith, header-room a .next, a .scene .store .count);
       }
 
-  pub mark-read : ReadsMark offsets slots g (getD slots (getD offsets g 0) 0)
+  pub mark-read : ReadsMark directory slots g (getD slots (getD directory (offsetsSlot + g) 0) 0)
   mark-read = record {
-    reads = λ nums directory ends scope frame Γ s widths h is. marked nums directory ends scope offsets slots frame g
+    reads = λ nums ends scope frame Γ s widths h is. marked nums directory ends scope slots frame g
         Γ s
         widths h is;
   }
 
-  pub header-validated : ChangesHeader makeValid offsets slots (set slots (getD offsets g 0) 1) g
+  pub header-validated : ChangesHeader makeValid directory slots (set slots (getD directory (offsetsSlot + g) 0) 1) g
   header-validated = record {
-    changes = λ nums directory ends scope frame Γ s widths h is. store-becomes nums directory ends scope offsets
+    changes = λ nums ends scope frame Γ s widths h is. store-becomes nums directory ends scope
         slots frame Γ
-        s h g (aHeader widths) (headerAt nums directory ends scope offsets slots frame g Γ s widths h is) makeValid
-        (set slots (getD offsets g 0) 1) (made-valid nums directory ends scope offsets slots frame g Γ s widths h is)
-        (still-fits nums directory ends scope offsets slots frame g Γ s widths h is makeValid λ c k. make-valid k);
+        s h g (aHeader widths) (headerAt nums directory ends scope slots frame g Γ s widths h is) makeValid
+        (set slots (getD directory (offsetsSlot + g) 0) 1) (made-valid nums directory ends scope slots frame g Γ s widths h is)
+        (still-fits nums directory ends scope slots frame g Γ s widths h is makeValid λ c k. make-valid k);
   }
 
-  pub header-invalidated : (slots′ : List ℕ) → Clears slots slots′ (getD offsets g 0) (getD offsets (g + 1) 0)
-      → ChangesHeader makeInvalid offsets slots slots′ g
+  pub header-invalidated : (slots′ : List ℕ) → Clears slots slots′ (getD directory (offsetsSlot + g) 0) (getD directory (offsetsSlot + g + 1) 0)
+      → ChangesHeader makeInvalid directory slots slots′ g
   header-invalidated slots′ k = record {
-    changes = λ nums directory ends scope frame Γ s widths h is. store-becomes nums directory ends scope offsets
+    changes = λ nums ends scope frame Γ s widths h is. store-becomes nums directory ends scope
         slots frame Γ
-        s h g (aHeader widths) (headerAt nums directory ends scope offsets slots frame g Γ s widths h is)
+        s h g (aHeader widths) (headerAt nums directory ends scope slots frame g Γ s widths h is)
         makeInvalid slots′
-        (made-invalid nums directory ends scope offsets slots frame g Γ s widths h is slots′ k)
-        (still-fits nums directory ends scope offsets slots frame g Γ s widths h is makeInvalid λ c q. make-invalid q);
+        (made-invalid nums directory ends scope slots frame g Γ s widths h is slots′ k)
+        (still-fits nums directory ends scope slots frame g Γ s widths h is makeInvalid λ c q. make-invalid q);
   }
 
 pub ruleset marks = (header-clears, mark-read, header-validated, header-invalidated)

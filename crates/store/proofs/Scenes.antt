@@ -11,6 +11,7 @@ use Rattle.rules.specs.Lists.{Cell, slotsOf}
 use Rattle.rules.specs.Running.{State, withStore, fresh, started}
 use Rattle.rules.proofs.Predicates.{All2, nil, cons}
 use Rattle.rules.proofs.Fits.{Fit, FitParameter, StoreFits, zero-fits, with-store}
+use Rattle.shape.specs.Directory.{offsetsSlot}
 use Rattle.program.specs.Stands.{StandsProgram}
 use Rattle.program.specs.Scopes.{StandsScope}
 use Rattle.lists.specs.Stands.{HoldsAll}
@@ -28,10 +29,10 @@ counter-mirrors slots cells n m = record {
 }
 
 -- the counter is no part of a state
-pub scene-counted : (nums directory ends scope offsets slots frame : List ℕ) (Γ : Scope) (s : State) (n : ℕ)
-    → Scene nums directory ends scope offsets slots frame Γ s
-    → Scene nums directory ends scope offsets (set slots counterSlot n) frame Γ s
-scene-counted nums directory ends scope offsets slots frame Γ s n h = record {
+pub scene-counted : (nums directory ends scope slots frame : List ℕ) (Γ : Scope) (s : State) (n : ℕ)
+    → Scene nums directory ends scope slots frame Γ s
+    → Scene nums directory ends scope (set slots counterSlot n) frame Γ s
+scene-counted nums directory ends scope slots frame Γ s n h = record {
   scopes = h .scopes;
   offset = h .offset;
   fits = h .fits;
@@ -40,14 +41,14 @@ scene-counted nums directory ends scope offsets slots frame Γ s n h = record {
 }
 
 -- a call has ended: the store has changed, and of the frame only what was free
-pub scene-entered : (nums directory ends scope offsets slots slots′ frame frame′ : List ℕ) (Γ : Scope) (s : State)
+pub scene-entered : (nums directory ends scope slots slots′ frame frame′ : List ℕ) (Γ : Scope) (s : State)
     (cells : List Cell)
-    → Scene nums directory ends scope offsets slots frame Γ s → StoreFits (Γ .program) cells → MirrorsStore slots′ cells
+    → Scene nums directory ends scope slots frame Γ s → StoreFits (Γ .program) cells → MirrorsStore slots′ cells
     → length frame′ ≡ length frame
     → ((i : ℕ) → i < length (s .parameters) + length (s .locals) → getD frame′ i 0 ≡ getD frame i 0)
-    → Scene nums directory ends scope offsets slots′ frame′ Γ (withStore s cells)
+    → Scene nums directory ends scope slots′ frame′ Γ (withStore s cells)
 unfolding withStore
-scene-entered nums directory ends scope offsets slots slots′ frame frame′ Γ s cells h f m same own = record {
+scene-entered nums directory ends scope slots slots′ frame frame′ Γ s cells h f m same own = record {
   scopes = h .scopes;
   offset = h .offset;
   fits = with-store Γ (h .fits) f;
@@ -64,15 +65,15 @@ noughts-fit : (ts : List Ty) → All2 Fit ts (noughts ts)
 noughts-fit [] = nil
 noughts-fit (t ∷ ts) = cons {a = t} {b = 0} (zero-fits t) (noughts-fit ts)
 
-pub scene-fresh : (nums directory ends scope offsets slots frame frame′ : List ℕ) (P : Program) (n : ℕ) (c : Callable)
+pub scene-fresh : (nums directory ends scope slots frame frame′ : List ℕ) (P : Program) (n : ℕ) (c : Callable)
     (ns : List ℕ) (cells : List Cell)
-    → StandsScope nums directory ends scope (scopeOf P n c) → OffsetsOf P offsets → StoreFits P cells
+    → StandsScope nums directory ends scope (scopeOf P n c) → OffsetsOf P directory offsetsSlot → StoreFits P cells
     → All2 FitParameter (c .parameters) ns → MirrorsStore slots cells → length ns + length (c .locals) ≤ length frame
     → ((i : ℕ) → i < length ns → getD frame i 0 ≡ getD ns i 0)
     → Clears frame frame′ (length ns) (length ns + length (c .locals))
-    → Scene nums directory ends scope offsets slots frame′ (scopeOf P n c) (fresh c ns cells)
+    → Scene nums directory ends scope slots frame′ (scopeOf P n c) (fresh c ns cells)
 unfolding scopeOf fresh
-scene-fresh nums directory ends scope offsets slots frame frame′ P n c ns cells s o f k m room args z = record {
+scene-fresh nums directory ends scope slots frame frame′ P n c ns cells s o f k m room args z = record {
   scopes = s;
   offset = o;
   fits = record { store-fits = f; parameters-fit = k; locals-fit = noughts-fit (c .locals) };
@@ -81,7 +82,7 @@ scene-fresh nums directory ends scope offsets slots frame frame′ P n c ns cell
 }
 
 -- a run begins, in the apply body, with the store's numbers copied and the counter set
-module _ (nums directory ends offsets : List ℕ) (P : Program) (end store size : ℕ) (cells : List Cell)
+module _ (nums directory ends : List ℕ) (P : Program) (end store size : ℕ) (cells : List Cell)
     (s : StandsProgram nums directory ends P end) (h : HoldsAll nums store (slotsOf cells))
     (e : size ≡ length (slotsOf cells)) (f : StoreFits P cells) where
   pub start-copies : (slots : List ℕ) → length slots ≡ storeSlots → AsksCopy nums slots store size
@@ -89,8 +90,8 @@ module _ (nums directory ends offsets : List ℕ) (P : Program) (end store size 
       (omega (arith, n, e, store-most nums directory ends P end s cells f))
 
   pub scene-start : (scope slots slots′ frame : List ℕ) (n : ℕ) → StandsScope nums directory ends scope (applyScope P)
-      → OffsetsOf P offsets → length slots ≡ storeSlots → Copies nums slots slots′ store size
-      → Scene nums directory ends scope offsets (set slots′ counterSlot n) frame (applyScope P) (started cells)
+      → OffsetsOf P directory offsetsSlot → length slots ≡ storeSlots → Copies nums slots slots′ store size
+      → Scene nums directory ends scope (set slots′ counterSlot n) frame (applyScope P) (started cells)
   unfolding applyScope started
   scene-start scope slots slots′ frame n k o m c = record {
     scopes = k;

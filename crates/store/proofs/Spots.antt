@@ -85,18 +85,18 @@ spot-read slots Γ p s t ty slot f d h = record {
 }
 
 -- a place of a tag, of which something is known in whatever state there is
-module _ (nums directory ends scope offsets slots frame : List ℕ) (at tag last : ℕ) (q : Place)
+module _ (nums directory ends scope slots frame : List ℕ) (at tag last : ℕ) (q : Place)
     (names : Names nums at tag last q) (is : getD nums at 0 ≡ tag) where
   pub record Asked : Type 0 where
     pub ty : Ty
     pub scopeOf : Scope
     pub state : State
-    pub scene : Scene nums directory ends scope offsets slots frame scopeOf state
+    pub scene : Scene nums directory ends scope slots frame scopeOf state
     pub declares : declared scopeOf q ≡ some ty
     pub few : length nums ≤ mostBytes
     pub behind : last < length nums
 
-  pub asked : AsksPlace nums directory ends scope offsets slots frame at → Asked
+  pub asked : AsksPlace nums directory ends scope slots frame at → Asked
   asked asks =
       let n : Named nums last (asks .place) q = names (asks .place) (asks .names) is in
       record {
@@ -110,10 +110,10 @@ module _ (nums directory ends scope offsets slots frame : List ℕ) (at tag last
       }
 
   pub spot-reads : (held : List ℕ) (ty slot : ℕ)
-      → ((Γ : Scope) (s : State) (t : Ty) → Scene nums directory ends scope offsets slots frame Γ s
+      → ((Γ : Scope) (s : State) (t : Ty) → Scene nums directory ends scope slots frame Γ s
       → declared Γ q ≡ some t
       → Spot held q s t ty slot)
-      → ReadsPlace nums directory ends scope offsets slots frame at (record { ty = ty; number = getD held slot 0 })
+      → ReadsPlace nums directory ends scope slots frame at (record { ty = ty; number = getD held slot 0 })
   spot-reads held ty slot spot = record {
     reads = λ Γ s p t h k d.
         let n : Named nums last p q = names p k is in

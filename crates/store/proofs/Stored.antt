@@ -14,6 +14,7 @@ use Rattle.rules.specs.Lists.{Cell, variableCell, headerCell, slotsOfCell}
 use Rattle.rules.specs.Running.{State, declared, variableIn, fieldIn, held}
 use Rattle.rules.proofs.Predicates.{SomeOf, isSome, from-some}
 use Rattle.rules.proofs.Fits.{CellFits, variableFits, validFits, invalidFits, store-look, all2-length}
+use Rattle.shape.specs.Directory.{offsetsSlot}
 use Rattle.program.specs.Codes.{tyOf}
 use Rattle.program.specs.Stands.{HoldsWithin}
 use Rattle.program.specs.Looks.{Has, Finds, globalsOf, FoundGlobal}
@@ -29,13 +30,13 @@ use Rattle.store.proofs.Cells.{startOf, cell-size, start-next, offset-i
 use Rattle.store.proofs.Shapes.{global-variable}
 
 -- the cell of a global
-pub record CellOf (offsets : List ℕ) (cells : List Cell) (g : ℕ) (shape : Shape) : Type 0 where
+pub record CellOf (directory : List ℕ) (cells : List Cell) (g : ℕ) (shape : Shape) : Type 0 where
   pub few : g < mostGlobals
   pub cell : Cell
   pub found : getElem? cells g ≡ some cell
   pub fits : CellFits shape cell
-  pub start : getD offsets g 0 ≡ startOf cells g
-  pub next : getD offsets (g + 1) 0 ≡ startOf cells g + length (slotsOfCell cell)
+  pub start : getD directory (offsetsSlot + g) 0 ≡ startOf cells g
+  pub next : getD directory (offsetsSlot + g + 1) 0 ≡ startOf cells g + length (slotsOfCell cell)
 
 record Fitting (cells : List Cell) (g : ℕ) (shape : Shape) : Type 0 where
   cell : Cell
@@ -47,17 +48,18 @@ fitting : {shape : Shape} {o : Option Cell} (cells : List Cell) (g : ℕ) → ge
     → Fitting cells g shape
 fitting cells g e (isSome {a = c} h) = record { cell = c; found = e; fits = h }
 
-pub cell-of : (nums directory ends scope offsets slots frame : List ℕ) (Γ : Scope) (s : State)
-    → Scene nums directory ends scope offsets slots frame Γ s → (g : ℕ) (shape : Shape)
-    → globalAt (Γ .program) g ≡ some shape → CellOf offsets (s .store) g shape
+pub cell-of : (nums directory ends scope slots frame : List ℕ) (Γ : Scope) (s : State)
+    → Scene nums directory ends scope slots frame Γ s → (g : ℕ) (shape : Shape)
+    → globalAt (Γ .program) g ≡ some shape → CellOf directory (s .store) g shape
 unfolding globalAt
-cell-of nums directory ends scope offsets slots frame Γ s h g shape e =
+cell-of nums directory ends scope slots frame Γ s h g shape e =
     let b = behind (getElem? (Γ .program .globals) g) (λ x. shapeIn (Γ .program) (x .ty)) shape e in
     let i : g < length (Γ .program .globals) = member-in (Γ .program .globals) g (b .found) (b .is) in
     let look = store-look (h .fits .store-fits) g in
     let c : Fitting (s .store) g shape = fitting (s .store) g refl (from-some (rw e at look)) in
     let first = h .offset .is g (omega arith) ∙ offset-is (h .fits .store-fits) 0 g (omega arith) in
-    let last = h .offset .is (g + 1) (omega arith) ∙ offset-is (h .fits .store-fits) 0 (g + 1) (omega arith) in
+    let behind : offsetsSlot + (g + 1) ≡ offsetsSlot + g + 1 = omega arith in
+    let last = rw behind at (h .offset .is (g + 1) (omega arith)) ∙ offset-is (h .fits .store-fits) 0 (g + 1) (omega arith) in
     record {
       few = omega (arith, h .scopes .program .globals .few);
       cell = c .cell;
@@ -95,7 +97,7 @@ pub record StoreRoom (nums : List ℕ) (last g slot : ℕ) : Type 0 where
   pub global : g < mostGlobals
   pub inside : slot < storeSlots
 
-module _ (nums directory ends offsets slots : List ℕ) (at : ℕ) where
+module _ (nums directory ends slots : List ℕ) (at : ℕ) where
   abbrev g : ℕ
   g = firstNumber nums at
 
@@ -103,27 +105,27 @@ module _ (nums directory ends offsets slots : List ℕ) (at : ℕ) where
   f = secondNumber nums at
 
   abbrev fieldSlot : ℕ
-  fieldSlot = getD offsets g 0 + 1 + f
+  fieldSlot = getD directory (offsetsSlot + g) 0 + 1 + f
 
   -- in whatever state stands there
   module _ (scope frame : List ℕ) (Γ : Scope) (s : State) (t : Ty)
-      (h : Scene nums directory ends scope offsets slots frame Γ s) where
-    abbrev cellOf : (shape : Shape) → globalAt (Γ .program) g ≡ some shape → CellOf offsets (s .store) g shape
-    cellOf = cell-of nums directory ends scope offsets slots frame Γ s h g
+      (h : Scene nums directory ends scope slots frame Γ s) where
+    abbrev cellOf : (shape : Shape) → globalAt (Γ .program) g ≡ some shape → CellOf directory (s .store) g shape
+    cellOf = cell-of nums directory ends scope slots frame Γ s h g
 
-    variable-inside : declared Γ (global g) ≡ some t → getD offsets g 0 < storeSlots
+    variable-inside : declared Γ (global g) ≡ some t → getD directory (offsetsSlot + g) 0 < storeSlots
     variable-inside d =
         let c = cellOf (aVariable t) (declared-variable Γ g t d) in
         omega (arith, c .start, cell-inside slots (s .store) g (c .cell) (c .found) (h .store), cell-some (c .cell))
 
     variable-spot : (n : ℕ) → Finds globalsOf (FoundGlobal n) nums directory ends g → declared Γ (global g) ≡ some t
-        → Spot slots (global g) s t n (getD offsets g 0)
+        → Spot slots (global g) s t n (getD directory (offsetsSlot + g) 0)
     unfolding held andLook
     variable-spot n k d =
         let e = declared-variable Γ g t d in
         let c = cellOf (aVariable t) e in
         let v = global-variable nums directory ends g (Γ .program) (h .scopes .end) (h .scopes .program) t n e k in
-        let first : getD offsets g 0 ≡ startOf (s .store) g + 0 = omega (arith, c .start) in
+        let first : getD directory (offsetsSlot + g) 0 ≡ startOf (s .store) g + 0 = omega (arith, c .start) in
         record {
           most = v .most;
           typed = v .is;
@@ -175,15 +177,15 @@ module _ (nums directory ends offsets slots : List ℕ) (at : ℕ) where
               (field-in f (c .fits) i);
         }
 
-  module _ (asks : AsksStored variableTag nums directory ends offsets slots at) where
-    abbrev askedVariable : Asked nums directory ends (asks .scope) offsets slots (asks .frame) at variableTag
+  module _ (asks : AsksStored variableTag nums directory ends slots at) where
+    abbrev askedVariable : Asked nums directory ends (asks .scope) slots (asks .frame) at variableTag
         (at + 1) (global g)
         (named-global nums at) (asks .is)
-    askedVariable = asked nums directory ends (asks .scope) offsets slots (asks .frame) at variableTag (at + 1)
+    askedVariable = asked nums directory ends (asks .scope) slots (asks .frame) at variableTag (at + 1)
         (global g)
         (named-global nums at) (asks .is) (asks .asks)
 
-    pub variable-room : StoreRoom nums (at + 1) g (getD offsets g 0)
+    pub variable-room : StoreRoom nums (at + 1) g (getD directory (offsetsSlot + g) 0)
     variable-room =
         let a = askedVariable in
         let e = declared-variable (a .scopeOf) g (a .ty) (a .declares) in
@@ -210,19 +212,19 @@ module _ (nums directory ends offsets slots : List ℕ) (at : ℕ) where
         }
 
     pub variable-reads : (n : ℕ) → Finds globalsOf (FoundGlobal n) nums directory ends g
-        → ReadsStored nums directory ends offsets slots at (record { ty = n; number = getD slots (getD offsets g 0) 0 })
+        → ReadsStored nums directory ends slots at (record { ty = n; number = getD slots (getD directory (offsetsSlot + g) 0) 0 })
     variable-reads n k = record {
-      stored = λ scope frame. spot-reads nums directory ends scope offsets slots frame at variableTag (at + 1)
+      stored = λ scope frame. spot-reads nums directory ends scope slots frame at variableTag (at + 1)
           (global g)
-          (named-global nums at) (asks .is) slots n (getD offsets g 0)
+          (named-global nums at) (asks .is) slots n (getD directory (offsetsSlot + g) 0)
           (λ Γ s t h d. variable-spot scope frame Γ s t h n k d);
     }
 
-  module _ (asks : AsksStored fieldTag nums directory ends offsets slots at) where
-    abbrev askedField : Asked nums directory ends (asks .scope) offsets slots (asks .frame) at fieldTag (at + 2)
+  module _ (asks : AsksStored fieldTag nums directory ends slots at) where
+    abbrev askedField : Asked nums directory ends (asks .scope) slots (asks .frame) at fieldTag (at + 2)
         (field g f)
         (named-field nums at) (asks .is)
-    askedField = asked nums directory ends (asks .scope) offsets slots (asks .frame) at fieldTag (at + 2) (field g f)
+    askedField = asked nums directory ends (asks .scope) slots (asks .frame) at fieldTag (at + 2) (field g f)
         (named-field nums at) (asks .is) (asks .asks)
 
     pub field-room : StoreRoom nums (at + 2) g fieldSlot
@@ -255,10 +257,10 @@ module _ (nums directory ends offsets slots : List ℕ) (at : ℕ) where
         field-width (asks .scope) (asks .frame) (a .scopeOf) (a .state) (a .ty) (a .scene) r q (a .declares)
         .holds .inside
 
-    pub field-reads : (r : ℕ) → FindsHeaderTy nums directory ends g r → ReadsStored nums directory ends offsets slots at
+    pub field-reads : (r : ℕ) → FindsHeaderTy nums directory ends g r → ReadsStored nums directory ends slots at
         (record { ty = getD nums (r + 1 + f) 0; number = getD slots fieldSlot 0 })
     field-reads r q = record {
-      stored = λ scope frame. spot-reads nums directory ends scope offsets slots frame at fieldTag (at + 2) (field g f)
+      stored = λ scope frame. spot-reads nums directory ends scope slots frame at fieldTag (at + 2) (field g f)
           (named-field nums at) (asks .is) slots (getD nums (r + 1 + f) 0) fieldSlot
           (λ Γ s t h d. field-spot scope frame Γ s t h r q d);
     }

@@ -11,6 +11,7 @@ use Rattle.rules.specs.Form.{andLook, Shape, aVariable, aHeader, globalAt, Scop
 use Rattle.rules.specs.Lists.{Cell, variableCell, headerCell, markOf, slotsOfCell}
 use Rattle.rules.specs.Running.{State, change, declared, setVariable, setField, withLocals, withParameters, put}
 use Rattle.rules.proofs.Fits.{Fit, CellFits, variableFits, validFits, invalidFits, all2-length}
+use Rattle.shape.specs.Directory.{offsetsSlot}
 use Rattle.program.proofs.Found.{member-in}
 use Rattle.store.specs.Mirrors.{Scene}
 use Rattle.store.specs.Places.{fieldTag, localTag, parameterTag, variableTag, AsksFramed}
@@ -31,8 +32,8 @@ module _ (nums scope frame : List ℕ) (at number : ℕ) where
   abbrev i : ℕ
   i = firstNumber nums at
 
-  module _ (directory ends offsets slots : List ℕ) (Γ : Scope) (s : State) (t : Ty)
-      (h : Scene nums directory ends scope offsets slots frame Γ s) where
+  module _ (directory ends slots : List ℕ) (Γ : Scope) (s : State) (t : Ty)
+      (h : Scene nums directory ends scope slots frame Γ s) where
     abbrev ps : List ℕ
     ps = s .parameters
 
@@ -40,7 +41,7 @@ module _ (nums scope frame : List ℕ) (at number : ℕ) where
     ls = s .locals
 
     local-becomes : declared Γ (local i) ≡ some t → Fit t number
-        → Becomes nums directory ends scope offsets slots slots frame (set frame (getD scope 2 0 + i) number) Γ s
+        → Becomes nums directory ends scope slots slots frame (set frame (getD scope 2 0 + i) number) Γ s
         (put (local i) number s)
     unfolding declared put withLocals andLook
     local-becomes d fit =
@@ -69,7 +70,7 @@ module _ (nums scope frame : List ℕ) (at number : ℕ) where
         })
 
     parameter-becomes : declared Γ (parameter i) ≡ some t → Fit t number
-        → Becomes nums directory ends scope offsets slots slots frame (set frame i number) Γ s
+        → Becomes nums directory ends scope slots slots frame (set frame i number) Γ s
         (put (parameter i) number s)
     unfolding declared put withParameters andLook
     parameter-becomes d fit =
@@ -104,17 +105,17 @@ module _ (nums scope frame : List ℕ) (at number : ℕ) where
   pub local-writes : AsksFramed localTag nums scope frame at
       → WritesFramed nums scope frame (set frame (getD scope 2 0 + i) number) at number
   local-writes asks = record {
-    framed = λ directory ends offsets slots. spot-writes nums directory ends scope offsets slots slots frame
+    framed = λ directory ends slots. spot-writes nums directory ends scope slots slots frame
         (set frame (getD scope 2 0 + i) number) at number localTag (at + 1) (local i) (named-local nums at) (asks .is)
-        (local-becomes directory ends offsets slots);
+        (local-becomes directory ends slots);
   }
 
   pub parameter-writes : AsksFramed parameterTag nums scope frame at
       → WritesFramed nums scope frame (set frame i number) at number
   parameter-writes asks = record {
-    framed = λ directory ends offsets slots. spot-writes nums directory ends scope offsets slots slots frame
+    framed = λ directory ends slots. spot-writes nums directory ends scope slots slots frame
         (set frame i number) at number parameterTag (at + 1) (parameter i) (named-parameter nums at) (asks .is)
-        (parameter-becomes directory ends offsets slots);
+        (parameter-becomes directory ends slots);
   }
 
 -- a cell whose variable or field is set, and one whose field is not, since it is invalid
@@ -144,20 +145,20 @@ field-kept f n (validFits h) x = absurd (x refl)
 field-kept f n (invalidFits h) x = refl
 
 -- the store
-module _ (nums offsets slots : List ℕ) (at number : ℕ) where
+module _ (nums directory slots : List ℕ) (at number : ℕ) where
   abbrev g : ℕ
   g = firstNumber nums at
 
   abbrev f : ℕ
   f = secondNumber nums at
 
-  module _ (directory ends scope frame : List ℕ) (Γ : Scope) (s : State) (t : Ty)
-      (h : Scene nums directory ends scope offsets slots frame Γ s) where
-    abbrev cellOf : (shape : Shape) → globalAt (Γ .program) g ≡ some shape → CellOf offsets (s .store) g shape
-    cellOf = cell-of nums directory ends scope offsets slots frame Γ s h g
+  module _ (ends scope frame : List ℕ) (Γ : Scope) (s : State) (t : Ty)
+      (h : Scene nums directory ends scope slots frame Γ s) where
+    abbrev cellOf : (shape : Shape) → globalAt (Γ .program) g ≡ some shape → CellOf directory (s .store) g shape
+    cellOf = cell-of nums directory ends scope slots frame Γ s h g
 
     -- a number of a cell is set
-    made-set : (change : Cell → Option Cell) (shape : Shape) (c : CellOf offsets (s .store) g shape) (j slot : ℕ)
+    made-set : (change : Cell → Option Cell) (shape : Shape) (c : CellOf directory (s .store) g shape) (j slot : ℕ)
         → slot ≡ startOf (s .store) g + j → j < length (slotsOfCell (c .cell)) → Set change (c .cell) j number
         → Made change slots (set slots slot number) (startOf (s .store) g) (c .cell)
     made-set change shape c j slot e l v = record {
@@ -170,48 +171,48 @@ module _ (nums offsets slots : List ℕ) (at number : ℕ) where
     }
 
     variable-becomes : declared Γ (global g) ≡ some t → Fit t number
-        → Becomes nums directory ends scope offsets slots (set slots (getD offsets g 0) number) frame frame Γ s
+        → Becomes nums directory ends scope slots (set slots (getD directory (offsetsSlot + g) 0) number) frame frame Γ s
         (put (global g) number s)
     unfolding put
     variable-becomes d fit =
         let c = cellOf (aVariable t) (declared-variable Γ g t d) in
-        store-becomes nums directory ends scope offsets slots frame Γ s h g (aVariable t) c (setVariable number)
-        (set slots (getD offsets g 0) number)
-        (made-set (setVariable number) (aVariable t) c 0 (getD offsets g 0) (omega (arith, c .start))
+        store-becomes nums directory ends scope slots frame Γ s h g (aVariable t) c (setVariable number)
+        (set slots (getD directory (offsetsSlot + g) 0) number)
+        (made-set (setVariable number) (aVariable t) c 0 (getD directory (offsetsSlot + g) 0) (omega (arith, c .start))
         (cell-some (c .cell))
         (variable-set number (c .fits)))
         (put-fits Γ (global g) s t number (h .fits) d fit)
 
     -- a header's mark
-    mark-slot : (shape : Shape) (c : CellOf offsets (s .store) g shape)
-        → getD (slotsOfCell (c .cell)) 0 0 ≡ getD slots (getD offsets g 0) 0
+    mark-slot : (shape : Shape) (c : CellOf directory (s .store) g shape)
+        → getD (slotsOfCell (c .cell)) 0 0 ≡ getD slots (getD directory (offsetsSlot + g) 0) 0
     mark-slot shape c =
-        let first : getD offsets g 0 ≡ startOf (s .store) g + 0 = omega (arith, c .start) in
+        let first : getD directory (offsetsSlot + g) 0 ≡ startOf (s .store) g + 0 = omega (arith, c .start) in
         sym (rw first (cell-reads slots (s .store) g (c .cell) (c .found) (h .store) 0 (cell-some (c .cell))))
 
-    field-becomes : getD slots (getD offsets g 0) 0 ≡ 1 → declared Γ (field g f) ≡ some t → Fit t number
-        → Becomes nums directory ends scope offsets slots (set slots (getD offsets g 0 + 1 + f) number) frame frame Γ s
+    field-becomes : getD slots (getD directory (offsetsSlot + g) 0) 0 ≡ 1 → declared Γ (field g f) ≡ some t → Fit t number
+        → Becomes nums directory ends scope slots (set slots (getD directory (offsetsSlot + g) 0 + 1 + f) number) frame frame Γ s
         (put (field g f) number s)
     unfolding put
     field-becomes valid d fit =
         let k = declared-field Γ g f t d in
         let c = cellOf (aHeader (k .widths)) (k .is) in
         let i : f < length (k .widths) = member-in (k .widths) f (k .width) (k .found) in
-        store-becomes nums directory ends scope offsets slots frame Γ s h g (aHeader (k .widths)) c (setField f number)
-        (set slots (getD offsets g 0 + 1 + f) number)
-        (made-set (setField f number) (aHeader (k .widths)) c (suc f) (getD offsets g 0 + 1 + f)
+        store-becomes nums directory ends scope slots frame Γ s h g (aHeader (k .widths)) c (setField f number)
+        (set slots (getD directory (offsetsSlot + g) 0 + 1 + f) number)
+        (made-set (setField f number) (aHeader (k .widths)) c (suc f) (getD directory (offsetsSlot + g) 0 + 1 + f)
         (omega (arith, c .start))
         (omega (arith, fields-in (c .fits)))
         (field-set f number (c .fits) i (mark-slot (aHeader (k .widths)) c ∙ valid)))
         (put-fits Γ (field g f) s t number (h .fits) d fit)
 
-    field-stays : (getD slots (getD offsets g 0) 0 ≡ 1 → ⊥) → declared Γ (field g f) ≡ some t → Fit t number
-        → Becomes nums directory ends scope offsets slots slots frame frame Γ s (put (field g f) number s)
+    field-stays : (getD slots (getD directory (offsetsSlot + g) 0) 0 ≡ 1 → ⊥) → declared Γ (field g f) ≡ some t → Fit t number
+        → Becomes nums directory ends scope slots slots frame frame Γ s (put (field g f) number s)
     unfolding put
     field-stays invalid d fit =
         let k = declared-field Γ g f t d in
         let c = cellOf (aHeader (k .widths)) (k .is) in
-        store-becomes nums directory ends scope offsets slots frame Γ s h g (aHeader (k .widths)) c
+        store-becomes nums directory ends scope slots frame Γ s h g (aHeader (k .widths)) c
         (setField f number) slots
         (record {
           cell = c .cell;
@@ -226,31 +227,31 @@ module _ (nums offsets slots : List ℕ) (at number : ℕ) where
         })
         (put-fits Γ (field g f) s t number (h .fits) d fit)
 
-  pub variable-writes : AsksCell variableTag nums offsets slots at
-      → WritesCell nums offsets slots (set slots (getD offsets g 0) number) at number
+  pub variable-writes : AsksCell variableTag nums directory slots at
+      → WritesCell nums directory slots (set slots (getD directory (offsetsSlot + g) 0) number) at number
   variable-writes asks = record {
-    stored = λ directory ends scope frame. spot-writes nums directory ends scope offsets slots
-        (set slots (getD offsets g 0) number) frame frame at number variableTag (at + 1) (global g)
+    stored = λ ends scope frame. spot-writes nums directory ends scope slots
+        (set slots (getD directory (offsetsSlot + g) 0) number) frame frame at number variableTag (at + 1) (global g)
         (named-global nums at)
-        (asks .asks .is) (variable-becomes directory ends scope frame);
+        (asks .asks .is) (variable-becomes ends scope frame);
   }
 
-  module _ (asks : AsksCell fieldTag nums offsets slots at) where
-    pub field-writes : getD slots (getD offsets g 0) 0 ≡ 1
-        → WritesCell nums offsets slots (set slots (getD offsets g 0 + 1 + f) number) at number
+  module _ (asks : AsksCell fieldTag nums directory slots at) where
+    pub field-writes : getD slots (getD directory (offsetsSlot + g) 0) 0 ≡ 1
+        → WritesCell nums directory slots (set slots (getD directory (offsetsSlot + g) 0 + 1 + f) number) at number
     field-writes valid = record {
-      stored = λ directory ends scope frame. spot-writes nums directory ends scope offsets slots
-          (set slots (getD offsets g 0 + 1 + f) number) frame frame at number fieldTag (at + 2) (field g f)
+      stored = λ ends scope frame. spot-writes nums directory ends scope slots
+          (set slots (getD directory (offsetsSlot + g) 0 + 1 + f) number) frame frame at number fieldTag (at + 2) (field g f)
           (named-field nums at)
-          (asks .asks .is) (λ Γ s t h. field-becomes directory ends scope frame Γ s t h valid);
+          (asks .asks .is) (λ Γ s t h. field-becomes ends scope frame Γ s t h valid);
     }
 
-    pub field-unwritten : (getD slots (getD offsets g 0) 0 ≡ 1 → ⊥) → WritesCell nums offsets slots slots at number
+    pub field-unwritten : (getD slots (getD directory (offsetsSlot + g) 0) 0 ≡ 1 → ⊥) → WritesCell nums directory slots slots at number
     field-unwritten invalid = record {
-      stored = λ directory ends scope frame. spot-writes nums directory ends scope offsets slots slots frame frame at
+      stored = λ ends scope frame. spot-writes nums directory ends scope slots slots frame frame at
           number
           fieldTag (at + 2) (field g f) (named-field nums at) (asks .asks .is)
-          (λ Γ s t h. field-stays directory ends scope frame Γ s t h invalid);
+          (λ Γ s t h. field-stays ends scope frame Γ s t h invalid);
     }
 
 pub ruleset writings = (local-writes, parameter-writes, variable-writes, field-writes, field-unwritten)

@@ -10,6 +10,7 @@ use Rattle.rules.specs.Form.{Scope}
 use Rattle.rules.specs.Lists.{Cell, slotsOf}
 use Rattle.rules.specs.Running.{State}
 use Rattle.rules.proofs.Fits.{StateFits}
+use Rattle.shape.specs.Directory.{offsetsSlot}
 use Rattle.program.specs.Scopes.{StandsScope}
 use Rattle.lists.specs.Listing.{offsetsFrom}
 
@@ -34,14 +35,14 @@ pub record MirrorsFrame (frame ps ls : List ℕ) : Type 0 where
   pub parameter : (i : ℕ) → i < length ps → getD frame i 0 ≡ getD ps i 0
   pub local : (i : ℕ) → i < length ls → getD frame (length ps + i) 0 ≡ getD ls i 0
 
--- how many numbers of the store stand before each global, and in all
-pub record OffsetsOf (P : Program) (offsets : List ℕ) : Type 0 where
-  pub is : (g : ℕ) → g ≤ length (P .globals) → getD offsets g 0 ≡ getD (offsetsFrom P 0 (P .globals)) g 0
+-- how many numbers of the store stand before each global, and in all: in slots one after the other
+pub record OffsetsOf (P : Program) (slots : List ℕ) (first : ℕ) : Type 0 where
+  pub is : (g : ℕ) → g ≤ length (P .globals) → getD slots (first + g) 0 ≡ getD (offsetsFrom P 0 (P .globals)) g 0
 
 -- a body's scope and a state that fits it
-pub record Scene (nums directory ends scope offsets slots frame : List ℕ) (Γ : Scope) (s : State) : Type 0 where
+pub record Scene (nums directory ends scope slots frame : List ℕ) (Γ : Scope) (s : State) : Type 0 where
   pub scopes : StandsScope nums directory ends scope Γ
-  pub offset : OffsetsOf (Γ .program) offsets
+  pub offset : OffsetsOf (Γ .program) directory offsetsSlot
   pub fits : StateFits Γ s
   pub store : MirrorsStore slots (s .store)
   pub frames : MirrorsFrame frame (s .parameters) (s .locals)

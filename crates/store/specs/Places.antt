@@ -21,12 +21,12 @@ pub record NamesPlace (nums : List ℕ) (at : ℕ) (p : Place) : Type 0 where
   pub stands : StandsPlace nums at p
 
 -- one that is declared
-pub record AsksPlace (nums directory ends scope offsets slots frame : List ℕ) (at : ℕ) : Type 0 where
+pub record AsksPlace (nums directory ends scope slots frame : List ℕ) (at : ℕ) : Type 0 where
   pub scopeOf : Scope
   pub state : State
   pub place : Place
   pub ty : Ty
-  pub scene : Scene nums directory ends scope offsets slots frame scopeOf state
+  pub scene : Scene nums directory ends scope slots frame scopeOf state
   pub names : NamesPlace nums at place
   pub declares : declared scopeOf place ≡ some ty
 
@@ -37,8 +37,8 @@ pub record HeldAs (Γ : Scope) (p : Place) (s : State) (ty number : ℕ) : Type 
   pub most : ty ≤ widest
   pub fit : Fit (tyOf ty) number
 
-pub record ReadsPlace (nums directory ends scope offsets slots frame : List ℕ) (at : ℕ) (r : Value) : Type 0 where
-  pub reads : (Γ : Scope) (s : State) (p : Place) (t : Ty) → Scene nums directory ends scope offsets slots frame Γ s
+pub record ReadsPlace (nums directory ends scope slots frame : List ℕ) (at : ℕ) (r : Value) : Type 0 where
+  pub reads : (Γ : Scope) (s : State) (p : Place) (t : Ty) → Scene nums directory ends scope slots frame Γ s
       → NamesPlace nums at p → declared Γ p ≡ some t → HeldAs Γ p s (r .ty) (r .number)
 
 -- the tags of places, as they are written
@@ -58,22 +58,21 @@ fieldTag = 5
 pub record AsksFramed (tag : ℕ) (nums scope frame : List ℕ) (at : ℕ) : Type 0 where
   pub directory : List ℕ
   pub ends : List ℕ
-  pub offsets : List ℕ
   pub slots : List ℕ
-  pub asks : AsksPlace nums directory ends scope offsets slots frame at
+  pub asks : AsksPlace nums directory ends scope slots frame at
   pub is : getD nums at 0 ≡ tag
 
 pub record ReadsFramed (nums scope frame : List ℕ) (at : ℕ) (r : Value) : Type 0 where
-  pub framed : (directory ends offsets slots : List ℕ) → ReadsPlace nums directory ends scope offsets slots frame at r
+  pub framed : (directory ends slots : List ℕ) → ReadsPlace nums directory ends scope slots frame at r
 
-pub record AsksStored (tag : ℕ) (nums directory ends offsets slots : List ℕ) (at : ℕ) : Type 0 where
+pub record AsksStored (tag : ℕ) (nums directory ends slots : List ℕ) (at : ℕ) : Type 0 where
   pub scope : List ℕ
   pub frame : List ℕ
-  pub asks : AsksPlace nums directory ends scope offsets slots frame at
+  pub asks : AsksPlace nums directory ends scope slots frame at
   pub is : getD nums at 0 ≡ tag
 
-pub record ReadsStored (nums directory ends offsets slots : List ℕ) (at : ℕ) (r : Value) : Type 0 where
-  pub stored : (scope frame : List ℕ) → ReadsPlace nums directory ends scope offsets slots frame at r
+pub record ReadsStored (nums directory ends slots : List ℕ) (at : ℕ) (r : Value) : Type 0 where
+  pub stored : (scope frame : List ℕ) → ReadsPlace nums directory ends scope slots frame at r
 
 -- where the type of a global that is a header stands: the widths of its fields behind it
 pub record AsksHeaderTy (nums directory ends : List ℕ) (g : ℕ) : Type 0 where

@@ -28,8 +28,8 @@ copy-requires c κs = search (lents, needs)
 clear-requires : tie.Need-clear-requires
 clear-requires c κs = search (lents, needs)
 
-array-read-t29 : tie.Need-array-read-t29
-array-read-t29 c = search (lents, needs)
+array-read-t26 : tie.Need-array-read-t26
+array-read-t26 c = search (lents, needs)
 
 same-length : tie.Need-same-length
 same-length c = search (lents, needs)
@@ -52,7 +52,7 @@ run-lent-spec =
     slice-aggregate-copy
     copy-requires
     clear-requires
-    array-read-t29
+    array-read-t26
     same-length
     same-length-2
     returns)

@@ -16,6 +16,9 @@ shared-slice-read-longest-wins c = search (whole, needs)
 longest-wins-requires : tie.Need-longest-wins-requires
 longest-wins-requires c κs = search (whole, needs)
 
+add-look-from : tie.Need-add-look-from
+add-look-from c = search (whole, needs)
+
 element-copy-out-look-from : tie.Need-element-copy-out-look-from
 element-copy-out-look-from c = search (whole, needs)
 
@@ -42,6 +45,7 @@ look-up-spec =
     mul-longest-wins
     shared-slice-read-longest-wins
     longest-wins-requires
+    add-look-from
     element-copy-out-look-from
     look-from-requires
     enum-known-best

@@ -12,15 +12,15 @@ use Rattle.lookup.proofs.looking.step.Reads as step-reads
 use Rattle.lookup.proofs.looking.+look_from.{statement}
 use Rattle.lookup.proofs.looking.+look_from.Tie.{close}
 
-abbrev μ-look-from : Measures 5 look-from-kinds.ps ℕ
-μ-look-from κs a = a .1 .1 .1 .1 .1 .1 .1 .1 .1 .0
+abbrev μ-look-from : Measures 4 look-from-kinds.ps ℕ
+μ-look-from κs a = a .1 .1 .1 .1 .1 .1 .1 .1 .0
 
-abbrev look-from-at : ℕ → In 5 look-from-kinds.ps
-look-from-at t = and 5 look-from-kinds.ps (is 5 look-from-kinds.ps μ-look-from t) look-from.Pre
+abbrev look-from-at : ℕ → In 4 look-from-kinds.ps
+look-from-at t = and 4 look-from-kinds.ps (is 4 look-from-kinds.ps μ-look-from t) look-from.Pre
 
-abbrev look-from-below : ℕ → In 5 look-from-kinds.ps
+abbrev look-from-below : ℕ → In 4 look-from-kinds.ps
 look-from-below t =
-    and 5 look-from-kinds.ps (falls 5 look-from-kinds.ps _<_ μ-look-from t) look-from.Pre
+    and 4 look-from-kinds.ps (falls 4 look-from-kinds.ps _<_ μ-look-from t) look-from.Pre
 
 module _ (t : ℕ) where
   abbrev look-from-claims : look-from-lts.Claims

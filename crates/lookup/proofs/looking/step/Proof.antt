@@ -13,6 +13,9 @@ shared-slice-read-if1 c = search (steps, needs)
 mul-slot : tie.Need-mul-slot
 mul-slot c = search (steps, needs)
 
+add-slot : tie.Need-add-slot
+add-slot c = search (steps, needs)
+
 add-match-from : tie.Need-add-match-from
 add-match-from c = search (steps, needs)
 
@@ -53,6 +56,7 @@ step-spec =
     mul-if1
     shared-slice-read-if1
     mul-slot
+    add-slot
     add-match-from
     mul-match-from
     shared-slice-read-match-from

@@ -14,7 +14,7 @@ use Rattle.runner.proofs.Stmts.{stmtRuns, taggedRuns, assignRuns, ifRun
 use Rattle.runner.proofs.Blocks.{Blocking, blockRuns, memberRuns, member-inside}
 use Rattle.runner.proofs.Applying.{applyRuns}
 use Rattle.runner.proofs.Keying.{keysRuns, keys-fall, keys-rest, keys-runs}
-use Rattle.runner.proofs.Actions.{actionRuns}
+use Rattle.runner.proofs.Actions.{actionRuns, action-body, action-falls}
 use Rattle.runner.proofs.Tabling.{tableRuns, action-fall, default-action, default-runs, entry-action, entry-inside, entry-low, table-look}
 use Prim.Native.Nat.{ℕ, _<_}
 use borrow.Fn.Kinds.{In}
@@ -101,205 +101,205 @@ use Rattle.runner.proofs.running.+run_action+run_apply+run_arg+run_args
   close,
 }
 
-abbrev μ-run-action : Measures 9 run-action-kinds.ps ℕ
-μ-run-action κs a = rank (getD (a .1 .1 .1 .0 .now) 0 0) 1450
+abbrev μ-run-action : Measures 5 run-action-kinds.ps ℕ
+μ-run-action κs a = rank (getD (a .1 .1 .0 .now) 42 0) 1450
 
-abbrev μ-run-apply : Measures 9 run-apply-kinds.ps ℕ
-μ-run-apply κs a = rank (getD (a .1 .1 .1 .0 .now) 0 0) (2000 + 32 * a .1 .1 .1 .1 .1 .1 .1 .0 + 19)
+abbrev μ-run-apply : Measures 6 run-apply-kinds.ps ℕ
+μ-run-apply κs a = rank (getD (a .1 .1 .1 .0 .now) 0 0) (2000 + 32 * a .1 .1 .1 .1 .0 + 19)
 
-abbrev μ-run-arg : Measures 9 run-arg-kinds.ps ℕ
-μ-run-arg κs a = rank (getD (a .1 .1 .1 .0 .now) 0 0) (32 * a .1 .1 .1 .1 .1 .1 .1 .0 + 21)
+abbrev μ-run-arg : Measures 6 run-arg-kinds.ps ℕ
+μ-run-arg κs a = rank (getD (a .1 .1 .1 .0 .now) 0 0) (32 * a .1 .1 .1 .1 .0 + 21)
 
-abbrev μ-run-args : Measures 9 run-args-kinds.ps ℕ
-μ-run-args κs a = rank (getD (a .1 .1 .1 .0 .now) 0 0) (32 * a .1 .1 .1 .1 .1 .1 .1 .0 + 22 + a .1 .1 .1 .1 .1 .1 .1 .1 .1 .1 .0)
+abbrev μ-run-args : Measures 6 run-args-kinds.ps ℕ
+μ-run-args κs a = rank (getD (a .1 .1 .1 .0 .now) 0 0) (32 * a .1 .1 .1 .1 .0 + 22 + a .1 .1 .1 .1 .1 .1 .1 .0)
 
-abbrev μ-run-assign : Measures 9 run-assign-kinds.ps ℕ
-μ-run-assign κs a = rank (getD (a .1 .1 .1 .0 .now) 0 0) (2000 + 32 * a .1 .1 .1 .1 .1 .1 .1 .0 + 19)
+abbrev μ-run-assign : Measures 6 run-assign-kinds.ps ℕ
+μ-run-assign κs a = rank (getD (a .1 .1 .1 .0 .now) 0 0) (2000 + 32 * a .1 .1 .1 .1 .0 + 19)
 
-abbrev μ-run-block : Measures 9 run-block-kinds.ps ℕ
-μ-run-block κs a = rank (getD (a .1 .1 .1 .0 .now) 0 0) (2000 + 32 * a .1 .1 .1 .1 .1 .1 .1 .0 + 19)
+abbrev μ-run-block : Measures 6 run-block-kinds.ps ℕ
+μ-run-block κs a = rank (getD (a .1 .1 .1 .0 .now) 0 0) (2000 + 32 * a .1 .1 .1 .1 .0 + 19)
 
-abbrev μ-run-body : Measures 8 run-body-kinds.ps ℕ
-μ-run-body κs a = rank (a .1 .1 .1 .1 .1 .1 .0) 4000
+abbrev μ-run-body : Measures 5 run-body-kinds.ps ℕ
+μ-run-body κs a = rank (a .1 .1 .1 .0) 4000
 
-abbrev μ-run-call : Measures 9 run-call-kinds.ps ℕ
-μ-run-call κs a = rank (getD (a .1 .1 .1 .0 .now) 0 0) (32 * a .1 .1 .1 .1 .1 .1 .1 .0 + 18)
+abbrev μ-run-call : Measures 6 run-call-kinds.ps ℕ
+μ-run-call κs a = rank (getD (a .1 .1 .1 .0 .now) 0 0) (32 * a .1 .1 .1 .1 .0 + 18)
 
-abbrev μ-run-call-stmt : Measures 9 run-call-stmt-kinds.ps ℕ
-μ-run-call-stmt κs a = rank (getD (a .1 .1 .1 .0 .now) 0 0) (2000 + 32 * a .1 .1 .1 .1 .1 .1 .1 .0 + 19)
+abbrev μ-run-call-stmt : Measures 6 run-call-stmt-kinds.ps ℕ
+μ-run-call-stmt κs a = rank (getD (a .1 .1 .1 .0 .now) 0 0) (2000 + 32 * a .1 .1 .1 .1 .0 + 19)
 
-abbrev μ-run-expr : Measures 9 run-expr-kinds.ps ℕ
-μ-run-expr κs a = rank (getD (a .1 .1 .1 .0 .now) 0 0) (32 * a .1 .1 .1 .1 .1 .1 .1 .0 + 20)
+abbrev μ-run-expr : Measures 6 run-expr-kinds.ps ℕ
+μ-run-expr κs a = rank (getD (a .1 .1 .1 .0 .now) 0 0) (32 * a .1 .1 .1 .1 .0 + 20)
 
-abbrev μ-run-if : Measures 9 run-if-kinds.ps ℕ
-μ-run-if κs a = rank (getD (a .1 .1 .1 .0 .now) 0 0) (2000 + 32 * a .1 .1 .1 .1 .1 .1 .1 .0 + 19)
+abbrev μ-run-if : Measures 6 run-if-kinds.ps ℕ
+μ-run-if κs a = rank (getD (a .1 .1 .1 .0 .now) 0 0) (2000 + 32 * a .1 .1 .1 .1 .0 + 19)
 
-abbrev μ-run-keys : Measures 10 run-keys-kinds.ps ℕ
-μ-run-keys κs a = rank (getD (a .1 .1 .1 .0 .now) 0 0) (1400 + a .1 .1 .1 .1 .1 .1 .1 .1 .1 .0)
+abbrev μ-run-keys : Measures 7 run-keys-kinds.ps ℕ
+μ-run-keys κs a = rank (getD (a .1 .1 .1 .0 .now) 0 0) (1400 + a .1 .1 .1 .1 .1 .1 .0)
 
-abbrev μ-run-one : Measures 9 run-one-kinds.ps ℕ
-μ-run-one κs a = rank (getD (a .1 .1 .1 .0 .now) 0 0) (32 * a .1 .1 .1 .1 .1 .1 .1 .0 + 19)
+abbrev μ-run-one : Measures 6 run-one-kinds.ps ℕ
+μ-run-one κs a = rank (getD (a .1 .1 .1 .0 .now) 0 0) (32 * a .1 .1 .1 .1 .0 + 19)
 
-abbrev μ-run-return : Measures 9 run-return-kinds.ps ℕ
-μ-run-return κs a = rank (getD (a .1 .1 .1 .0 .now) 0 0) (2000 + 32 * a .1 .1 .1 .1 .1 .1 .1 .0 + 19)
+abbrev μ-run-return : Measures 6 run-return-kinds.ps ℕ
+μ-run-return κs a = rank (getD (a .1 .1 .1 .0 .now) 0 0) (2000 + 32 * a .1 .1 .1 .1 .0 + 19)
 
-abbrev μ-run-stmt : Measures 9 run-stmt-kinds.ps ℕ
-μ-run-stmt κs a = rank (getD (a .1 .1 .1 .0 .now) 0 0) (2000 + 32 * a .1 .1 .1 .1 .1 .1 .1 .0 + 20)
+abbrev μ-run-stmt : Measures 6 run-stmt-kinds.ps ℕ
+μ-run-stmt κs a = rank (getD (a .1 .1 .1 .0 .now) 0 0) (2000 + 32 * a .1 .1 .1 .1 .0 + 20)
 
-abbrev μ-run-stmts : Measures 9 run-stmts-kinds.ps ℕ
-μ-run-stmts κs a = rank (getD (a .1 .1 .1 .0 .now) 0 0) (2000 + 32 * a .1 .1 .1 .1 .1 .1 .1 .0 + 21)
+abbrev μ-run-stmts : Measures 6 run-stmts-kinds.ps ℕ
+μ-run-stmts κs a = rank (getD (a .1 .1 .1 .0 .now) 0 0) (2000 + 32 * a .1 .1 .1 .1 .0 + 21)
 
-abbrev μ-run-table : Measures 9 run-table-kinds.ps ℕ
+abbrev μ-run-table : Measures 6 run-table-kinds.ps ℕ
 μ-run-table κs a = rank (getD (a .1 .1 .1 .0 .now) 0 0) 1500
 
-abbrev μ-run-two : Measures 9 run-two-kinds.ps ℕ
-μ-run-two κs a = rank (getD (a .1 .1 .1 .0 .now) 0 0) (32 * a .1 .1 .1 .1 .1 .1 .1 .0 + 19)
+abbrev μ-run-two : Measures 6 run-two-kinds.ps ℕ
+μ-run-two κs a = rank (getD (a .1 .1 .1 .0 .now) 0 0) (32 * a .1 .1 .1 .1 .0 + 19)
 
-abbrev μ-run-value : Measures 9 run-value-kinds.ps ℕ
-μ-run-value κs a = rank (getD (a .1 .1 .1 .0 .now) 0 0) (32 * a .1 .1 .1 .1 .1 .1 .1 .0 + 19)
+abbrev μ-run-value : Measures 6 run-value-kinds.ps ℕ
+μ-run-value κs a = rank (getD (a .1 .1 .1 .0 .now) 0 0) (32 * a .1 .1 .1 .1 .0 + 19)
 
-abbrev run-action-at : ℕ → In 9 run-action-kinds.ps
+abbrev run-action-at : ℕ → In 5 run-action-kinds.ps
 run-action-at t =
-    and 9 run-action-kinds.ps (is 9 run-action-kinds.ps μ-run-action t) run-action.Pre
+    and 5 run-action-kinds.ps (is 5 run-action-kinds.ps μ-run-action t) run-action.Pre
 
-abbrev run-action-below : ℕ → In 9 run-action-kinds.ps
+abbrev run-action-below : ℕ → In 5 run-action-kinds.ps
 run-action-below t =
-    and 9 run-action-kinds.ps (falls 9 run-action-kinds.ps _<_ μ-run-action t) run-action.Pre
+    and 5 run-action-kinds.ps (falls 5 run-action-kinds.ps _<_ μ-run-action t) run-action.Pre
 
-abbrev run-apply-at : ℕ → In 9 run-apply-kinds.ps
-run-apply-at t = and 9 run-apply-kinds.ps (is 9 run-apply-kinds.ps μ-run-apply t) run-apply.Pre
+abbrev run-apply-at : ℕ → In 6 run-apply-kinds.ps
+run-apply-at t = and 6 run-apply-kinds.ps (is 6 run-apply-kinds.ps μ-run-apply t) run-apply.Pre
 
-abbrev run-apply-below : ℕ → In 9 run-apply-kinds.ps
+abbrev run-apply-below : ℕ → In 6 run-apply-kinds.ps
 run-apply-below t =
-    and 9 run-apply-kinds.ps (falls 9 run-apply-kinds.ps _<_ μ-run-apply t) run-apply.Pre
+    and 6 run-apply-kinds.ps (falls 6 run-apply-kinds.ps _<_ μ-run-apply t) run-apply.Pre
 
-abbrev run-arg-at : ℕ → In 9 run-arg-kinds.ps
-run-arg-at t = and 9 run-arg-kinds.ps (is 9 run-arg-kinds.ps μ-run-arg t) run-arg.Pre
+abbrev run-arg-at : ℕ → In 6 run-arg-kinds.ps
+run-arg-at t = and 6 run-arg-kinds.ps (is 6 run-arg-kinds.ps μ-run-arg t) run-arg.Pre
 
-abbrev run-arg-below : ℕ → In 9 run-arg-kinds.ps
-run-arg-below t = and 9 run-arg-kinds.ps (falls 9 run-arg-kinds.ps _<_ μ-run-arg t) run-arg.Pre
+abbrev run-arg-below : ℕ → In 6 run-arg-kinds.ps
+run-arg-below t = and 6 run-arg-kinds.ps (falls 6 run-arg-kinds.ps _<_ μ-run-arg t) run-arg.Pre
 
-abbrev run-args-at : ℕ → In 9 run-args-kinds.ps
-run-args-at t = and 9 run-args-kinds.ps (is 9 run-args-kinds.ps μ-run-args t) run-args.Pre
+abbrev run-args-at : ℕ → In 6 run-args-kinds.ps
+run-args-at t = and 6 run-args-kinds.ps (is 6 run-args-kinds.ps μ-run-args t) run-args.Pre
 
-abbrev run-args-below : ℕ → In 9 run-args-kinds.ps
+abbrev run-args-below : ℕ → In 6 run-args-kinds.ps
 run-args-below t =
-    and 9 run-args-kinds.ps (falls 9 run-args-kinds.ps _<_ μ-run-args t) run-args.Pre
+    and 6 run-args-kinds.ps (falls 6 run-args-kinds.ps _<_ μ-run-args t) run-args.Pre
 
-abbrev run-assign-at : ℕ → In 9 run-assign-kinds.ps
+abbrev run-assign-at : ℕ → In 6 run-assign-kinds.ps
 run-assign-at t =
-    and 9 run-assign-kinds.ps (is 9 run-assign-kinds.ps μ-run-assign t) run-assign.Pre
+    and 6 run-assign-kinds.ps (is 6 run-assign-kinds.ps μ-run-assign t) run-assign.Pre
 
-abbrev run-assign-below : ℕ → In 9 run-assign-kinds.ps
+abbrev run-assign-below : ℕ → In 6 run-assign-kinds.ps
 run-assign-below t =
-    and 9 run-assign-kinds.ps (falls 9 run-assign-kinds.ps _<_ μ-run-assign t) run-assign.Pre
+    and 6 run-assign-kinds.ps (falls 6 run-assign-kinds.ps _<_ μ-run-assign t) run-assign.Pre
 
-abbrev run-block-at : ℕ → In 9 run-block-kinds.ps
-run-block-at t = and 9 run-block-kinds.ps (is 9 run-block-kinds.ps μ-run-block t) run-block.Pre
+abbrev run-block-at : ℕ → In 6 run-block-kinds.ps
+run-block-at t = and 6 run-block-kinds.ps (is 6 run-block-kinds.ps μ-run-block t) run-block.Pre
 
-abbrev run-block-below : ℕ → In 9 run-block-kinds.ps
+abbrev run-block-below : ℕ → In 6 run-block-kinds.ps
 run-block-below t =
-    and 9 run-block-kinds.ps (falls 9 run-block-kinds.ps _<_ μ-run-block t) run-block.Pre
+    and 6 run-block-kinds.ps (falls 6 run-block-kinds.ps _<_ μ-run-block t) run-block.Pre
 
-abbrev run-body-at : ℕ → In 8 run-body-kinds.ps
-run-body-at t = and 8 run-body-kinds.ps (is 8 run-body-kinds.ps μ-run-body t) run-body.Pre
+abbrev run-body-at : ℕ → In 5 run-body-kinds.ps
+run-body-at t = and 5 run-body-kinds.ps (is 5 run-body-kinds.ps μ-run-body t) run-body.Pre
 
-abbrev run-body-below : ℕ → In 8 run-body-kinds.ps
+abbrev run-body-below : ℕ → In 5 run-body-kinds.ps
 run-body-below t =
-    and 8 run-body-kinds.ps (falls 8 run-body-kinds.ps _<_ μ-run-body t) run-body.Pre
+    and 5 run-body-kinds.ps (falls 5 run-body-kinds.ps _<_ μ-run-body t) run-body.Pre
 
-abbrev run-call-at : ℕ → In 9 run-call-kinds.ps
-run-call-at t = and 9 run-call-kinds.ps (is 9 run-call-kinds.ps μ-run-call t) run-call.Pre
+abbrev run-call-at : ℕ → In 6 run-call-kinds.ps
+run-call-at t = and 6 run-call-kinds.ps (is 6 run-call-kinds.ps μ-run-call t) run-call.Pre
 
-abbrev run-call-below : ℕ → In 9 run-call-kinds.ps
+abbrev run-call-below : ℕ → In 6 run-call-kinds.ps
 run-call-below t =
-    and 9 run-call-kinds.ps (falls 9 run-call-kinds.ps _<_ μ-run-call t) run-call.Pre
+    and 6 run-call-kinds.ps (falls 6 run-call-kinds.ps _<_ μ-run-call t) run-call.Pre
 
-abbrev run-call-stmt-at : ℕ → In 9 run-call-stmt-kinds.ps
+abbrev run-call-stmt-at : ℕ → In 6 run-call-stmt-kinds.ps
 run-call-stmt-at t =
-    and 9 run-call-stmt-kinds.ps (is 9 run-call-stmt-kinds.ps μ-run-call-stmt t) run-call-stmt.Pre
+    and 6 run-call-stmt-kinds.ps (is 6 run-call-stmt-kinds.ps μ-run-call-stmt t) run-call-stmt.Pre
 
-abbrev run-call-stmt-below : ℕ → In 9 run-call-stmt-kinds.ps
+abbrev run-call-stmt-below : ℕ → In 6 run-call-stmt-kinds.ps
 run-call-stmt-below t =
     and
-    9
+    6
     run-call-stmt-kinds.ps
-    (falls 9 run-call-stmt-kinds.ps _<_ μ-run-call-stmt t)
+    (falls 6 run-call-stmt-kinds.ps _<_ μ-run-call-stmt t)
     run-call-stmt.Pre
 
-abbrev run-expr-at : ℕ → In 9 run-expr-kinds.ps
-run-expr-at t = and 9 run-expr-kinds.ps (is 9 run-expr-kinds.ps μ-run-expr t) run-expr.Pre
+abbrev run-expr-at : ℕ → In 6 run-expr-kinds.ps
+run-expr-at t = and 6 run-expr-kinds.ps (is 6 run-expr-kinds.ps μ-run-expr t) run-expr.Pre
 
-abbrev run-expr-below : ℕ → In 9 run-expr-kinds.ps
+abbrev run-expr-below : ℕ → In 6 run-expr-kinds.ps
 run-expr-below t =
-    and 9 run-expr-kinds.ps (falls 9 run-expr-kinds.ps _<_ μ-run-expr t) run-expr.Pre
+    and 6 run-expr-kinds.ps (falls 6 run-expr-kinds.ps _<_ μ-run-expr t) run-expr.Pre
 
-abbrev run-if-at : ℕ → In 9 run-if-kinds.ps
-run-if-at t = and 9 run-if-kinds.ps (is 9 run-if-kinds.ps μ-run-if t) run-if.Pre
+abbrev run-if-at : ℕ → In 6 run-if-kinds.ps
+run-if-at t = and 6 run-if-kinds.ps (is 6 run-if-kinds.ps μ-run-if t) run-if.Pre
 
-abbrev run-if-below : ℕ → In 9 run-if-kinds.ps
-run-if-below t = and 9 run-if-kinds.ps (falls 9 run-if-kinds.ps _<_ μ-run-if t) run-if.Pre
+abbrev run-if-below : ℕ → In 6 run-if-kinds.ps
+run-if-below t = and 6 run-if-kinds.ps (falls 6 run-if-kinds.ps _<_ μ-run-if t) run-if.Pre
 
-abbrev run-keys-at : ℕ → In 10 run-keys-kinds.ps
-run-keys-at t = and 10 run-keys-kinds.ps (is 10 run-keys-kinds.ps μ-run-keys t) run-keys.Pre
+abbrev run-keys-at : ℕ → In 7 run-keys-kinds.ps
+run-keys-at t = and 7 run-keys-kinds.ps (is 7 run-keys-kinds.ps μ-run-keys t) run-keys.Pre
 
-abbrev run-keys-below : ℕ → In 10 run-keys-kinds.ps
+abbrev run-keys-below : ℕ → In 7 run-keys-kinds.ps
 run-keys-below t =
-    and 10 run-keys-kinds.ps (falls 10 run-keys-kinds.ps _<_ μ-run-keys t) run-keys.Pre
+    and 7 run-keys-kinds.ps (falls 7 run-keys-kinds.ps _<_ μ-run-keys t) run-keys.Pre
 
-abbrev run-one-at : ℕ → In 9 run-one-kinds.ps
-run-one-at t = and 9 run-one-kinds.ps (is 9 run-one-kinds.ps μ-run-one t) run-one.Pre
+abbrev run-one-at : ℕ → In 6 run-one-kinds.ps
+run-one-at t = and 6 run-one-kinds.ps (is 6 run-one-kinds.ps μ-run-one t) run-one.Pre
 
-abbrev run-one-below : ℕ → In 9 run-one-kinds.ps
-run-one-below t = and 9 run-one-kinds.ps (falls 9 run-one-kinds.ps _<_ μ-run-one t) run-one.Pre
+abbrev run-one-below : ℕ → In 6 run-one-kinds.ps
+run-one-below t = and 6 run-one-kinds.ps (falls 6 run-one-kinds.ps _<_ μ-run-one t) run-one.Pre
 
-abbrev run-return-at : ℕ → In 9 run-return-kinds.ps
+abbrev run-return-at : ℕ → In 6 run-return-kinds.ps
 run-return-at t =
-    and 9 run-return-kinds.ps (is 9 run-return-kinds.ps μ-run-return t) run-return.Pre
+    and 6 run-return-kinds.ps (is 6 run-return-kinds.ps μ-run-return t) run-return.Pre
 
-abbrev run-return-below : ℕ → In 9 run-return-kinds.ps
+abbrev run-return-below : ℕ → In 6 run-return-kinds.ps
 run-return-below t =
-    and 9 run-return-kinds.ps (falls 9 run-return-kinds.ps _<_ μ-run-return t) run-return.Pre
+    and 6 run-return-kinds.ps (falls 6 run-return-kinds.ps _<_ μ-run-return t) run-return.Pre
 
-abbrev run-stmt-at : ℕ → In 9 run-stmt-kinds.ps
-run-stmt-at t = and 9 run-stmt-kinds.ps (is 9 run-stmt-kinds.ps μ-run-stmt t) run-stmt.Pre
+abbrev run-stmt-at : ℕ → In 6 run-stmt-kinds.ps
+run-stmt-at t = and 6 run-stmt-kinds.ps (is 6 run-stmt-kinds.ps μ-run-stmt t) run-stmt.Pre
 
-abbrev run-stmt-below : ℕ → In 9 run-stmt-kinds.ps
+abbrev run-stmt-below : ℕ → In 6 run-stmt-kinds.ps
 run-stmt-below t =
-    and 9 run-stmt-kinds.ps (falls 9 run-stmt-kinds.ps _<_ μ-run-stmt t) run-stmt.Pre
+    and 6 run-stmt-kinds.ps (falls 6 run-stmt-kinds.ps _<_ μ-run-stmt t) run-stmt.Pre
 
-abbrev run-stmts-at : ℕ → In 9 run-stmts-kinds.ps
-run-stmts-at t = and 9 run-stmts-kinds.ps (is 9 run-stmts-kinds.ps μ-run-stmts t) run-stmts.Pre
+abbrev run-stmts-at : ℕ → In 6 run-stmts-kinds.ps
+run-stmts-at t = and 6 run-stmts-kinds.ps (is 6 run-stmts-kinds.ps μ-run-stmts t) run-stmts.Pre
 
-abbrev run-stmts-below : ℕ → In 9 run-stmts-kinds.ps
+abbrev run-stmts-below : ℕ → In 6 run-stmts-kinds.ps
 run-stmts-below t =
-    and 9 run-stmts-kinds.ps (falls 9 run-stmts-kinds.ps _<_ μ-run-stmts t) run-stmts.Pre
+    and 6 run-stmts-kinds.ps (falls 6 run-stmts-kinds.ps _<_ μ-run-stmts t) run-stmts.Pre
 
-abbrev run-table-at : ℕ → In 9 run-table-kinds.ps
-run-table-at t = and 9 run-table-kinds.ps (is 9 run-table-kinds.ps μ-run-table t) run-table.Pre
+abbrev run-table-at : ℕ → In 6 run-table-kinds.ps
+run-table-at t = and 6 run-table-kinds.ps (is 6 run-table-kinds.ps μ-run-table t) run-table.Pre
 
-abbrev run-table-below : ℕ → In 9 run-table-kinds.ps
+abbrev run-table-below : ℕ → In 6 run-table-kinds.ps
 run-table-below t =
-    and 9 run-table-kinds.ps (falls 9 run-table-kinds.ps _<_ μ-run-table t) run-table.Pre
+    and 6 run-table-kinds.ps (falls 6 run-table-kinds.ps _<_ μ-run-table t) run-table.Pre
 
-abbrev run-two-at : ℕ → In 9 run-two-kinds.ps
-run-two-at t = and 9 run-two-kinds.ps (is 9 run-two-kinds.ps μ-run-two t) run-two.Pre
+abbrev run-two-at : ℕ → In 6 run-two-kinds.ps
+run-two-at t = and 6 run-two-kinds.ps (is 6 run-two-kinds.ps μ-run-two t) run-two.Pre
 
-abbrev run-two-below : ℕ → In 9 run-two-kinds.ps
-run-two-below t = and 9 run-two-kinds.ps (falls 9 run-two-kinds.ps _<_ μ-run-two t) run-two.Pre
+abbrev run-two-below : ℕ → In 6 run-two-kinds.ps
+run-two-below t = and 6 run-two-kinds.ps (falls 6 run-two-kinds.ps _<_ μ-run-two t) run-two.Pre
 
-abbrev run-value-at : ℕ → In 9 run-value-kinds.ps
-run-value-at t = and 9 run-value-kinds.ps (is 9 run-value-kinds.ps μ-run-value t) run-value.Pre
+abbrev run-value-at : ℕ → In 6 run-value-kinds.ps
+run-value-at t = and 6 run-value-kinds.ps (is 6 run-value-kinds.ps μ-run-value t) run-value.Pre
 
-abbrev run-value-below : ℕ → In 9 run-value-kinds.ps
+abbrev run-value-below : ℕ → In 6 run-value-kinds.ps
 run-value-below t =
-    and 9 run-value-kinds.ps (falls 9 run-value-kinds.ps _<_ μ-run-value t) run-value.Pre
+    and 6 run-value-kinds.ps (falls 6 run-value-kinds.ps _<_ μ-run-value t) run-value.Pre
 
 abbrev run-stmts-Inv-loop : run-stmts-lts.InvT-loop
-run-stmts-Inv-loop nums ends directory scope offsets entries widths depth at count slots₀ frame₀ next₀ left₀ slots frame next left = Blocking nums directory ends scope offsets entries widths slots₀ slots frame₀ frame depth at count next left
+run-stmts-Inv-loop nums ends directory scope depth at count slots₀ frame₀ next₀ left₀ slots frame next left = Blocking nums directory ends scope slots₀ slots frame₀ frame depth at count next left
 
 abbrev run-stmts-μ-loop : run-stmts-lts.MeasureT-loop
-run-stmts-μ-loop nums ends directory scope offsets entries widths depth at count slots₀ frame₀ next₀ left₀ slots frame next left = left
+run-stmts-μ-loop nums ends directory scope depth at count slots₀ frame₀ next₀ left₀ slots frame next left = left
 
 module _ (t : ℕ) where
   abbrev run-action-claims : run-action-lts.Claims
@@ -359,6 +359,12 @@ module _ (t : ℕ) where
   abbrev run-value-claims : run-value-lts.Claims
   run-value-claims = (count-step-reads.Asked, count-step-reads.Learnt, run-call-below t, run-call.Post, returned-reads.Asked, returned-reads.Learnt)
 
+  run-action-mul-position : run-action-lts.Need-mul-position run-action-claims (run-action-at t) run-action.Post
+  run-action-mul-position c = search (actionRuns, needs)
+
+  run-action-shared-slice-read-position : run-action-lts.Need-shared-slice-read-position run-action-claims (run-action-at t) run-action.Post
+  run-action-shared-slice-read-position c = search (actionRuns, needs)
+
   run-action-add-f : run-action-lts.Need-add-f run-action-claims (run-action-at t) run-action.Post
   run-action-add-f c = search (actionRuns, needs)
 
@@ -374,11 +380,14 @@ module _ (t : ℕ) where
   run-action-head-of-requires : run-action-lts.Need-head-of-requires run-action-claims (run-action-at t) run-action.Post
   run-action-head-of-requires c κs = search (actionRuns, needs)
 
+  run-action-add-copy : run-action-lts.Need-add-copy run-action-claims (run-action-at t) run-action.Post
+  run-action-add-copy c = search (actionRuns, needs)
+
   run-action-copy-requires : run-action-lts.Need-copy-requires run-action-claims (run-action-at t) run-action.Post
   run-action-copy-requires c κs = search (actionRuns, needs)
 
   run-action-run-body-requires : run-action-lts.Need-run-body-requires run-action-claims (run-action-at t) run-action.Post
-  run-action-run-body-requires c κs = search (actionRuns, needs)
+  run-action-run-body-requires c κs = (action-falls _ _ _ _ _ _ _ _ (c .before .before .before .before .before .before .before .before .before .before .before .before .pre .1) _ (c .before .before .before .before .before .before .before .before .before .before .before .before .pre .0), action-body _ _ _ _ _ _ _ _ _ _ _ _ (c .before .before .before .before .before .before .head-of .ensures) (c .before .before .before .before .before .before .before .before .before .before .before .before .pre .1) _ (c .before .before .before .before .copy .ensures))
 
   run-action-after-call-requires : run-action-lts.Need-after-call-requires run-action-claims (run-action-at t) run-action.Post
   run-action-after-call-requires c κs = search (actionRuns, needs)
@@ -450,10 +459,10 @@ module _ (t : ℕ) where
   run-args-add-run-args-2 c = search (argsRuns, needs)
 
   run-args-run-args-requires : run-args-lts.Need-run-args-requires run-args-claims (run-args-at t) run-args.Post
-  run-args-run-args-requires c κs = (args-fall _ _ _ _ _ _ _ _ _ _ _ _ _ _ (c .before .before .before .before .before .before .before .before .before .before .before .before .pre .1) (c .before .before .before .before .before .before .before .before .if1 .taken) _ (c .before .before .before .before .before .before .before .before .before .before .before .before .pre .0), args-rest _ _ _ _ _ _ _ _ _ _ _ _ _ _ (c .before .before .before .before .before .before .before .before .before .before .before .before .pre .1) (c .before .before .before .before .before .before .before .before .if1 .taken) _ _ _ _ (c .before .before .before .before .before .run-arg .ensures) refl)
+  run-args-run-args-requires c κs = (args-fall _ _ _ _ _ _ _ _ _ _ _ (c .before .before .before .before .before .before .before .before .before .before .before .before .pre .1) (c .before .before .before .before .before .before .before .before .if1 .taken) _ (c .before .before .before .before .before .before .before .before .before .before .before .before .pre .0), args-rest _ _ _ _ _ _ _ _ _ _ _ (c .before .before .before .before .before .before .before .before .before .before .before .before .pre .1) (c .before .before .before .before .before .before .before .before .if1 .taken) _ _ _ _ (c .before .before .before .before .before .run-arg .ensures) refl)
 
   run-args-keep-requires : run-args-lts.Need-keep-requires run-args-claims (run-args-at t) run-args.Post
-  run-args-keep-requires c κs = args-keep _ _ _ _ _ _ _ _ _ _ _ _ _ _ (c .before .before .before .before .before .before .before .before .before .before .before .before .before .before .before .before .pre .1) (c .before .before .before .before .before .before .before .before .before .before .before .before .if1 .taken) _ _ _ _ _ _ (c .before .before .before .before .before .before .before .before .before .run-arg .ensures) refl (c .before .before .before .run-args .ensures)
+  run-args-keep-requires c κs = args-keep _ _ _ _ _ _ _ _ _ _ _ (c .before .before .before .before .before .before .before .before .before .before .before .before .before .before .before .before .pre .1) (c .before .before .before .before .before .before .before .before .before .before .before .before .if1 .taken) _ _ _ _ _ _ (c .before .before .before .before .before .before .before .before .before .run-arg .ensures) refl (c .before .before .before .run-args .ensures)
 
   run-args-same-length : run-args-lts.Need-same-length run-args-claims (run-args-at t) run-args.Post
   run-args-same-length c = search (argsRuns, needs)
@@ -486,7 +495,7 @@ module _ (t : ℕ) where
   run-assign-add-write-place c = search (assignRuns, taggedRuns, needs)
 
   run-assign-write-place-requires : run-assign-lts.Need-write-place-requires run-assign-claims (run-assign-at t) run-assign.Post
-  run-assign-write-place-requires c κs = assign-write _ _ _ _ _ _ _ _ _ _ _ (c .before .before .before .before .before .before .before .before .before .before .before .before .before .pre .1) _ (c .before .before .before .before .before .before .before .before .count-step .ensures) _ refl _ _ _ (c .before .before .before .before .run-expr .ensures)
+  run-assign-write-place-requires c κs = assign-write _ _ _ _ _ _ _ _ (c .before .before .before .before .before .before .before .before .before .before .before .before .before .pre .1) _ (c .before .before .before .before .before .before .before .before .count-step .ensures) _ refl _ _ _ (c .before .before .before .before .run-expr .ensures)
 
   run-assign-same-length : run-assign-lts.Need-same-length run-assign-claims (run-assign-at t) run-assign.Post
   run-assign-same-length c = search (assignRuns, taggedRuns, needs)
@@ -564,34 +573,31 @@ module _ (t : ℕ) where
   run-call-add-run-args c = search (callRuns, needs)
 
   run-call-run-args-requires : run-call-lts.Need-run-args-requires run-call-claims (run-call-at t) run-call.Post
-  run-call-run-args-requires c κs = (call-args-fall _ _ _ _ _ _ _ _ _ _ _ _ _ _ _ _ (c .before .before .before .head-of .ensures) (c .before .before .own-slots .ensures) (c .before .before .before .before .before .before .before .before .pre .1) _ (c .before .before .before .before .before .before .before .before .pre .0), call-args _ _ _ _ _ _ _ _ _ _ _ _ _ _ _ _ (c .before .before .before .head-of .ensures) (c .before .before .own-slots .ensures) (c .before .before .before .before .before .before .before .before .pre .1))
+  run-call-run-args-requires c κs = (call-args-fall _ _ _ _ _ _ _ _ _ _ _ _ _ (c .before .before .before .head-of .ensures) (c .before .before .own-slots .ensures) (c .before .before .before .before .before .before .before .before .pre .1) _ (c .before .before .before .before .before .before .before .before .pre .0), call-args _ _ _ _ _ _ _ _ _ _ _ _ _ (c .before .before .before .head-of .ensures) (c .before .before .own-slots .ensures) (c .before .before .before .before .before .before .before .before .pre .1))
 
   run-call-mul-run-body : run-call-lts.Need-mul-run-body run-call-claims (run-call-at t) run-call.Post
-  run-call-mul-run-body c = record { fits = omega (arith, call-own-low _ _ _ _ _ _ _ _ _ _ _ _ _ _ _ _ (c .before .before .before .before .before .before .before .head-of .ensures) (c .before .before .before .before .before .before .own-slots .ensures) (c .before .before .before .before .before .before .before .before .before .before .before .before .pre .1)) }
+  run-call-mul-run-body c = record { fits = omega (arith, call-own-low _ _ _ _ _ _ _ _ _ _ _ _ _ (c .before .before .before .before .before .before .before .head-of .ensures) (c .before .before .before .before .before .before .own-slots .ensures) (c .before .before .before .before .before .before .before .before .before .before .before .before .pre .1)) }
 
   run-call-sub-run-body : run-call-lts.Need-sub-run-body run-call-claims (run-call-at t) run-call.Post
   run-call-sub-run-body c = search (callRuns, needs)
 
   run-call-part-run-body-start : run-call-lts.Need-part-run-body-start run-call-claims (run-call-at t) run-call.Post
-  run-call-part-run-body-start c = call-lent _ _ _ _ _ _ _ _ _ _ _ _ _ _ _ _ (c .before .before .before .before .before .before .before .head-of .ensures) (c .before .before .before .before .before .before .own-slots .ensures) (c .before .before .before .before .before .before .before .before .before .before .before .before .pre .1) _ _ (c .before .before .before .run-args .ensures)
+  run-call-part-run-body-start c = call-lent _ _ _ _ _ _ _ _ _ _ _ _ _ (c .before .before .before .before .before .before .before .head-of .ensures) (c .before .before .before .before .before .before .own-slots .ensures) (c .before .before .before .before .before .before .before .before .before .before .before .before .pre .1) _ _ (c .before .before .before .run-args .ensures)
 
   run-call-part-run-body-end : run-call-lts.Need-part-run-body-end run-call-claims (run-call-at t) run-call.Post
   run-call-part-run-body-end c = search (callRuns, needs)
 
   run-call-run-body-requires : run-call-lts.Need-run-body-requires run-call-claims (run-call-at t) run-call.Post
-  run-call-run-body-requires c κs = (call-falls _ _ _ _ _ _ _ _ _ _ _ (c .before .before .before .before .before .before .before .before .before .before .before .before .before .pre .1) _ (c .before .before .before .before .before .before .before .before .before .before .before .before .before .pre .0), call-body _ _ _ _ _ _ _ _ _ _ _ _ _ _ _ _ (c .before .before .before .before .before .before .before .before .head-of .ensures) (c .before .before .before .before .before .before .before .own-slots .ensures) (c .before .before .before .before .before .before .before .before .before .before .before .before .before .pre .1) _ _ (c .before .before .before .before .run-args .ensures) _ refl)
-
-  run-call-add-finish-call : run-call-lts.Need-add-finish-call run-call-claims (run-call-at t) run-call.Post
-  run-call-add-finish-call c = search (callRuns, needs)
+  run-call-run-body-requires c κs = (call-falls _ _ _ _ _ _ _ _ (c .before .before .before .before .before .before .before .before .before .before .before .before .before .pre .1) _ (c .before .before .before .before .before .before .before .before .before .before .before .before .before .pre .0), call-body _ _ _ _ _ _ _ _ _ _ _ _ _ (c .before .before .before .before .before .before .before .before .head-of .ensures) (c .before .before .before .before .before .before .before .own-slots .ensures) (c .before .before .before .before .before .before .before .before .before .before .before .before .before .pre .1) _ _ (c .before .before .before .before .run-args .ensures) _ refl)
 
   run-call-finish-call-requires : run-call-lts.Need-finish-call-requires run-call-claims (run-call-at t) run-call.Post
-  run-call-finish-call-requires c κs = call-finish _ _ _ _ _ _ _ _ _ _ _ _ _ _ _ _ (c .before .before .before .before .before .before .before .before .before .before .before .before .before .head-of .ensures) (c .before .before .before .before .before .before .before .before .before .before .before .before .own-slots .ensures) (c .before .before .before .before .before .before .before .before .before .before .before .before .before .before .before .before .before .before .pre .1) _ _ (c .before .before .before .before .before .before .before .before .before .run-args .ensures) _ _ _ _ _ refl (c .before .before .before .before .run-body .ensures) refl
+  run-call-finish-call-requires c κs = call-finish _ _ _ _ _ _ _ _ _ _ _ _ _ (c .before .before .before .before .before .before .before .before .before .before .before .before .before .head-of .ensures) (c .before .before .before .before .before .before .before .before .before .before .before .before .own-slots .ensures) (c .before .before .before .before .before .before .before .before .before .before .before .before .before .before .before .before .before .before .pre .1) _ _ (c .before .before .before .before .before .before .before .before .before .run-args .ensures) _ _ _ _ _ refl (c .before .before .before .before .run-body .ensures) refl
 
   run-call-same-length : run-call-lts.Need-same-length run-call-claims (run-call-at t) run-call.Post
   run-call-same-length c = search (callRuns, needs)
 
   run-call-returns : run-call-lts.Need-returns run-call-claims (run-call-at t) run-call.Post
-  run-call-returns c = call-runs _ _ _ _ _ _ _ _ _ _ _ _ _ _ _ _ (c .before .before .before .before .before .before .before .before .before .before .before .before .before .before .before .before .head-of .ensures) (c .before .before .before .before .before .before .before .before .before .before .before .before .before .before .before .own-slots .ensures) _ _ _ _ _ _ _ _ _ _ (c .before .before .before .before .before .before .before .before .before .before .before .before .run-args .ensures) (c .before .before .before .before .before .before .before .run-body .ensures) (c .before .before .finish-call .ensures) refl refl
+  run-call-returns c = call-runs _ _ _ _ _ _ _ _ _ _ _ _ _ (c .before .before .before .before .before .before .before .before .before .before .before .before .before .before .before .before .head-of .ensures) (c .before .before .before .before .before .before .before .before .before .before .before .before .before .before .before .own-slots .ensures) _ _ _ _ _ _ _ _ _ (c .before .before .before .before .before .before .before .before .before .before .before .before .run-args .ensures) (c .before .before .before .before .before .before .before .run-body .ensures) (c .before .before .finish-call .ensures) refl refl
 
   run-call-stmt-count-step-requires : run-call-stmt-lts.Need-count-step-requires run-call-stmt-claims (run-call-stmt-at t) run-call-stmt.Post
   run-call-stmt-count-step-requires c κs = search (callStmtRuns, taggedRuns, needs)
@@ -614,38 +620,20 @@ module _ (t : ℕ) where
   run-expr-shared-slice-read-tag : run-expr-lts.Need-shared-slice-read-tag run-expr-claims (run-expr-at t) run-expr.Post
   run-expr-shared-slice-read-tag c = search (exprRuns, needs)
 
-  run-expr-add-run-one : run-expr-lts.Need-add-run-one run-expr-claims (run-expr-at t) run-expr.Post
-  run-expr-add-run-one c = search (exprRuns, needs)
-
   run-expr-run-one-requires : run-expr-lts.Need-run-one-requires run-expr-claims (run-expr-at t) run-expr.Post
   run-expr-run-one-requires c κs = search (exprRuns, needs)
-
-  run-expr-add-run-one-2 : run-expr-lts.Need-add-run-one-2 run-expr-claims (run-expr-at t) run-expr.Post
-  run-expr-add-run-one-2 c = search (exprRuns, needs)
 
   run-expr-run-one-requires-2 : run-expr-lts.Need-run-one-requires-2 run-expr-claims (run-expr-at t) run-expr.Post
   run-expr-run-one-requires-2 c κs = search (exprRuns, needs)
 
-  run-expr-add-run-two : run-expr-lts.Need-add-run-two run-expr-claims (run-expr-at t) run-expr.Post
-  run-expr-add-run-two c = search (exprRuns, needs)
-
   run-expr-run-two-requires : run-expr-lts.Need-run-two-requires run-expr-claims (run-expr-at t) run-expr.Post
   run-expr-run-two-requires c κs = search (exprRuns, needs)
-
-  run-expr-add-run-one-3 : run-expr-lts.Need-add-run-one-3 run-expr-claims (run-expr-at t) run-expr.Post
-  run-expr-add-run-one-3 c = search (exprRuns, needs)
 
   run-expr-run-one-requires-3 : run-expr-lts.Need-run-one-requires-3 run-expr-claims (run-expr-at t) run-expr.Post
   run-expr-run-one-requires-3 c κs = search (exprRuns, needs)
 
-  run-expr-add-run-one-4 : run-expr-lts.Need-add-run-one-4 run-expr-claims (run-expr-at t) run-expr.Post
-  run-expr-add-run-one-4 c = search (exprRuns, needs)
-
   run-expr-run-one-requires-4 : run-expr-lts.Need-run-one-requires-4 run-expr-claims (run-expr-at t) run-expr.Post
   run-expr-run-one-requires-4 c κs = search (exprRuns, needs)
-
-  run-expr-add-run-two-2 : run-expr-lts.Need-add-run-two-2 run-expr-claims (run-expr-at t) run-expr.Post
-  run-expr-add-run-two-2 c = search (exprRuns, needs)
 
   run-expr-run-two-requires-2 : run-expr-lts.Need-run-two-requires-2 run-expr-claims (run-expr-at t) run-expr.Post
   run-expr-run-two-requires-2 c κs = search (exprRuns, needs)
@@ -707,8 +695,8 @@ module _ (t : ℕ) where
   run-if-count-step-requires : run-if-lts.Need-count-step-requires run-if-claims (run-if-at t) run-if.Post
   run-if-count-step-requires c κs = search (ifRuns, taggedRuns, needs)
 
-  run-if-sub-run-expr : run-if-lts.Need-sub-run-expr run-if-claims (run-if-at t) run-if.Post
-  run-if-sub-run-expr c = search (ifRuns, taggedRuns, needs)
+  run-if-sub-inner : run-if-lts.Need-sub-inner run-if-claims (run-if-at t) run-if.Post
+  run-if-sub-inner c = search (ifRuns, taggedRuns, needs)
 
   run-if-add-run-expr : run-if-lts.Need-add-run-expr run-if-claims (run-if-at t) run-if.Post
   run-if-add-run-expr c = search (ifRuns, taggedRuns, needs)
@@ -726,28 +714,22 @@ module _ (t : ℕ) where
   run-if-shared-slice-read-first c = search (ifRuns, taggedRuns, needs)
 
   run-if-mul-second : run-if-lts.Need-mul-second run-if-claims (run-if-at t) run-if.Post
-  run-if-mul-second c = record { fits = omega (arith, if-low _ _ _ _ _ _ _ _ _ _ _ (c .before .before .before .before .before .before .before .before .before .before .before .before .before .pre .1) _ refl) }
+  run-if-mul-second c = record { fits = omega (arith, if-low _ _ _ _ _ _ _ _ (c .before .before .before .before .before .before .before .before .before .before .before .before .before .pre .1) _ refl) }
 
   run-if-shared-slice-read-second : run-if-lts.Need-shared-slice-read-second run-if-claims (run-if-at t) run-if.Post
   run-if-shared-slice-read-second c = search (ifRuns, taggedRuns, needs)
 
-  run-if-sub-run-stmt : run-if-lts.Need-sub-run-stmt run-if-claims (run-if-at t) run-if.Post
-  run-if-sub-run-stmt c = search (ifRuns, taggedRuns, needs)
-
   run-if-run-stmt-requires : run-if-lts.Need-run-stmt-requires run-if-claims (run-if-at t) run-if.Post
-  run-if-run-stmt-requires c κs = (branch-fall _ _ _ _ _ _ _ _ _ _ _ _ (c .before .before .before .before .before .before .before .before .before .before .before .before .before .before .before .before .pre .1) _ (c .before .before .before .before .before .before .before .before .before .before .before .before .before .before .before .before .pre .0), if-second _ _ _ _ _ _ _ _ _ _ _ (c .before .before .before .before .before .before .before .before .before .before .before .before .before .before .before .before .pre .1) _ (c .before .before .before .before .before .before .before .before .before .before .before .count-step .ensures) _ _ _ (c .before .before .before .before .before .before .before .before .run-expr .ensures) _ _ (c .before .before .before .if1 .taken) refl refl)
-
-  run-if-sub-run-stmt-2 : run-if-lts.Need-sub-run-stmt-2 run-if-claims (run-if-at t) run-if.Post
-  run-if-sub-run-stmt-2 c = search (ifRuns, taggedRuns, needs)
+  run-if-run-stmt-requires c κs = (branch-fall _ _ _ _ _ _ _ _ _ (c .before .before .before .before .before .before .before .before .before .before .before .before .before .before .before .before .pre .1) _ (c .before .before .before .before .before .before .before .before .before .before .before .before .before .before .before .before .pre .0), if-second _ _ _ _ _ _ _ _ (c .before .before .before .before .before .before .before .before .before .before .before .before .before .before .before .before .pre .1) _ (c .before .before .before .before .before .before .before .before .before .before .before .count-step .ensures) _ _ _ (c .before .before .before .before .before .before .before .before .run-expr .ensures) _ _ (c .before .before .before .if1 .taken) refl refl)
 
   run-if-run-stmt-requires-2 : run-if-lts.Need-run-stmt-requires-2 run-if-claims (run-if-at t) run-if.Post
-  run-if-run-stmt-requires-2 c κs = (branch-fall _ _ _ _ _ _ _ _ _ _ _ _ (c .before .before .before .before .before .before .before .before .before .before .before .before .before .before .before .pre .1) _ (c .before .before .before .before .before .before .before .before .before .before .before .before .before .before .before .pre .0), if-first-branch _ _ _ _ _ _ _ _ _ _ _ (c .before .before .before .before .before .before .before .before .before .before .before .before .before .before .before .pre .1) _ (c .before .before .before .before .before .before .before .before .before .before .count-step .ensures) _ _ _ (c .before .before .before .before .before .before .before .run-expr .ensures) _ (c .before .before .if1 .left) refl)
+  run-if-run-stmt-requires-2 c κs = (branch-fall _ _ _ _ _ _ _ _ _ (c .before .before .before .before .before .before .before .before .before .before .before .before .before .before .before .pre .1) _ (c .before .before .before .before .before .before .before .before .before .before .before .before .before .before .before .pre .0), if-first-branch _ _ _ _ _ _ _ _ (c .before .before .before .before .before .before .before .before .before .before .before .before .before .before .before .pre .1) _ (c .before .before .before .before .before .before .before .before .before .before .count-step .ensures) _ _ _ (c .before .before .before .before .before .before .before .run-expr .ensures) _ (c .before .before .if1 .left) refl)
 
   run-if-same-length : run-if-lts.Need-same-length run-if-claims (run-if-at t) run-if.Post
   run-if-same-length c = search (ifRuns, taggedRuns, needs)
 
   run-if-returns : run-if-lts.Need-returns run-if-claims (run-if-at t) run-if.Post
-  run-if-returns c = if-runs-second _ _ _ _ _ _ _ _ _ _ _ (c .before .before .before .before .before .before .before .before .before .before .before .before .before .before .before .before .before .before .before .pre .1) _ (c .before .before .before .before .before .before .before .before .before .before .before .before .before .before .count-step .ensures) _ _ _ (c .before .before .before .before .before .before .before .before .before .before .before .run-expr .ensures) _ _ _ _ _ (c .before .before .before .before .before .before .if1 .taken) refl refl (c .before .before .run-stmt .ensures)
+  run-if-returns c = if-runs-second _ _ _ _ _ _ _ _ (c .before .before .before .before .before .before .before .before .before .before .before .before .before .before .before .before .before .before .before .pre .1) _ (c .before .before .before .before .before .before .before .before .before .before .before .before .before .before .count-step .ensures) _ _ _ (c .before .before .before .before .before .before .before .before .before .before .before .run-expr .ensures) _ _ _ _ _ (c .before .before .before .before .before .before .if1 .taken) refl refl (c .before .before .run-stmt .ensures)
 
   run-if-same-length-2 : run-if-lts.Need-same-length-2 run-if-claims (run-if-at t) run-if.Post
   run-if-same-length-2 c = search (ifRuns, taggedRuns, needs)
@@ -755,14 +737,11 @@ module _ (t : ℕ) where
   run-if-returns-2 : run-if-lts.Need-returns-2 run-if-claims (run-if-at t) run-if.Post
   run-if-returns-2 c = search (ifRuns, taggedRuns, needs)
 
-  run-keys-add-run-expr : run-keys-lts.Need-add-run-expr run-keys-claims (run-keys-at t) run-keys.Post
-  run-keys-add-run-expr c = search (keysRuns, needs)
+  run-keys-add-key : run-keys-lts.Need-add-key run-keys-claims (run-keys-at t) run-keys.Post
+  run-keys-add-key c = search (keysRuns, needs)
 
   run-keys-run-expr-requires : run-keys-lts.Need-run-expr-requires run-keys-claims (run-keys-at t) run-keys.Post
   run-keys-run-expr-requires c κs = search (keysRuns, needs)
-
-  run-keys-add-next : run-keys-lts.Need-add-next run-keys-claims (run-keys-at t) run-keys.Post
-  run-keys-add-next c = search (keysRuns, needs)
 
   run-keys-mul-next : run-keys-lts.Need-mul-next run-keys-claims (run-keys-at t) run-keys.Post
   run-keys-mul-next c = search (keysRuns, needs)
@@ -777,7 +756,7 @@ module _ (t : ℕ) where
   run-keys-sub-run-keys c = search (keysRuns, needs)
 
   run-keys-run-keys-requires : run-keys-lts.Need-run-keys-requires run-keys-claims (run-keys-at t) run-keys.Post
-  run-keys-run-keys-requires c κs = (keys-fall _ _ _ _ _ _ _ _ _ _ _ _ _ (c .before .before .before .before .before .before .before .before .before .before .before .before .before .pre .1) (c .before .before .before .before .before .before .before .before .before .if1 .taken) _ (c .before .before .before .before .before .before .before .before .before .before .before .before .before .pre .0), keys-rest _ _ _ _ _ _ _ _ _ _ _ _ _ (c .before .before .before .before .before .before .before .before .before .before .before .before .before .pre .1) (c .before .before .before .before .before .before .before .before .before .if1 .taken) _ _ _ _ (c .before .before .before .before .before .before .run-expr .ensures) refl)
+  run-keys-run-keys-requires c κs = (keys-fall _ _ _ _ _ _ _ _ _ _ (c .before .before .before .before .before .before .before .before .before .before .before .before .before .pre .1) (c .before .before .before .before .before .before .before .before .before .if1 .taken) _ (c .before .before .before .before .before .before .before .before .before .before .before .before .before .pre .0), keys-rest _ _ _ _ _ _ _ _ _ _ (c .before .before .before .before .before .before .before .before .before .before .before .before .before .pre .1) (c .before .before .before .before .before .before .before .before .before .if1 .taken) _ _ _ _ (c .before .before .before .before .before .before .run-expr .ensures) refl)
 
   run-keys-mul-keys : run-keys-lts.Need-mul-keys run-keys-claims (run-keys-at t) run-keys.Post
   run-keys-mul-keys c = record { fits = omega (arith, c .before .before .before .before .before .before .before .before .before .before .before .before .before .before .before .before .pre .1 .keyed .inside) }
@@ -789,13 +768,16 @@ module _ (t : ℕ) where
   run-keys-same-length c = search (keysRuns, needs)
 
   run-keys-returns : run-keys-lts.Need-returns run-keys-claims (run-keys-at t) run-keys.Post
-  run-keys-returns c = keys-runs _ _ _ _ _ _ _ _ _ _ _ _ _ _ _ _ _ _ _ _ (c .before .before .before .before .before .before .before .before .before .before .before .before .if1 .taken) (c .before .before .before .before .before .before .before .before .before .run-expr .ensures) refl (c .before .before .run-keys .ensures)
+  run-keys-returns c = keys-runs _ _ _ _ _ _ _ _ _ _ _ _ _ _ _ _ _ (c .before .before .before .before .before .before .before .before .before .before .before .before .if1 .taken) (c .before .before .before .before .before .before .before .before .before .run-expr .ensures) refl (c .before .before .run-keys .ensures)
 
   run-keys-returns-2 : run-keys-lts.Need-returns-2 run-keys-claims (run-keys-at t) run-keys.Post
   run-keys-returns-2 c = search (keysRuns, needs)
 
   run-one-count-step-requires : run-one-lts.Need-count-step-requires run-one-claims (run-one-at t) run-one.Post
   run-one-count-step-requires c κs = search (oneRuns, needs)
+
+  run-one-add-first : run-one-lts.Need-add-first run-one-claims (run-one-at t) run-one.Post
+  run-one-add-first c = search (oneRuns, needs)
 
   run-one-sub-run-expr : run-one-lts.Need-sub-run-expr run-one-claims (run-one-at t) run-one.Post
   run-one-sub-run-expr c = search (oneRuns, needs)
@@ -912,7 +894,7 @@ module _ (t : ℕ) where
   run-stmts-mul-next c = search (memberRuns, needs)
 
   run-stmts-shared-slice-read-next : run-stmts-lts.Need-shared-slice-read-next run-stmts-claims (run-stmts-at t) run-stmts.Post run-stmts-Inv-loop run-stmts-μ-loop
-  run-stmts-shared-slice-read-next c = member-inside _ _ _ _ _ _ _ _ _ _ _ _ _ _ _ _ (c .before .before .before .before .before .before .before .before .before .loop .inv) (c .before .before .before .before .before .before .before .before .loop-test .taken) (c .before .before .before .before .before .before .before .before .before .before .before .before .before .pre .1)
+  run-stmts-shared-slice-read-next c = member-inside _ _ _ _ _ _ _ _ _ _ _ _ _ (c .before .before .before .before .before .before .before .before .before .loop .inv) (c .before .before .before .before .before .before .before .before .loop-test .taken) (c .before .before .before .before .before .before .before .before .before .before .before .before .before .pre .1)
 
   run-stmts-sub-left : run-stmts-lts.Need-sub-left run-stmts-claims (run-stmts-at t) run-stmts.Post run-stmts-Inv-loop run-stmts-μ-loop
   run-stmts-sub-left c = search (memberRuns, needs)
@@ -972,7 +954,7 @@ module _ (t : ℕ) where
   run-table-run-keys-requires c κs = search (tableRuns, needs)
 
   run-table-look-up-requires : run-table-lts.Need-look-up-requires run-table-claims (run-table-at t) run-table.Post
-  run-table-look-up-requires c κs = table-look _ _ _ _ _ _ _ _ _ _ _ _ _ (c .before .before .before .before .before .before .before .before .table-of .ensures) _ _ _ (c .before .before .before .run-keys .ensures) (c .before .before .before .before .before .before .before .before .before .before .before .before .pre .1)
+  run-table-look-up-requires c κs = table-look _ _ _ _ _ _ _ _ _ _ (c .before .before .before .before .before .before .before .before .table-of .ensures) _ _ _ (c .before .before .before .run-keys .ensures) (c .before .before .before .before .before .before .before .before .before .before .before .before .pre .1)
 
   run-table-enum-known-entry : run-table-lts.Need-enum-known-entry run-table-claims (run-table-at t) run-table.Post
   run-table-enum-known-entry c = search (tableRuns, needs)
@@ -980,35 +962,17 @@ module _ (t : ℕ) where
   run-table-enum-told : run-table-lts.Need-enum-told run-table-claims (run-table-at t) run-table.Post
   run-table-enum-told c = search (tableRuns, needs)
 
-  run-table-mul-run-action : run-table-lts.Need-mul-run-action run-table-claims (run-table-at t) run-table.Post
-  run-table-mul-run-action c = search (tableRuns, needs)
-
-  run-table-shared-slice-read-run-action : run-table-lts.Need-shared-slice-read-run-action run-table-claims (run-table-at t) run-table.Post
-  run-table-shared-slice-read-run-action c = search (tableRuns, needs)
-
-  run-table-add-run-action : run-table-lts.Need-add-run-action run-table-claims (run-table-at t) run-table.Post
-  run-table-add-run-action c = search (tableRuns, needs)
-
   run-table-run-action-requires : run-table-lts.Need-run-action-requires run-table-claims (run-table-at t) run-table.Post
-  run-table-run-action-requires c κs = (action-fall _ _ _ _ _ _ _ _ _ _ (c .before .before .before .before .before .before .before .before .before .before .before .before .before .before .before .before .before .before .pre .1) _ (c .before .before .before .before .before .before .before .before .before .before .before .before .before .before .before .before .before .before .pre .0), default-action _ _ _ _ _ _ _ _ _ _ _ _ _ (c .before .before .before .before .before .before .before .before .before .before .before .before .before .before .table-of .ensures) _ _ _ (c .before .before .before .before .before .before .before .before .before .run-keys .ensures) (c .before .before .before .before .before .before .before .before .before .before .before .before .before .before .before .before .before .before .pre .1) _ (c .before .before .before .before .before .look-up .ensures) (c .before .before .before .enum-told .given .1))
+  run-table-run-action-requires c κs = (action-fall _ _ _ _ _ _ _ (c .before .before .before .before .before .before .before .before .before .before .before .before .before .before .before .before .before .pre .1) _ (c .before .before .before .before .before .before .before .before .before .before .before .before .before .before .before .before .before .pre .0), default-action _ _ _ _ _ _ _ _ _ _ (c .before .before .before .before .before .before .before .before .before .before .before .before .before .table-of .ensures) _ _ _ (c .before .before .before .before .before .before .before .before .run-keys .ensures) (c .before .before .before .before .before .before .before .before .before .before .before .before .before .before .before .before .before .pre .1) _ (c .before .before .before .before .look-up .ensures) (c .before .before .enum-told .given .1))
 
   run-table-same-length : run-table-lts.Need-same-length run-table-claims (run-table-at t) run-table.Post
   run-table-same-length c = search (tableRuns, needs)
 
   run-table-returns : run-table-lts.Need-returns run-table-claims (run-table-at t) run-table.Post
-  run-table-returns c = default-runs _ _ _ _ _ _ _ _ _ _ _ _ _ (c .before .before .before .before .before .before .before .before .before .before .before .before .before .before .before .before .before .table-of .ensures) _ _ _ (c .before .before .before .before .before .before .before .before .before .before .before .before .run-keys .ensures) _ (c .before .before .before .before .before .before .before .before .look-up .ensures) _ _ _ (c .before .before .before .before .before .before .enum-told .given .1) (c .before .before .run-action .ensures)
-
-  run-table-mul-run-action-2 : run-table-lts.Need-mul-run-action-2 run-table-claims (run-table-at t) run-table.Post
-  run-table-mul-run-action-2 c = record { fits = omega (arith, entry-low _ _ _ _ _ _ _ _ _ _ _ _ _ (c .before .before .before .before .before .before .before .before .before .before .before .before .table-of .ensures) _ _ _ (c .before .before .before .before .before .before .before .run-keys .ensures) (c .before .before .before .before .before .before .before .before .before .before .before .before .before .before .before .before .pre .1) _ (c .before .before .before .look-up .ensures) _ (c .before .entry .given .1)) }
-
-  run-table-shared-slice-read-run-action-2 : run-table-lts.Need-shared-slice-read-run-action-2 run-table-claims (run-table-at t) run-table.Post
-  run-table-shared-slice-read-run-action-2 c = entry-inside _ _ _ _ _ _ _ _ _ _ _ _ _ (c .before .before .before .before .before .before .before .before .before .before .before .before .before .table-of .ensures) _ _ _ (c .before .before .before .before .before .before .before .before .run-keys .ensures) (c .before .before .before .before .before .before .before .before .before .before .before .before .before .before .before .before .before .pre .1) _ (c .before .before .before .before .look-up .ensures) _ (c .before .before .entry .given .1)
-
-  run-table-add-run-action-2 : run-table-lts.Need-add-run-action-2 run-table-claims (run-table-at t) run-table.Post
-  run-table-add-run-action-2 c = search (tableRuns, needs)
+  run-table-returns c = default-runs _ _ _ _ _ _ _ _ _ _ (c .before .before .before .before .before .before .before .before .before .before .before .before .before .before .before .before .table-of .ensures) _ _ _ (c .before .before .before .before .before .before .before .before .before .before .before .run-keys .ensures) _ (c .before .before .before .before .before .before .before .look-up .ensures) _ _ _ (c .before .before .before .before .before .enum-told .given .1) (c .before .before .run-action .ensures)
 
   run-table-run-action-requires-2 : run-table-lts.Need-run-action-requires-2 run-table-claims (run-table-at t) run-table.Post
-  run-table-run-action-requires-2 c κs = (action-fall _ _ _ _ _ _ _ _ _ _ (c .before .before .before .before .before .before .before .before .before .before .before .before .before .before .before .before .before .before .before .pre .1) _ (c .before .before .before .before .before .before .before .before .before .before .before .before .before .before .before .before .before .before .before .pre .0), entry-action _ _ _ _ _ _ _ _ _ _ _ _ _ (c .before .before .before .before .before .before .before .before .before .before .before .before .before .before .before .table-of .ensures) _ _ _ (c .before .before .before .before .before .before .before .before .before .before .run-keys .ensures) (c .before .before .before .before .before .before .before .before .before .before .before .before .before .before .before .before .before .before .before .pre .1) _ (c .before .before .before .before .before .before .look-up .ensures) _ (c .before .before .before .before .entry .given .1))
+  run-table-run-action-requires-2 c κs = (action-fall _ _ _ _ _ _ _ (c .before .before .before .before .before .before .before .before .before .before .before .before .before .before .before .before .before .before .pre .1) _ (c .before .before .before .before .before .before .before .before .before .before .before .before .before .before .before .before .before .before .pre .0), entry-action _ _ _ _ _ _ _ _ _ _ (c .before .before .before .before .before .before .before .before .before .before .before .before .before .before .table-of .ensures) _ _ _ (c .before .before .before .before .before .before .before .before .before .run-keys .ensures) (c .before .before .before .before .before .before .before .before .before .before .before .before .before .before .before .before .before .before .pre .1) _ (c .before .before .before .before .before .look-up .ensures) _ (c .before .before .before .entry .given .1))
 
   run-table-same-length-2 : run-table-lts.Need-same-length-2 run-table-claims (run-table-at t) run-table.Post
   run-table-same-length-2 c = search (tableRuns, needs)
@@ -1018,6 +982,9 @@ module _ (t : ℕ) where
 
   run-two-count-step-requires : run-two-lts.Need-count-step-requires run-two-claims (run-two-at t) run-two.Post
   run-two-count-step-requires c κs = search (twoRuns, needs)
+
+  run-two-add-first : run-two-lts.Need-add-first run-two-claims (run-two-at t) run-two.Post
+  run-two-add-first c = search (twoRuns, needs)
 
   run-two-sub-run-expr : run-two-lts.Need-sub-run-expr run-two-claims (run-two-at t) run-two.Post
   run-two-sub-run-expr c = search (twoRuns, needs)
@@ -1038,22 +1005,22 @@ module _ (t : ℕ) where
   run-two-sub-run-expr-2 c = search (twoRuns, needs)
 
   run-two-run-expr-requires-2 : run-two-lts.Need-run-expr-requires-2 run-two-claims (run-two-at t) run-two.Post
-  run-two-run-expr-requires-2 c κs = (two-fall _ _ _ _ _ _ _ _ _ _ _ _ (c .before .before .before .before .before .before .before .before .before .before .before .before .before .before .before .pre .1) _ (c .before .before .before .before .before .before .before .before .before .before .before .before .before .before .before .pre .0), two-right _ _ _ _ _ _ _ _ _ _ _ _ (c .before .before .before .before .before .before .before .before .before .before .before .before .before .before .before .pre .1) _ (c .before .before .before .before .before .before .before .before .before .before .count-step .ensures) _ _ _ (c .before .before .before .before .before .before .before .run-expr .ensures) _ (c .before .before .before .before .stops-early .ensures) (c .before .before .before .if1 .left) _ refl)
+  run-two-run-expr-requires-2 c κs = (two-fall _ _ _ _ _ _ _ _ _ (c .before .before .before .before .before .before .before .before .before .before .before .before .before .before .before .pre .1) _ (c .before .before .before .before .before .before .before .before .before .before .before .before .before .before .before .pre .0), two-right _ _ _ _ _ _ _ _ _ (c .before .before .before .before .before .before .before .before .before .before .before .before .before .before .before .pre .1) _ (c .before .before .before .before .before .before .before .before .before .before .count-step .ensures) _ _ _ (c .before .before .before .before .before .before .before .run-expr .ensures) _ (c .before .before .before .before .stops-early .ensures) (c .before .before .before .if1 .left) _ refl)
 
   run-two-two-requires : run-two-lts.Need-two-requires run-two-claims (run-two-at t) run-two.Post
-  run-two-two-requires c κs = two-on _ _ _ _ _ _ _ _ _ _ _ _ (c .before .before .before .before .before .before .before .before .before .before .before .before .before .before .before .before .before .before .pre .1) _ (c .before .before .before .before .before .before .before .before .before .before .before .before .before .count-step .ensures) _ _ _ (c .before .before .before .before .before .before .before .before .before .before .run-expr .ensures) _ (c .before .before .before .before .before .before .before .stops-early .ensures) (c .before .before .before .before .before .before .if1 .left) _ _ _ _ refl (c .before .before .run-expr2 .ensures)
+  run-two-two-requires c κs = two-on _ _ _ _ _ _ _ _ _ (c .before .before .before .before .before .before .before .before .before .before .before .before .before .before .before .before .before .before .pre .1) _ (c .before .before .before .before .before .before .before .before .before .before .before .before .before .count-step .ensures) _ _ _ (c .before .before .before .before .before .before .before .before .before .before .run-expr .ensures) _ (c .before .before .before .before .before .before .before .stops-early .ensures) (c .before .before .before .before .before .before .if1 .left) _ _ _ _ refl (c .before .before .run-expr2 .ensures)
 
   run-two-same-length : run-two-lts.Need-same-length run-two-claims (run-two-at t) run-two.Post
   run-two-same-length c = search (twoRuns, needs)
 
   run-two-returns : run-two-lts.Need-returns run-two-claims (run-two-at t) run-two.Post
-  run-two-returns c = two-stops _ _ _ _ _ _ _ _ _ _ _ _ (c .before .before .before .before .before .before .before .before .before .before .before .before .pre .1) _ (c .before .before .before .before .before .before .before .count-step .ensures) _ _ _ (c .before .before .before .before .run-expr .ensures) _ (c .before .stops-early .ensures) (c .if1 .taken)
+  run-two-returns c = two-stops _ _ _ _ _ _ _ _ _ (c .before .before .before .before .before .before .before .before .before .before .before .before .pre .1) _ (c .before .before .before .before .before .before .before .count-step .ensures) _ _ _ (c .before .before .before .before .run-expr .ensures) _ (c .before .stops-early .ensures) (c .if1 .taken)
 
   run-two-same-length-2 : run-two-lts.Need-same-length-2 run-two-claims (run-two-at t) run-two.Post
   run-two-same-length-2 c = search (twoRuns, needs)
 
   run-two-returns-2 : run-two-lts.Need-returns-2 run-two-claims (run-two-at t) run-two.Post
-  run-two-returns-2 c = two-runs _ _ _ _ _ _ _ _ _ _ _ _ (c .before .before .before .before .before .before .before .before .before .before .before .before .before .before .before .before .before .before .before .pre .1) _ (c .before .before .before .before .before .before .before .before .before .before .before .before .before .before .count-step .ensures) _ _ _ (c .before .before .before .before .before .before .before .before .before .before .before .run-expr .ensures) _ (c .before .before .before .before .before .before .before .before .stops-early .ensures) (c .before .before .before .before .before .before .before .if1 .left) _ _ _ _ refl (c .before .before .before .run-expr2 .ensures) _ (c .two .ensures)
+  run-two-returns-2 c = two-runs _ _ _ _ _ _ _ _ _ (c .before .before .before .before .before .before .before .before .before .before .before .before .before .before .before .before .before .before .before .pre .1) _ (c .before .before .before .before .before .before .before .before .before .before .before .before .before .before .count-step .ensures) _ _ _ (c .before .before .before .before .before .before .before .before .before .before .before .run-expr .ensures) _ (c .before .before .before .before .before .before .before .before .stops-early .ensures) (c .before .before .before .before .before .before .before .if1 .left) _ _ _ _ refl (c .before .before .before .run-expr2 .ensures) _ (c .two .ensures)
 
   run-value-count-step-requires : run-value-lts.Need-count-step-requires run-value-claims (run-value-at t) run-value.Post
   run-value-count-step-requires c κs = search (valueRuns, needs)
@@ -1096,11 +1063,14 @@ pub +run-action+run-apply+run-arg+run-args+run-assign+run-block+run-body+run-cal
     (λ t. run-action-lts.spec (run-action-claims t)
     (run-action-at t)
     run-action.Post
+    (run-action-mul-position t)
+    (run-action-shared-slice-read-position t)
     (run-action-add-f t)
     (run-action-add-f-2 t)
     (run-action-mul-f t)
     (run-action-shared-slice-read-f t)
     (run-action-head-of-requires t)
+    (run-action-add-copy t)
     (run-action-copy-requires t)
     (run-action-run-body-requires t)
     (run-action-after-call-requires t)
@@ -1191,7 +1161,6 @@ pub +run-action+run-apply+run-arg+run-args+run-assign+run-block+run-body+run-cal
     (run-call-part-run-body-start t)
     (run-call-part-run-body-end t)
     (run-call-run-body-requires t)
-    (run-call-add-finish-call t)
     (run-call-finish-call-requires t)
     (run-call-same-length t)
     (run-call-returns t))
@@ -1208,17 +1177,11 @@ pub +run-action+run-apply+run-arg+run-args+run-assign+run-block+run-body+run-cal
     run-expr.Post
     (run-expr-mul-tag t)
     (run-expr-shared-slice-read-tag t)
-    (run-expr-add-run-one t)
     (run-expr-run-one-requires t)
-    (run-expr-add-run-one-2 t)
     (run-expr-run-one-requires-2 t)
-    (run-expr-add-run-two t)
     (run-expr-run-two-requires t)
-    (run-expr-add-run-one-3 t)
     (run-expr-run-one-requires-3 t)
-    (run-expr-add-run-one-4 t)
     (run-expr-run-one-requires-4 t)
-    (run-expr-add-run-two-2 t)
     (run-expr-run-two-requires-2 t)
     (run-expr-run-value-requires t)
     (run-expr-run-leaf-requires t)
@@ -1242,7 +1205,7 @@ pub +run-action+run-apply+run-arg+run-args+run-assign+run-block+run-body+run-cal
     (run-if-at t)
     run-if.Post
     (run-if-count-step-requires t)
-    (run-if-sub-run-expr t)
+    (run-if-sub-inner t)
     (run-if-add-run-expr t)
     (run-if-run-expr-requires t)
     (run-if-add-first t)
@@ -1250,9 +1213,7 @@ pub +run-action+run-apply+run-arg+run-args+run-assign+run-block+run-body+run-cal
     (run-if-shared-slice-read-first t)
     (run-if-mul-second t)
     (run-if-shared-slice-read-second t)
-    (run-if-sub-run-stmt t)
     (run-if-run-stmt-requires t)
-    (run-if-sub-run-stmt-2 t)
     (run-if-run-stmt-requires-2 t)
     (run-if-same-length t)
     (run-if-returns t)
@@ -1262,9 +1223,8 @@ pub +run-action+run-apply+run-arg+run-args+run-assign+run-block+run-body+run-cal
     (run-keys-claims t)
     (run-keys-at t)
     run-keys.Post
-    (run-keys-add-run-expr t)
+    (run-keys-add-key t)
     (run-keys-run-expr-requires t)
-    (run-keys-add-next t)
     (run-keys-mul-next t)
     (run-keys-shared-slice-read-next t)
     (run-keys-add-run-keys t)
@@ -1279,6 +1239,7 @@ pub +run-action+run-apply+run-arg+run-args+run-assign+run-block+run-body+run-cal
     (run-one-at t)
     run-one.Post
     (run-one-count-step-requires t)
+    (run-one-add-first t)
     (run-one-sub-run-expr t)
     (run-one-run-expr-requires t)
     (run-one-one-requires t)
@@ -1355,15 +1316,9 @@ pub +run-action+run-apply+run-arg+run-args+run-assign+run-block+run-body+run-cal
     (run-table-look-up-requires t)
     (run-table-enum-known-entry t)
     (run-table-enum-told t)
-    (run-table-mul-run-action t)
-    (run-table-shared-slice-read-run-action t)
-    (run-table-add-run-action t)
     (run-table-run-action-requires t)
     (run-table-same-length t)
     (run-table-returns t)
-    (run-table-mul-run-action-2 t)
-    (run-table-shared-slice-read-run-action-2 t)
-    (run-table-add-run-action-2 t)
     (run-table-run-action-requires-2 t)
     (run-table-same-length-2 t)
     (run-table-returns-2 t))
@@ -1371,6 +1326,7 @@ pub +run-action+run-apply+run-arg+run-args+run-assign+run-block+run-body+run-cal
     (run-two-at t)
     run-two.Post
     (run-two-count-step-requires t)
+    (run-two-add-first t)
     (run-two-sub-run-expr t)
     (run-two-run-expr-requires t)
     (run-two-stops-early-requires t)

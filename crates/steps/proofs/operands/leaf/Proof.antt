@@ -10,32 +10,32 @@ mul-tag c = search (leaves, needs)
 shared-slice-read-tag : tie.Need-shared-slice-read-tag
 shared-slice-read-tag c = search (leaves, needs)
 
-add-t14 : tie.Need-add-t14
-add-t14 c = search (leaves, needs)
+add-t13 : tie.Need-add-t13
+add-t13 c = search (leaves, needs)
 
-mul-t15 : tie.Need-mul-t15
-mul-t15 c = search (leaves, needs)
+mul-t14 : tie.Need-mul-t14
+mul-t14 c = search (leaves, needs)
 
-shared-slice-read-t17 : tie.Need-shared-slice-read-t17
-shared-slice-read-t17 c = search (leaves, needs)
+shared-slice-read-t16 : tie.Need-shared-slice-read-t16
+shared-slice-read-t16 c = search (leaves, needs)
 
-add-t18 : tie.Need-add-t18
-add-t18 c = search (leaves, needs)
+add-t17 : tie.Need-add-t17
+add-t17 c = search (leaves, needs)
 
-mul-t19 : tie.Need-mul-t19
-mul-t19 c = search (leaves, needs)
+mul-t18 : tie.Need-mul-t18
+mul-t18 c = search (leaves, needs)
 
-shared-slice-read-t21 : tie.Need-shared-slice-read-t21
-shared-slice-read-t21 c = search (leaves, needs)
+shared-slice-read-t20 : tie.Need-shared-slice-read-t20
+shared-slice-read-t20 c = search (leaves, needs)
 
-add-t22 : tie.Need-add-t22
-add-t22 c = search (leaves, needs)
+add-t21 : tie.Need-add-t21
+add-t21 c = search (leaves, needs)
 
-mul-t23 : tie.Need-mul-t23
-mul-t23 c = search (leaves, needs)
+mul-t22 : tie.Need-mul-t22
+mul-t22 c = search (leaves, needs)
 
-shared-slice-read-t25 : tie.Need-shared-slice-read-t25
-shared-slice-read-t25 c = search (leaves, needs)
+shared-slice-read-t24 : tie.Need-shared-slice-read-t24
+shared-slice-read-t24 c = search (leaves, needs)
 
 add-valid-mark : tie.Need-add-valid-mark
 add-valid-mark c = search (leaves, needs)
@@ -70,15 +70,15 @@ leaf-spec =
     (tie.spec
     mul-tag
     shared-slice-read-tag
-    add-t14
-    mul-t15
-    shared-slice-read-t17
-    add-t18
-    mul-t19
-    shared-slice-read-t21
-    add-t22
-    mul-t23
-    shared-slice-read-t25
+    add-t13
+    mul-t14
+    shared-slice-read-t16
+    add-t17
+    mul-t18
+    shared-slice-read-t20
+    add-t21
+    mul-t22
+    shared-slice-read-t24
     add-valid-mark
     mul-valid-mark
     shared-slice-read-valid-mark

@@ -5,6 +5,9 @@ use borrow.Author.Needs.{needs}
 use Rattle.store.proofs.headers.set_valid.Statement.{statement}
 use Rattle.store.proofs.headers.set_valid.Tie as tie
 
+add-mark : tie.Need-add-mark
+add-mark c = record { fits = omega (arith, header-room _ _ _ (c .pre)) }
+
 mul-mark : tie.Need-mul-mark
 mul-mark c = record { fits = omega (arith, header-room _ _ _ (c .pre)) }
 
@@ -22,4 +25,5 @@ returns c = search (marks, needs)
 
 pub set-valid-spec : {M : Type 1} → statement M
 set-valid-spec =
-    tie.close (tie.spec mul-mark element-copy-out-mark mul-slots element-write-slots returns)
+    tie.close
+    (tie.spec add-mark mul-mark element-copy-out-mark mul-slots element-write-slots returns)

@@ -5,6 +5,9 @@ use borrow.Author.Needs.{needs}
 use Rattle.store.proofs.headers.valid_mark.Statement.{statement}
 use Rattle.store.proofs.headers.valid_mark.Tie as tie
 
+add-result : tie.Need-add-result
+add-result c = record { fits = omega (arith, header-room _ _ _ (c .pre)) }
+
 mul-result : tie.Need-mul-result
 mul-result c = record { fits = omega (arith, header-room _ _ _ (c .pre)) }
 
@@ -23,4 +26,10 @@ returns c = search (marks, needs)
 pub valid-mark-spec : {M : Type 1} → statement M
 valid-mark-spec =
     tie.close
-    (tie.spec mul-result element-copy-out-result mul-result-2 element-copy-out-result-2 returns)
+    (tie.spec
+    add-result
+    mul-result
+    element-copy-out-result
+    mul-result-2
+    element-copy-out-result-2
+    returns)
