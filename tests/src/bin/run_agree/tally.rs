@@ -1,0 +1,60 @@
+//! Files compared, and what came of it.
+
+use crate::lent::Loan;
+use second::answer::{marked, Answer, Signal};
+use std::collections::BTreeMap;
+use std::fmt::Display;
+
+/// How often each answer occurred, how often the proved code ran, and how often it differed.
+pub struct Tally {
+    loans: Vec<Loan>,
+    answers: BTreeMap<(&'static str, u8), u64>,
+    runs: u64,
+    differences: u64,
+}
+
+impl Tally {
+    pub fn new() -> Tally {
+        Tally { loans: Loan::all(), answers: BTreeMap::new(), runs: 0, differences: 0 }
+    }
+
+    /// Runs the file in every way of lending.
+    pub fn compare(&mut self, name: &dyn Display, bytes: &[u8]) {
+        let answer = marked(bytes);
+        *self.answers.entry(kind(&answer)).or_default() += 1;
+        for loan in &mut self.loans {
+            let Some(lent) = loan.lent(&answer) else { continue };
+            self.runs += 1;
+            if let Some(difference) = loan.difference(bytes, &answer, lent) {
+                self.differences += 1;
+                println!("{name}, {difference}");
+            }
+        }
+    }
+
+    pub fn print(&self) {
+        for ((word, number), count) in &self.answers {
+            match number {
+                0 => println!("{word}: {count}"),
+                _ => println!("{word} {number:2}: {count}"),
+            }
+        }
+        println!("{} runs, {} differences", self.runs, self.differences);
+    }
+
+    /// Whether there was something to compare and no difference.
+    pub fn agrees(&self) -> bool {
+        self.differences == 0 && self.runs > 0
+    }
+}
+
+/// The answer's word, and its number if it is a refusal.
+fn kind(answer: &Answer) -> (&'static str, u8) {
+    match answer {
+        Answer::Refused(refusal) => ("refused", refusal.number),
+        Answer::Finished { signal: Signal::Done, .. } => ("done", 0),
+        Answer::Finished { signal: Signal::Exit, .. } => ("exit", 0),
+        Answer::Stuck => ("stuck", 0),
+        Answer::TooLong => ("too long", 0),
+    }
+}
