@@ -1,4 +1,4 @@
-//! The verified run, as C calls it.
+//! The verified judge and run, as C calls them.
 
 /// The five numbers of an answer.
 pub type Numbers = [u64; 5];
@@ -7,6 +7,7 @@ pub type Numbers = [u64; 5];
 const POISON: Numbers = [u64::MAX; 5];
 
 extern "C" {
+    fn nentuvar_judge(bytes: *const u8, length: usize, answer: *mut Numbers);
     fn nentuvar_run(
         bytes: *const u8,
         length: usize,
@@ -16,6 +17,12 @@ extern "C" {
         room: usize,
         answer: *mut Numbers,
     );
+}
+
+pub fn judge(bytes: &[u8]) -> Numbers {
+    let mut answer = POISON;
+    unsafe { nentuvar_judge(bytes.as_ptr(), bytes.len(), &mut answer) };
+    answer
 }
 
 /// Run with the first `count` result slots and the first `room` working slots.

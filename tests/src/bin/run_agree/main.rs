@@ -1,6 +1,6 @@
-//! The verified run beside the second interpreter's, on the corpus, on every change of one byte in its shortest files, on
-//! all strings of at most two bytes, on the deepest files and on generated ones. `tests/run-agree` links it to the proved
-//! code.
+//! The verified judge and run beside the second interpreter's, on the corpus, on every change of one byte in its
+//! shortest files, on all strings of at most two bytes, on the deepest files and on generated ones. `tests/run-agree`
+//! links it to the proved code.
 //!
 //! ```text
 //! run_agree SEED COUNT [EXAMPLE...]   COUNT generated files of SEED, the examples, and the others

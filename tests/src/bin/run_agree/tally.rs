@@ -1,27 +1,36 @@
 //! Files compared, and what came of it.
 
 use crate::lent::Loan;
+use crate::library;
+use crate::wanted::verdict;
 use second::answer::{marked, Answer, Signal};
 use std::collections::BTreeMap;
 use std::fmt::Display;
 
-/// How often each answer occurred, how often the proved code ran, and how often it differed.
+/// How often each answer occurred, how many files were judged, how often they were run, and how often that differed.
 pub struct Tally {
     loans: Vec<Loan>,
     answers: BTreeMap<(&'static str, u8), u64>,
+    files: u64,
     runs: u64,
     differences: u64,
 }
 
 impl Tally {
     pub fn new() -> Tally {
-        Tally { loans: Loan::all(), answers: BTreeMap::new(), runs: 0, differences: 0 }
+        Tally { loans: Loan::all(), answers: BTreeMap::new(), files: 0, runs: 0, differences: 0 }
     }
 
-    /// Runs the file in every way of lending.
+    /// Judges the file and runs it in every way of lending.
     pub fn compare(&mut self, name: &dyn Display, bytes: &[u8]) {
         let answer = marked(bytes);
         *self.answers.entry(kind(&answer)).or_default() += 1;
+        self.files += 1;
+        let told = library::judge(bytes);
+        if verdict(&answer) != Some(told) {
+            self.differences += 1;
+            println!("{name}: the judge says {told:?}, the second interpreter {answer:?}");
+        }
         for loan in &mut self.loans {
             let Some(lent) = loan.lent(&answer) else { continue };
             self.runs += 1;
@@ -39,7 +48,7 @@ impl Tally {
                 _ => println!("{word} {number:2}: {count}"),
             }
         }
-        println!("{} runs, {} differences", self.runs, self.differences);
+        println!("{} files judged, {} runs, {} differences", self.files, self.runs, self.differences);
     }
 
     /// Whether there was something to compare and no difference.

@@ -1,4 +1,4 @@
-//! What a verified run has to answer and to leave, by the second interpreter's answer.
+//! What the verified calls have to answer and to leave, by the second interpreter's answer.
 
 use crate::lent::Lent;
 use crate::library::Numbers;
@@ -14,7 +14,16 @@ pub struct Outcome<'a> {
     pub working: &'a [u64],
 }
 
-/// The outcome with so many slots; none if this is no answer to a judged file.
+/// The judge's; none if this is no answer to a judged file.
+pub fn verdict(answer: &Answer) -> Option<Numbers> {
+    match answer {
+        Answer::Refused(refusal) if refusal.number <= 12 => Some(refused(refusal.number, refusal.place)),
+        Answer::Finished { ceiling, store, .. } => Some([1, *ceiling, store.len() as u64, 0, 0]),
+        _ => None,
+    }
+}
+
+/// A run's with so many slots; none if this is no answer to a judged file.
 pub fn outcome(answer: &Answer, lent: Lent) -> Option<Outcome<'_>> {
     match answer {
         Answer::Refused(refusal) if refusal.number <= 12 => Some(untouched(refusal.number, refusal.place)),
@@ -33,6 +42,10 @@ pub fn outcome(answer: &Answer, lent: Lent) -> Option<Outcome<'_>> {
     }
 }
 
+fn refused(number: u8, place: usize) -> Numbers {
+    [0, u64::from(number), place as u64, 0, 0]
+}
+
 fn untouched(number: u8, place: usize) -> Outcome<'static> {
-    Outcome { answer: [0, u64::from(number), place as u64, 0, 0], results: &[], working: &[] }
+    Outcome { answer: refused(number, place), results: &[], working: &[] }
 }
