@@ -41,6 +41,15 @@ impl Tally {
         }
     }
 
+    pub fn add(&mut self, other: Tally) {
+        for (answer, count) in other.answers {
+            *self.answers.entry(answer).or_default() += count;
+        }
+        self.files += other.files;
+        self.runs += other.runs;
+        self.differences += other.differences;
+    }
+
     pub fn print(&self) {
         for ((word, number), count) in &self.answers {
             match number {
