@@ -100,13 +100,12 @@ module _ (nums ends directory keys : List ℕ) (t table at : ℕ) where
     pub entry-next : at + 1 < 2 ^ 64
     entry-next = omega (arith, entry-inside, h .numbers)
 
-    pub match-asked : getD nums at 0 ≡ t
-        → AsksMatch nums ends directory keys (table + 1) (getD nums table 0) (168 + 4 * t) 0 (at + 1)
-    match-asked q = record {
+    pub match-asked : AsksMatch nums ends directory keys (table + 1) (getD nums table 0) (168 + 4 * t) 0 (at + 1)
+    match-asked = record {
       keyList = h .tableAt .keys;
       worked = h .worked;
       patterns = h .entry .patterns;
-      stand = own-patterns (h .sought) q;
+      stand = own-patterns (h .sought) (h .own);
       numbers = h .numbers;
       room = h .room;
       slots = omega (arith, h .few, h .sought .stands .keyCount .atMost, h .sought .stands .keyCount .holds .is);
@@ -114,14 +113,17 @@ module _ (nums ends directory keys : List ℕ) (t table at : ℕ) where
     }
 
   module _ (longest : Bool) (best : Best) where
-    pub step-other : (getD nums at 0 ≡ t → ⊥) → TellsStep nums ends directory keys t table longest at best best
+    step-other : (getD nums at 0 ≡ t → ⊥) → TellsStep nums ends directory keys t table longest at best best
     step-other n = record {
       told = λ P T ws e h f s. rw (other-alone t e (λ q. n (h .entryStands .number .is ∙ q)), look-none longest ws f) s;
     }
 
-    module _ (q : getD nums at 0 ≡ t) (m : Match)
+    module _ (h : AsksStep nums ends directory keys t table at) (m : Match)
         (u : TellsMatch nums ends directory keys (table + 1) (getD nums table 0) (168 + 4 * t) 0 (at + 1) m)
       where
+        abbrev q : getD nums at 0 ≡ t
+        q = h .own
+
         pub step-unmatched : m ≡ No → TellsStep nums ends directory keys t table longest at best best
         step-unmatched n = record { told = go }
           where
@@ -131,11 +133,11 @@ module _ (nums ends directory keys : List ℕ) (t table at : ℕ) where
             go : (P : Program) (T : Table) (ws : List Worked) (e : Lists.Entry)
                 → Sought nums ends directory keys t table at P T ws e → (f : rules.Found) → BestStands nums f best
                 → BestStands nums (lookUp longest ws f (entriesOf t (e ∷ []))) best
-            go P T ws e h f s =
-                let own : e .table ≡ t = sym (h .entryStands .number .is) ∙ q in
-                let k : matchesAll ws (e .patterns) ≡ false
-                = missed (rw n at (u .told (T .keys) ws (e .patterns) (own-patterns h q))) in
-                rw (own-alone t e own, look-unmatched longest ws f e [] k, look-none longest ws f) s
+            go P T ws e k f s =
+                let own : e .table ≡ t = sym (k .entryStands .number .is) ∙ q in
+                let m : matchesAll ws (e .patterns) ≡ false
+                = missed (rw n at (u .told (T .keys) ws (e .patterns) (own-patterns k q))) in
+                rw (own-alone t e own, look-unmatched longest ws f e [] m, look-none longest ws f) s
 
         pub step-matched : (prefix next : ℕ) (r : Best) → m ≡ Yes prefix next → TellsBetter longest best next prefix r
             → TellsStep nums ends directory keys t table longest at best r
@@ -148,16 +150,16 @@ module _ (nums ends directory keys : List ℕ) (t table at : ℕ) where
             go : (P : Program) (T : Table) (ws : List Worked) (e : Lists.Entry)
                 → Sought nums ends directory keys t table at P T ws e → (f : rules.Found) → BestStands nums f best
                 → BestStands nums (lookUp longest ws f (entriesOf t (e ∷ []))) r
-            go P T ws e h f s =
-                let own : e .table ≡ t = sym (h .entryStands .number .is) ∙ q in
-                let k : (matchesAll ws (e .patterns) ≡ true)
+            go P T ws e k f s =
+                let own : e .table ≡ t = sym (k .entryStands .number .is) ∙ q in
+                let m : (matchesAll ws (e .patterns) ≡ true)
                 × ((prefix ≡ prefixOf (e .patterns)) × (next ≡ at + 1 + patternsSize (e .patterns)))
-                = all (rw n at (u .told (T .keys) ws (e .patterns) (own-patterns h q))) in
-                let args : next + 1 ≡ at + 2 + patternsSize (e .patterns) = omega (arith, k .1 .1) in
+                = all (rw n at (u .told (T .keys) ws (e .patterns) (own-patterns k q))) in
+                let args : next + 1 ≡ at + 2 + patternsSize (e .patterns) = omega (arith, m .1 .1) in
                 let this : BestStands nums (rules.found e) (Entry next prefix)
                 =
-                entry {e = e} {action = next} (rw (k .1 .1) (h .entryStands .position)) (rw args (h .entryStands .arguments)) (k .1 .0) in
-                rw (own-alone t e own, look-matched longest ws f e [] (k .0), look-none longest ws (better longest f e))
+                entry {e = e} {action = next} (rw (m .1 .1) (k .entryStands .position)) (rw args (k .entryStands .arguments)) (m .1 .0) in
+                rw (own-alone t e own, look-matched longest ws f e [] (m .0), look-none longest ws (better longest f e))
                 (b .told nums f e s this)
 
 pub ruleset steps = (
@@ -167,7 +169,6 @@ pub ruleset steps = (
   table-next,
   entry-next,
   match-asked,
-  step-other,
   step-unmatched,
   step-matched,
 )
@@ -271,25 +272,30 @@ module _ (nums ends directory keys : List ℕ) (t table i left : ℕ) where
         first-of nums ends directory keys t table i left (h .program) (h .tableAt) (h .worked) (h .entryList)
         (h .sought) more
 
-    pub slot-inside : i < 200
+    slot-inside : i < 200
     slot-inside = omega (arith, h .slots, more)
 
-    pub slot-next : i + 1 < 2 ^ 64
+    slot-next : i + 1 < 2 ^ 64
     slot-next = omega (arith, h .slots, more)
 
-    pub step-asked : AsksStep nums ends directory keys t table (getD directory i 0)
-    step-asked = record {
+    entry-held : getD directory i 0 < length nums
+    entry-held = asked-first .first .entryStands .number .inside
+
+    step-asked : getD nums (getD directory i 0) 0 ≡ t
+        → AsksStep nums ends directory keys t table (getD directory i 0)
+    step-asked q = record {
       program = h .program;
       tableAt = h .tableAt;
       worked = h .worked;
       entry = asked-first .entry;
       sought = asked-first .first;
+      own = q;
       numbers = h .numbers;
       room = h .room;
       few = h .few;
     }
 
-    pub look-asked : AsksLook nums ends directory keys t table (i + 1) (left - 1)
+    look-asked : AsksLook nums ends directory keys t table (i + 1) (left - 1)
     look-asked = record {
       program = h .program;
       tableAt = h .tableAt;
@@ -303,7 +309,7 @@ module _ (nums ends directory keys : List ℕ) (t table i left : ℕ) where
     }
 
   module _ (longest : Bool) (best : Best) where
-    pub look-ended : left ≡ 0 → TellsLook nums ends directory keys t table longest i left best best
+    look-ended : left ≡ 0 → TellsLook nums ends directory keys t table longest i left best best
     unfolding lookUp entriesOf
     look-ended e = record { told = λ P T ws es h f s. go ws es (h .counts) f s }
       where
@@ -312,7 +318,7 @@ module _ (nums ends directory keys : List ℕ) (t table i left : ℕ) where
         go ws [] c f s = s
         go ws (x ∷ es) c f s = absurd (omega (arith, e, c))
 
-    pub look-settled : (a : Best) (b : Bool) → (left ≡ 0 → ⊥)
+    look-settled : (a : Best) (b : Bool) → (left ≡ 0 → ⊥)
         → TellsStep nums ends directory keys t table longest (getD directory i 0) best a → b ≡ settledAs longest a
         → b ≡ true → TellsLook nums ends directory keys t table longest i left best a
     look-settled a b more u q k =
@@ -331,7 +337,7 @@ module _ (nums ends directory keys : List ℕ) (t table i left : ℕ) where
             )
             here
 
-    pub look-further : (a b r : Best) → (left ≡ 0 → ⊥)
+    look-further : (a b r : Best) → (left ≡ 0 → ⊥)
         → TellsStep nums ends directory keys t table longest (getD directory i 0) best a
         → TellsLook nums ends directory keys t table longest (i + 1) (left - 1) a b → b ≡ r
         → TellsLook nums ends directory keys t table longest i left best r
@@ -346,7 +352,66 @@ module _ (nums ends directory keys : List ℕ) (t table i left : ℕ) where
             (v .told P T ws (o .others) (o .rest) (lookUp longest ws f (entriesOf t (o .entry ∷ [])))
             (u .told P T ws (o .entry) (o .first) f s))
 
-pub ruleset looks = (slot-inside, slot-next, step-asked, look-asked, look-ended, look-settled, look-further)
+-- the loop: what is told of the entries that are left is told of all
+pub record Looking (nums ends directory keys : List ℕ) (t table : ℕ) (longest : Bool) (i left : ℕ) (best : Best)
+    (slot rest : ℕ) (found : Best) : Type 0 where
+  pub asks : AsksLook nums ends directory keys t table slot rest
+  pub on : (r : Best) → TellsLook nums ends directory keys t table longest slot rest found r
+      → TellsLook nums ends directory keys t table longest i left best r
+
+module _ (nums ends directory keys : List ℕ) (t table : ℕ) (longest : Bool) (i left : ℕ) (best : Best) where
+  pub looking-start : AsksLook nums ends directory keys t table i left
+      → Looking nums ends directory keys t table longest i left best i left best
+  looking-start a = record { asks = a; on = λ r h. h }
+
+  module _ (slot rest : ℕ) (found : Best)
+      (h : Looking nums ends directory keys t table longest i left best slot rest found) where
+    pub looking-ended : rest ≡ 0 → TellsLook nums ends directory keys t table longest i left best found
+    looking-ended e = h .on found (look-ended nums ends directory keys t table slot rest longest found e)
+
+    module _ (more : rest ≡ 0 → ⊥) where
+      pub looking-inside : slot < 200
+      looking-inside = slot-inside nums ends directory keys t table slot rest (h .asks) more
+
+      pub looking-next : slot + 1 < 2 ^ 64
+      looking-next = slot-next nums ends directory keys t table slot rest (h .asks) more
+
+      pub looking-held : getD directory slot 0 < length nums
+      looking-held = entry-held nums ends directory keys t table slot rest (h .asks) more
+
+      pub looking-step : getD nums (getD directory slot 0) 0 ≡ t
+          → AsksStep nums ends directory keys t table (getD directory slot 0)
+      looking-step q = step-asked nums ends directory keys t table slot rest (h .asks) more q
+
+      pub looking-on : (a : Best) → TellsStep nums ends directory keys t table longest (getD directory slot 0) found a
+          → Looking nums ends directory keys t table longest i left best (slot + 1) (rest - 1) a
+      looking-on a u = record {
+        asks = look-asked nums ends directory keys t table slot rest (h .asks) more;
+        on = λ r k. h .on r (look-further nums ends directory keys t table slot rest longest found a r r more u k refl);
+      }
+
+      pub looking-other : (getD nums (getD directory slot 0) 0 ≡ t → ⊥)
+          → Looking nums ends directory keys t table longest i left best (slot + 1) (rest - 1) found
+      looking-other n = looking-on found
+          (step-other nums ends directory keys t table (getD directory slot 0) longest found n)
+
+      pub looking-settled : (a : Best) (b : Bool)
+          → TellsStep nums ends directory keys t table longest (getD directory slot 0) found a
+          → b ≡ settledAs longest a → b ≡ true → TellsLook nums ends directory keys t table longest i left best a
+      looking-settled a b u q k =
+          h .on a (look-settled nums ends directory keys t table slot rest longest found a b more u q k)
+
+pub ruleset looks = (
+  looking-start,
+  looking-ended,
+  looking-inside,
+  looking-next,
+  looking-held,
+  looking-step,
+  looking-on,
+  looking-other,
+  looking-settled,
+)
 
 -- the whole look-up
 module _ (nums ends directory keys : List ℕ) (t table : ℕ) where

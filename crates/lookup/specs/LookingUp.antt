@@ -51,7 +51,7 @@ pub record TellsBetter (longest : Bool) (best : Best) (action prefix : ℕ) (r :
   pub told : (nums : List ℕ) (f : rules.Found) (e : Lists.Entry) → BestStands nums f best
       → BestStands nums (rules.found e) (Entry action prefix) → BestStands nums (better longest f e) r
 
--- a table, its keys as they were worked out, and an entry of any table
+-- a table, its keys as they were worked out, and an entry
 pub record Sought (nums ends directory keys : List ℕ) (t table at : ℕ) (P : Program) (T : Table) (ws : List Worked)
     (e : Lists.Entry) : Type 0 where
   pub tableIs : getElem? (P .tables) t ≡ some T
@@ -66,6 +66,7 @@ pub record AsksStep (nums ends directory keys : List ℕ) (t table at : ℕ) : T
   pub worked : List Worked
   pub entry : Lists.Entry
   pub sought : Sought nums ends directory keys t table at program tableAt worked entry
+  pub own : getD nums at 0 ≡ t
   pub numbers : length nums ≤ mostBytes
   pub room : length nums ≤ length ends
   pub few : t + 1 ≤ mostTables

@@ -68,7 +68,7 @@ fn better(longest: bool, best: Best, action: usize, prefix: u64) -> Best
     }
 }
 
-// What is found once an entry of any table is looked at.
+// What is found once an entry of the table is looked at.
 fn step(
     nums: &[u64],
     ends: &[u64],
@@ -83,25 +83,21 @@ fn step(
     requires { ⌜ AsksStep (now nums) (now ends) (now directory) (now keys) t table at ⌝ }
     ensures { λ r. ⌜ TellsStep (now (nums .entry)) (now (ends .entry)) (now (directory .entry)) (now (keys .entry)) t table longest at best r ⌝ }
 {
-    if nums[at] == t {
-        let slot = WIDTHS + MOST_KEYS * t as usize;
-        let keyed = match_from(
-            nums,
-            ends,
-            directory,
-            keys,
-            table + 1,
-            nums[table],
-            slot,
-            0,
-            at + 1,
-        );
-        match keyed {
-            Match::Yes { prefix, next } => better(longest, best, next, prefix),
-            Match::No => best,
-        }
-    } else {
-        best
+    let slot = WIDTHS + MOST_KEYS * t as usize;
+    let keyed = match_from(
+        nums,
+        ends,
+        directory,
+        keys,
+        table + 1,
+        nums[table],
+        slot,
+        0,
+        at + 1,
+    );
+    match keyed {
+        Match::Yes { prefix, next } => better(longest, best, next, prefix),
+        Match::No => best,
     }
 }
 
@@ -118,7 +114,8 @@ fn settled(longest: bool, found: Best) -> bool
     }
 }
 
-// What is found once so many entries are looked at, whose places stand from slot `i` on.
+// What is found once so many entries are looked at, whose places stand from slot `i` on. Those of other tables are passed
+// over by their table's number.
 pub(crate) fn look_from(
     nums: &[u64],
     ends: &[u64],
@@ -134,30 +131,19 @@ pub(crate) fn look_from(
     requires { ⌜ AsksLook (now nums) (now ends) (now directory) (now keys) t table i left ⌝ }
     ensures { λ r. ⌜ TellsLook (now (nums .entry)) (now (ends .entry)) (now (directory .entry)) (now (keys .entry)) t table longest i left best r ⌝ }
 {
-    if left == 0 {
-        best
-    } else {
-        let at = directory[i] as usize;
-        let found = step(nums, ends, directory, keys, t, table, longest, at, best);
-        if settled(longest, found) {
-            found
-        } else {
-            let rest = look_from(
-                nums,
-                ends,
-                directory,
-                keys,
-                t,
-                table,
-                longest,
-                i + 1,
-                left - 1,
-                found,
-            );
-            match rest {
-                Best::Entry { action, prefix } => Best::Entry { action, prefix },
-                Best::Nothing => Best::Nothing,
+    let mut found = best;
+    let mut slot = i;
+    let mut rest = left;
+    while rest != 0 {
+        let at = directory[slot] as usize;
+        if nums[at] == t {
+            found = step(nums, ends, directory, keys, t, table, longest, at, found);
+            if settled(longest, found) {
+                return found;
             }
         }
+        slot += 1;
+        rest -= 1;
     }
+    found
 }

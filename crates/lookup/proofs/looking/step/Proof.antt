@@ -4,12 +4,6 @@ use borrow.Author.Needs.{needs}
 use Rattle.lookup.proofs.looking.step.Statement.{statement}
 use Rattle.lookup.proofs.looking.step.Tie as tie
 
-mul-if1 : tie.Need-mul-if1
-mul-if1 c = search (steps, needs)
-
-shared-slice-read-if1 : tie.Need-shared-slice-read-if1
-shared-slice-read-if1 c = search (steps, needs)
-
 mul-slot : tie.Need-mul-slot
 mul-slot c = search (steps, needs)
 
@@ -46,15 +40,10 @@ returns c = search (steps, needs)
 returns-2 : tie.Need-returns-2
 returns-2 c = search (steps, needs)
 
-returns-3 : tie.Need-returns-3
-returns-3 c = search (steps, needs)
-
 pub step-spec : {M : Type 1} → statement M
 step-spec =
     tie.close
     (tie.spec
-    mul-if1
-    shared-slice-read-if1
     mul-slot
     add-slot
     add-match-from
@@ -66,5 +55,4 @@ step-spec =
     better-requires
     enum-told
     returns
-    returns-2
-    returns-3)
+    returns-2)
