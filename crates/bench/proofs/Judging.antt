@@ -4,7 +4,7 @@ use mathlib.Core.List.{List, [], _∷_}
 use mathlib.Core.Path.{_≡_, sym, ap, _∙_}
 use Prim.Native.Nat.{ℕ, _≤_}
 use native.Mathlib.Omega.{arith}
-use lib.ListN.{length, take, length-take}
+use lib.ListN.{length, take}
 use Rattle.rules.specs.declared.Refusal.{Refusal}
 use Rattle.rules.specs.declared.ReadAnswer.{ReadAnswer}
 use Rattle.rules.specs.declared.ReadAnswer.the-variants.{Count, Unread}
@@ -15,6 +15,7 @@ use Rattle.rules.specs.Answers.{Bench, judging, placed, judgedStream, judged, t
 use Rattle.rules.proofs.Codec.{read-count, read-most}
 use Rattle.numbers.specs.Parts.{Roomy}
 use Rattle.numbers.specs.Promises.{Reads}
+use Rattle.numbers.proofs.Room.{part-whole}
 use Rattle.numbers.proofs.Outcomes.{Numbered, read-numbered, numbers-within, read-broken}
 use Rattle.judge.specs.declared.Verdict.{Verdict}
 use Rattle.judge.specs.declared.Verdict.the-variants as verdict
@@ -62,9 +63,6 @@ pub ruleset verdicts = (numbers-few, numbers-accepted, numbers-refused)
 -- what reading leaves for the judge
 module _ (bytes slots : List ℕ) (r : ReadAnswer) (left : List ℕ) (p : Reads bytes slots r left) where
   module _ (count : ℕ) (e : r ≡ Count count) where
-    pub read-whole : count ≡ length (take count left)
-    read-whole = omega (arith, length-take count left, numbers-within bytes slots r left count p e)
-
     pub read-numbers : streamOf bytes ≡ numbers (take count left)
     read-numbers =
         let n : Numbered bytes slots count left = read-numbered bytes slots r left count p e in
@@ -75,4 +73,4 @@ module _ (bytes slots : List ℕ) (r : ReadAnswer) (left : List ℕ) (p : Reads 
   unfolding ofJudge ofRefusal judgeSays judged judgedStream toldByJudge
   read-refused room refusal e = rw (read-broken bytes slots r left refusal p room e)
 
-pub ruleset readings = (numbers-within, read-whole, read-numbers, read-refused)
+pub ruleset readings = (numbers-within, part-whole, read-numbers, read-refused)

@@ -1,10 +1,9 @@
 -- What is printed of a bench file is what its run answered and left, where it was lent slots enough for every file.
-use mathlib.Core.List.{List, _++_}
-use mathlib.Core.Path.{_≡_, refl, sym, ap, _∙_}
+use mathlib.Core.List.{List}
+use mathlib.Core.Path.{_≡_, refl, sym, _∙_}
 use Prim.Native.Nat.{ℕ, _≤_}
 use native.Mathlib.Omega.{arith}
-use lib.ListN.{length, take, drop, length-append, length-take}
-use lib.Seq.{take-at}
+use lib.ListN.{length, take}
 use Rattle.rules.specs.declared.Refusal.{Refusal}
 use Rattle.rules.specs.declared.Signal.{Signal}
 use Rattle.rules.specs.declared.RunAnswer.{RunAnswer}
@@ -12,30 +11,17 @@ use Rattle.rules.specs.declared.RunAnswer.the-variants.{Ended, Unrun}
 use Rattle.rules.specs.declared.WriteAnswer.{WriteAnswer}
 use Rattle.rules.specs.Ceiling.{ceilingOf}
 use Rattle.rules.specs.Lists.{Cell, slotsOf}
-use Rattle.rules.specs.Answers.{Bench, ofRefusal, ofRun, filled, Judged, accepted, refused, judged, ended, workingSlots, runWith, toldWith, toldByRun, runOutcome, runSays, fileOutcome}
+use Rattle.rules.specs.Answers.{Bench, ofRefusal, ofRun, Judged, accepted, refused, judged, ended, workingSlots, runWith, toldWith, toldByRun, runOutcome, runSays, fileOutcome}
 use Rattle.rules.specs.Lines.{refusedLine, linesOf, printed}
 use Rattle.rules.proofs.Fits.{StoreFits}
 use Rattle.rules.proofs.Accepted.{judged-ok}
 use Rattle.rules.proofs.Limits.{store-limited}
 use Rattle.rules.proofs.Same.{run-same}
-use Rattle.numbers.proofs.Room.{filled-there}
+use Rattle.numbers.proofs.Room.{First, first-of, part-whole}
 use Rattle.store.specs.Mirrors.{mostStored}
 use Rattle.lines.specs.Promises.{Prints}
 use Rattle.bench.specs.Runs.{RunsFile}
 use Rattle.bench.proofs.Ending.{EndsWell, ends-well}
-
--- slots that took a list have it first
-record First (ns slots : List ℕ) : Type 0 where
-  within : length ns ≤ length slots
-  is : take (length ns) slots ≡ ns
-
-first-of : (ns slots slots′ : List ℕ) → length ns ≤ length slots → slots′ ≡ filled ns slots → First ns slots′
-first-of ns slots slots′ h e =
-    let there : slots′ ≡ ns ++ drop (length ns) slots = e ∙ filled-there ns slots h in
-    record {
-      within = omega (arith, ap length there, length-append ns (drop (length ns) slots));
-      is = rw there (take-at ns (drop (length ns) slots) (length ns) refl);
-    }
 
 module _ (bytes results results′ working working′ : List ℕ) (r : RunAnswer) (room : mostStored ≤ length results)
     (frames : workingSlots ≤ length working) (p : RunsFile bytes results results′ working working′ r) where
@@ -99,11 +85,6 @@ module _ (bytes results results′ working working′ : List ℕ) (r : RunAnswer
       → size ≤ length results′
   shown-within signal steps ceiling size e = shown signal steps ceiling size e (judged bytes) refl .within
 
-  pub shown-whole : (signal : Signal) (steps ceiling size : ℕ) → r ≡ Ended signal steps ceiling size
-      → size ≡ length (take size results′)
-  shown-whole signal steps ceiling size e =
-      omega (arith, length-take size results′, shown-within signal steps ceiling size e)
-
   pub shown-ended : (signal : Signal) (steps ceiling size : ℕ) → r ≡ Ended signal steps ceiling size
       → (lent left : List ℕ) (w : WriteAnswer) → Prints (linesOf (ended signal steps ceiling (take size results′))) lent w left
       → Prints (printed bytes) lent w left
@@ -127,4 +108,4 @@ module _ (bytes results results′ working working′ : List ℕ) (r : RunAnswer
       → Prints (refusedLine (x .number) (x .place)) lent w left → Prints (printed bytes) lent w left
   shown-refused x e lent left w q = rw (shown-line x e (judged bytes) refl) q
 
-pub ruleset printings = (shown-within, shown-whole, shown-ended, shown-refused)
+pub ruleset printings = (shown-within, part-whole, shown-ended, shown-refused)

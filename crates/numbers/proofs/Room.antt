@@ -1,13 +1,13 @@
 -- Room for a list: an answer other than a refusal says that there is room, and a refusal that the slots are as found.
 use mathlib.Core.Bool.{Bool, true, false}
 use mathlib.Core.List.{List, [], _∷_, _++_}
-use mathlib.Core.Path.{_≡_, refl, sym, _∙_}
+use mathlib.Core.Path.{_≡_, refl, sym, ap, _∙_}
 use Prim.Native.Nat.{ℕ, _+_, _≤_, _<_}
 use native.Mathlib.Nat.{zero-add}
 use native.Mathlib.Omega.{arith}
 use lib.Dec.{leb}
-use lib.ListN.{length, drop}
-use lib.Seq.{sets, sets-eq}
+use lib.ListN.{length, take, drop, length-append, length-take}
+use lib.Seq.{sets, sets-eq, take-at}
 use borrow.Author.Tests.{leb-true, leb-false, le-leb, lt-leb}
 use Rattle.rules.specs.Answers.{withRoom, filled}
 
@@ -49,3 +49,20 @@ filled-refused ns slots number place told e = go (leb (length ns) (length slots)
         let z : _≡_ {A = ℕ} 0 1 = cc (room-told (length ns) (length slots) (1 ∷ told) there) in
         absurd (omega arith)
     go false q = sym (rw (filled, q))
+
+-- slots that took a list have it first
+pub record First (ns slots : List ℕ) : Type 0 where
+  pub within : length ns ≤ length slots
+  pub is : take (length ns) slots ≡ ns
+
+pub first-of : (ns slots slots′ : List ℕ) → length ns ≤ length slots → slots′ ≡ filled ns slots → First ns slots′
+first-of ns slots slots′ h e =
+    let there : slots′ ≡ ns ++ drop (length ns) slots = e ∙ filled-there ns slots h in
+    record {
+      within = omega (arith, ap length there, length-append ns (drop (length ns) slots));
+      is = rw there (take-at ns (drop (length ns) slots) (length ns) refl);
+    }
+
+-- so many of the first slots
+pub part-whole : (count : ℕ) (slots : List ℕ) → count ≤ length slots → count ≡ length (take count slots)
+part-whole count slots h = omega (arith, length-take count slots)
