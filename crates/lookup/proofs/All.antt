@@ -1,5 +1,5 @@
 -- The keys of a table against the patterns of an entry, the first and then the others.
-use mathlib.Core.Bool.{Bool, true, false, false≢true}
+use mathlib.Core.Bool.{Bool, true, false, false≢true, not}
 use mathlib.Core.Path.{_≡_, refl, sym, _∙_}
 use mathlib.Core.List.{List, [], _∷_}
 use Prim.Native.Nat.{ℕ, _+_, _-_, _^_, _<_}
@@ -76,7 +76,7 @@ module _ (nums ends directory keys : List ℕ) (from count slot j at : ℕ)
     asked-first =
         first-of nums ends directory keys from count slot j at (h .keyList) (h .worked) (h .patterns) (h .stand) more
 
-    pub one-asked : AsksOne nums directory keys from slot j at
+    one-asked : AsksOne nums directory keys from slot j at
     one-asked = record {
       kind = asked-first .key .kind;
       key = asked-first .worked;
@@ -87,19 +87,19 @@ module _ (nums ends directory keys : List ℕ) (from count slot j at : ℕ)
       place = omega (arith, h .place, more);
     }
 
-    pub ends-inside : from + 1 < length ends
+    ends-inside : from + 1 < length ends
     ends-inside = omega (arith, asked-first .begins, h .room)
 
-    pub from-next : from + 1 < 2 ^ 64
+    from-next : from + 1 < 2 ^ 64
     from-next = omega (arith, asked-first .begins, h .numbers)
 
-    pub slot-next : slot + 1 < 2 ^ 64
+    slot-next : slot + 1 < 2 ^ 64
     slot-next = omega (arith, h .slots, more)
 
-    pub place-next : j + 1 < 2 ^ 64
+    place-next : j + 1 < 2 ^ 64
     place-next = omega (arith, h .place, more)
 
-    pub others-asked : (m l : Bool) (next prefix : ℕ) → TellsOne nums directory keys from slot j at m next l prefix
+    others-asked : (m l : Bool) (next prefix : ℕ) → TellsOne nums directory keys from slot j at m next l prefix
         → AsksMatch nums ends directory keys (getD ends (from + 1) 0) (count - 1) (slot + 1) (j + 1) next
     others-asked m l next prefix t = record {
       keyList = asked-first .keyList;
@@ -114,7 +114,7 @@ module _ (nums ends directory keys : List ℕ) (from count slot j at : ℕ)
 
 -- what the steps tell
 module _ (nums ends directory keys : List ℕ) (from count slot j at : ℕ) where
-  pub none-told : count ≡ 0 → TellsMatch nums ends directory keys from count slot j at (Yes 0 at)
+  none-told : count ≡ 0 → TellsMatch nums ends directory keys from count slot j at (Yes 0 at)
   unfolding matchesAll prefixOf patternsSize
   none-told e = record { told = λ ks ws ps h. go ks ws ps (h .counts) (h .patterns) }
     where
@@ -124,7 +124,7 @@ module _ (nums ends directory keys : List ℕ) (from count slot j at : ℕ) wher
       go [] (w ∷ ws) [] c on-none = matched {next = at} refl refl (omega arith)
       go (k ∷ ks) ws ps c p = absurd (omega (arith, e, c))
 
-  pub first-unmatched : (m l : Bool) (next prefix : ℕ) → (count ≡ 0 → ⊥)
+  first-unmatched : (m l : Bool) (next prefix : ℕ) → (count ≡ 0 → ⊥)
       → TellsOne nums directory keys from slot j at m next l prefix → m ≡ false
       → TellsMatch nums ends directory keys from count slot j at No
   unfolding matchesAll
@@ -162,7 +162,7 @@ module _ (nums ends directory keys : List ℕ) (from count slot j at : ℕ) wher
           → prefixOf ps ≡ prefixBehind l prefix (prefixOf (o .patterns))
       prefix-as o = rw (o .samePatterns) (t .prefixIs _ _ _ (o .first) (o .patterns))
 
-      pub others-unmatched : r ≡ No → TellsMatch nums ends directory keys from count slot j at No
+      others-unmatched : r ≡ No → TellsMatch nums ends directory keys from count slot j at No
       others-unmatched q = record { told = λ ks ws ps h. go (others-told ks ws ps h) }
         where
           go : {ks : List Key} {ws : List Worked} {ps : List Pattern}
@@ -183,7 +183,7 @@ module _ (nums ends directory keys : List ℕ) (from count slot j at : ℕ) wher
       unfolding patternsSize
       behind-all o last q = rw (o .samePatterns) (omega (arith, q, t .nextIs _ _ _ (o .first)))
 
-      pub own-prefix : (p last : ℕ) → r ≡ Yes p last → l ≡ true
+      own-prefix : (p last : ℕ) → r ≡ Yes p last → l ≡ true
           → TellsMatch nums ends directory keys from count slot j at (Yes prefix last)
       unfolding prefixBehind
       own-prefix p last q k = record { told = λ ks ws ps h. go (others-told ks ws ps h) }
@@ -196,7 +196,7 @@ module _ (nums ends directory keys : List ℕ) (from count slot j at : ℕ) wher
               let same : prefix ≡ prefixOf ps = sym (rw k at (prefix-as o)) in
               matched (all-as-others o ∙ y .0) same (behind-all o last (y .1 .1))
 
-      pub others-prefix : (p last : ℕ) → r ≡ Yes p last → l ≡ false
+      others-prefix : (p last : ℕ) → r ≡ Yes p last → l ≡ false
           → TellsMatch nums ends directory keys from count slot j at (Yes p last)
       unfolding prefixBehind
       others-prefix p last q k = record { told = λ ks ws ps h. go (others-told ks ws ps h) }
@@ -209,16 +209,129 @@ module _ (nums ends directory keys : List ℕ) (from count slot j at : ℕ) wher
               let same : p ≡ prefixOf ps = y .1 .0 ∙ sym (rw k at (prefix-as o)) in
               matched (all-as-others o ∙ y .0) same (behind-all o last (y .1 .1))
 
+-- the prefix of an lpm key goes with what is told of the keys behind it
+unfoldable pub withPrefix : Bool → ℕ → Match → Match
+withPrefix lpm prefix (Yes p next) = Yes (prefixBehind lpm prefix p) next
+withPrefix lpm prefix No = No
+
+with-none : (r : Match) → withPrefix false 0 r ≡ r
+unfolding withPrefix prefixBehind
+with-none (Yes p next) = refl
+with-none No = refl
+
+with-earlier : (prefix : ℕ) (l : Bool) (p : ℕ) (r : Match) → withPrefix true prefix (withPrefix l p r) ≡ withPrefix true prefix r
+unfolding withPrefix prefixBehind
+with-earlier prefix l p (Yes q next) = refl
+with-earlier prefix l p No = refl
+
+with-later : (prefix : ℕ) (l : Bool) (p : ℕ) (r : Match) → withPrefix false prefix (withPrefix l p r) ≡ withPrefix l p r
+unfolding withPrefix prefixBehind
+with-later prefix l p (Yes q next) = refl
+with-later prefix l p No = refl
+
+with-last : (lpm : Bool) (prefix next : ℕ) → (lpm ≡ false → prefix ≡ 0) → withPrefix lpm prefix (Yes 0 next) ≡ Yes prefix next
+unfolding withPrefix prefixBehind
+with-last true prefix next z = refl
+with-last false prefix next z = rw (z refl) refl
+
+along-told : (nums ends directory keys : List ℕ) (from count slot j at : ℕ) (m l : Bool) (next prefix : ℕ)
+    → (count ≡ 0 → ⊥) → TellsOne nums directory keys from slot j at m next l prefix → m ≡ true → (r : Match)
+    → TellsMatch nums ends directory keys (getD ends (from + 1) 0) (count - 1) (slot + 1) (j + 1) next r
+    → TellsMatch nums ends directory keys from count slot j at (withPrefix l prefix r)
+unfolding withPrefix prefixBehind
+along-told nums ends directory keys from count slot j at m true next prefix more t e (Yes p last) u =
+    own-prefix nums ends directory keys from count slot j at m true next prefix more t e (Yes p last) u p last refl refl
+along-told nums ends directory keys from count slot j at m false next prefix more t e (Yes p last) u =
+    others-prefix nums ends directory keys from count slot j at m false next prefix more t e (Yes p last) u p last refl refl
+along-told nums ends directory keys from count slot j at m l next prefix more t e No u =
+    others-unmatched nums ends directory keys from count slot j at m l next prefix more t e No u refl
+
+pub not-yes : (b : Bool) → not b ≡ true → b ≡ false
+not-yes true e = sym e
+not-yes false e = refl
+
+pub not-no : (b : Bool) → not b ≡ false → b ≡ true
+not-no true e = refl
+not-no false e = sym e
+
+-- the loop: what is told of the keys that are left is told of all
+pub record Matching (nums ends directory keys : List ℕ) (from count slot at key left width j next : ℕ) (lpm : Bool)
+    (prefix : ℕ) : Type 0 where
+  pub asks : AsksMatch nums ends directory keys key left width j next
+  pub on : (r : Match) → TellsMatch nums ends directory keys key left width j next r
+      → TellsMatch nums ends directory keys from count slot 0 at (withPrefix lpm prefix r)
+  pub none : lpm ≡ false → prefix ≡ 0
+
+module _ (nums ends directory keys : List ℕ) (from count slot at : ℕ) where
+  pub matching-start : AsksMatch nums ends directory keys from count slot 0 at
+      → Matching nums ends directory keys from count slot at from count slot 0 at false 0
+  matching-start a = record { asks = a; on = λ r h. rw (with-none r) h; none = λ _. refl }
+
+  module _ (key left width j next : ℕ) (lpm : Bool) (prefix : ℕ)
+      (h : Matching nums ends directory keys from count slot at key left width j next lpm prefix) where
+    pub matching-ended : left ≡ 0 → TellsMatch nums ends directory keys from count slot 0 at (Yes prefix next)
+    matching-ended e = rw (← with-last lpm prefix next (h .none))
+        (h .on (Yes 0 next) (none-told nums ends directory keys key left width j next e))
+
+    module _ (more : left ≡ 0 → ⊥) where
+      pub matching-one : AsksOne nums directory keys key width j next
+      matching-one = one-asked nums ends directory keys key left width j next (h .asks) more
+
+      pub matching-inside : key + 1 < length ends
+      matching-inside = ends-inside nums ends directory keys key left width j next (h .asks) more
+
+      pub matching-key : key + 1 < 2 ^ 64
+      matching-key = from-next nums ends directory keys key left width j next (h .asks) more
+
+      pub matching-width : width + 1 < 2 ^ 64
+      matching-width = slot-next nums ends directory keys key left width j next (h .asks) more
+
+      pub matching-place : j + 1 < 2 ^ 64
+      matching-place = place-next nums ends directory keys key left width j next (h .asks) more
+
+      module _ (m l : Bool) (behind p : ℕ) (t : TellsOne nums directory keys key width j next m behind l p) where
+        pub matching-missed : m ≡ false → TellsMatch nums ends directory keys from count slot 0 at No
+        unfolding withPrefix
+        matching-missed e =
+            h .on No (first-unmatched nums ends directory keys key left width j next m l behind p more t e)
+
+        module _ (e : m ≡ true) where
+          abbrev rest : AsksMatch nums ends directory keys (getD ends (key + 1) 0) (left - 1) (width + 1) (j + 1) behind
+          rest = others-asked nums ends directory keys key left width j next (h .asks) more m l behind p t
+
+          along : (r : Match)
+              → TellsMatch nums ends directory keys (getD ends (key + 1) 0) (left - 1) (width + 1) (j + 1) behind r
+              → TellsMatch nums ends directory keys from count slot 0 at (withPrefix lpm prefix (withPrefix l p r))
+          along r u = h .on (withPrefix l p r)
+              (along-told nums ends directory keys key left width j next m l behind p more t e r u)
+
+          pub matching-first : lpm ≡ false
+              → Matching nums ends directory keys from count slot at (getD ends (key + 1) 0) (left - 1) (width + 1) (j + 1)
+              behind l p
+          matching-first q = record {
+            asks = rest;
+            on = λ r u. rw (q, with-later prefix l p r) at (along r u);
+            none = t .noPrefix;
+          }
+
+          pub matching-kept : lpm ≡ true
+              → Matching nums ends directory keys from count slot at (getD ends (key + 1) 0) (left - 1) (width + 1) (j + 1)
+              behind lpm prefix
+          matching-kept q = record {
+            asks = rest;
+            on = λ r u. rw q (rw (q, with-earlier prefix l p r) at (along r u));
+            none = h .none;
+          }
+
 pub ruleset all = (
-  one-asked,
-  ends-inside,
-  from-next,
-  slot-next,
-  place-next,
-  others-asked,
-  none-told,
-  first-unmatched,
-  others-unmatched,
-  own-prefix,
-  others-prefix,
+  matching-start,
+  matching-ended,
+  matching-one,
+  matching-inside,
+  matching-key,
+  matching-width,
+  matching-place,
+  matching-missed,
+  matching-first,
+  matching-kept,
 )

@@ -78,6 +78,7 @@ module _ (nums directory keys : List ℕ) (from slot j at : ℕ) where
     told = λ kind w p s. go (s .stands) (s .kindIs .is) (s .worked);
     nextIs = λ kind w p s. size (s .stands) (s .kindIs .is);
     prefixIs = λ kind w p s ps. others (s .stands) (s .kindIs .is) ps;
+    noPrefix = λ _. refl;
   }
     where
       go : {kind : KeyKind} {p : Pattern} {w : Worked} → StandsPattern nums at kind p
@@ -107,6 +108,7 @@ module _ (nums directory keys : List ℕ) (from slot j at : ℕ) where
     told = λ kind w p s. go (s .stands) (s .kindIs .is) (s .worked);
     nextIs = λ kind w p s. size (s .stands) (s .kindIs .is);
     prefixIs = λ kind w p s ps. own (s .stands) (s .kindIs .is) ps;
+    noPrefix = λ q. let z : _≡_ {A = ℕ} 0 1 = cc in absurd (omega arith);
   }
     where
       go : {kind : KeyKind} {p : Pattern} {w : Worked} → StandsPattern nums at kind p
@@ -136,6 +138,7 @@ module _ (nums directory keys : List ℕ) (from slot j at : ℕ) where
     told = λ kind w p s. go (s .stands) (s .kindIs .is) (s .worked);
     nextIs = λ kind w p s. size (s .stands) (s .kindIs .is);
     prefixIs = λ kind w p s ps. others (s .stands) (s .kindIs .is) ps;
+    noPrefix = λ _. refl;
   }
     where
       go : {kind : KeyKind} {p : Pattern} {w : Worked} → StandsPattern nums at kind p

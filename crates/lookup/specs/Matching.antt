@@ -63,6 +63,7 @@ pub record TellsOne (nums directory keys : List ℕ) (keyAt slot j at : ℕ) (ma
       → next ≡ at + patternSize p
   pub prefixIs : (kind : KeyKind) (k : Worked) (p : Pattern) → KeyPattern nums directory keys keyAt slot j at kind k p
       → (ps : List Pattern) → prefixOf (p ∷ ps) ≡ prefixBehind hasPrefix prefix (prefixOf ps)
+  pub noPrefix : hasPrefix ≡ false → prefix ≡ 0
 
 -- all keys of a table and the patterns of an entry
 pub record KeyPatterns (nums ends directory keys : List ℕ) (keyAt count slot j at : ℕ) (ks : List Key) (ws : List Worked)

@@ -92,7 +92,6 @@ fn step(
         table + 1,
         nums[table],
         slot,
-        0,
         at + 1,
     );
     match keyed {

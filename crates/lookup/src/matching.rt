@@ -54,7 +54,8 @@ fn match_one(
     }
 }
 
-// So many keys, the first of which stands at `from`, against patterns one after the other from `at` on.
+// So many keys, the first of which stands at `from` and has its width in a slot, against patterns one after the other
+// from `at` on.
 pub(crate) fn match_from(
     nums: &[u64],
     ends: &[u64],
@@ -63,46 +64,32 @@ pub(crate) fn match_from(
     from: usize,
     count: u64,
     slot: usize,
-    j: usize,
     at: usize,
 ) -> Match
-    requires { ⌜ AsksMatch (now nums) (now ends) (now directory) (now keys) from count slot j at ⌝ }
-    ensures { λ r. ⌜ TellsMatch (now (nums .entry)) (now (ends .entry)) (now (directory .entry)) (now (keys .entry)) from count slot j at r ⌝ }
+    requires { ⌜ AsksMatch (now nums) (now ends) (now directory) (now keys) from count slot 0 at ⌝ }
+    ensures { λ r. ⌜ TellsMatch (now (nums .entry)) (now (ends .entry)) (now (directory .entry)) (now (keys .entry)) from count slot 0 at r ⌝ }
 {
-    if count == 0 {
-        Match::Yes {
-            prefix: 0,
-            next: at,
+    let mut key = from;
+    let mut left = count;
+    let mut width = slot;
+    let mut j = 0;
+    let mut next = at;
+    let mut lpm = false;
+    let mut prefix = 0;
+    while left != 0 {
+        let one = match_one(nums, directory, keys, key, width, j, next);
+        if !one.matches {
+            return Match::No;
         }
-    } else {
-        let one = match_one(nums, directory, keys, from, slot, j, at);
-        if one.matches {
-            let rest = match_from(
-                nums,
-                ends,
-                directory,
-                keys,
-                ends[from + 1] as usize,
-                count - 1,
-                slot + 1,
-                j + 1,
-                one.next,
-            );
-            match rest {
-                Match::Yes { prefix, next } => {
-                    if one.lpm {
-                        Match::Yes {
-                            prefix: one.prefix,
-                            next,
-                        }
-                    } else {
-                        Match::Yes { prefix, next }
-                    }
-                }
-                Match::No => Match::No,
-            }
-        } else {
-            Match::No
+        if !lpm {
+            lpm = one.lpm;
+            prefix = one.prefix;
         }
+        key = ends[key + 1] as usize;
+        left -= 1;
+        width += 1;
+        j += 1;
+        next = one.next;
     }
+    Match::Yes { prefix, next }
 }
