@@ -1,7 +1,7 @@
 -- From the bytes to the numbers and back to a place: what the judge says of the numbers is, with its index become a place,
 -- what the rules say of the bytes.
 use mathlib.Core.List.{List, [], _∷_}
-use mathlib.Core.Path.{_≡_, sym, ap, _∙_}
+use mathlib.Core.Path.{_≡_, refl, sym, ap, _∙_}
 use Prim.Native.Nat.{ℕ, _≤_}
 use native.Mathlib.Omega.{arith}
 use lib.ListN.{length, take}
@@ -20,6 +20,7 @@ use Rattle.numbers.proofs.Outcomes.{Numbered, read-numbered, numbers-within, re
 use Rattle.judge.specs.declared.Verdict.{Verdict}
 use Rattle.judge.specs.declared.Verdict.the-variants as verdict
 use Rattle.judge.specs.Verdicts.{ofVerdict, toldBy, judgingSays, JudgesNumbers}
+use Rattle.bench.specs.Runs.{refusalAt}
 
 -- what is told of numbers, with the index of a fault become a place
 module _ (bytes : List ℕ) where
@@ -52,13 +53,18 @@ module _ (bytes nums : List ℕ) (reads : streamOf bytes ≡ numbers nums) where
     numbers-accepted ceiling store size e =
         told-accepted bytes (judging nums 0) ceiling size (rw e at (j .answer)) ∙ sym numbers-say
 
-    pub numbers-refused : (number index place : ℕ) → r ≡ verdict.Refused number index → place ≡ placeOf bytes index →
-        ofJudge (answer.Refused (record { number = number; place = place })) ≡ judgeSays bytes
+    pub numbers-refused : (number index : ℕ) (x : Refusal) → r ≡ verdict.Refused number index
+        → x ≡ refusalAt bytes number index → ofJudge (answer.Refused x) ≡ judgeSays bytes
     unfolding ofVerdict judgingSays ofJudge ofRefusal
-    numbers-refused number index place e at =
+    numbers-refused number index x e at =
         rw at (told-refused bytes (judging nums 0) number index (rw e at (j .answer)) ∙ sym numbers-say)
 
 pub ruleset verdicts = (numbers-few, numbers-accepted, numbers-refused)
+
+-- the refusal at an index
+pub refusal-is : (bytes : List ℕ) (number index place : ℕ) → place ≡ placeOf bytes index
+    → record { number = number; place = place } ≡ refusalAt bytes number index
+refusal-is bytes number index place e = rw e refl
 
 -- what reading leaves for the judge
 module _ (bytes slots : List ℕ) (r : ReadAnswer) (left : List ℕ) (p : Reads bytes slots r left) where

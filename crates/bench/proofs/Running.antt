@@ -14,7 +14,7 @@ use Rattle.rules.specs.declared.RunAnswer.{RunAnswer}
 use Rattle.rules.specs.declared.RunAnswer.the-variants.{Ended, Unrun}
 use Rattle.rules.specs.declared.ReadAnswer.{ReadAnswer}
 use Rattle.rules.specs.declared.ReadAnswer.the-variants.{Unread}
-use Rattle.rules.specs.Numbers.{numbers, streamOf, placeOf}
+use Rattle.rules.specs.Numbers.{numbers, streamOf}
 use Rattle.rules.specs.Syntax.{Program}
 use Rattle.rules.specs.Ceiling.{mostSteps, ceilingOf}
 use Rattle.rules.specs.Lists.{Entry, Cell, slotsOf}
@@ -45,7 +45,7 @@ use Rattle.steps.specs.Outcomes.{Goes, goes, counterOf}
 use Rattle.runner.specs.Prepares.{AsksPrepare, Prepares}
 use Rattle.runner.proofs.Prepared.{program-kept, offsets-laid, tables-laid}
 use Rattle.runner.specs.Whole.{Ready, programRun, AsksRun, RanWhole, RunsWhole}
-use Rattle.bench.specs.Runs.{RunsFile, Passed, AsksAccepted, RunsAccepted, AsksLent}
+use Rattle.bench.specs.Runs.{RunsFile, refusalAt, Passed, AsksAccepted, RunsAccepted, AsksLent}
 use Rattle.bench.proofs.Judging.{numbers-few, numbers-refused, read-refused}
 use Rattle.bench.proofs.Lent.{first-filled, behind-part}
 
@@ -306,11 +306,11 @@ module _ (bytes nums results working : List ℕ) (reads : streamOf bytes ≡ num
           let e : ends ≡ replicate 4096 0 = rw q at (j .endsAre) in
           rw e refl
 
-  pub verdict-refused : (number index place : ℕ) → v ≡ verdicts.Refused number index → place ≡ placeOf bytes index
-      → RunsFile bytes results results working working (Unrun (record { number = number; place = place }))
-  verdict-refused number index place e q = refused-runs bytes results working (record { number = number; place = place })
+  pub verdict-refused : (number index : ℕ) (x : Refusal) → v ≡ verdicts.Refused number index
+      → x ≡ refusalAt bytes number index → RunsFile bytes results results working working (Unrun x)
+  verdict-refused number index x e q = refused-runs bytes results working x
       (numbers-refused bytes nums reads (replicate 200 0) directory (replicate 4096 0) ends (replicate 32 0) widths
-      (replicate 65 0) entries (replicate 33 0) offsets v j number index place e q)
+      (replicate 65 0) entries (replicate 33 0) offsets v j number index x e q)
 
   module _ (ceiling store size : ℕ) (e : v ≡ verdicts.Accepted ceiling store size) where
     leaves : Leaves nums directory ends widths entries offsets ceiling store size

@@ -4,7 +4,8 @@ use mathlib.Core.List.{List}
 use Prim.Native.Nat.{ℕ, _≤_}
 use lib.ListN.{length}
 use Rattle.rules.specs.declared.RunAnswer.{RunAnswer}
-use Rattle.rules.specs.Numbers.{numbers, streamOf}
+use Rattle.rules.specs.declared.Refusal.{Refusal}
+use Rattle.rules.specs.Numbers.{numbers, streamOf, placeOf}
 use Rattle.rules.specs.Answers.{ofRun, workingSlots, runSays, runLeavesResults, runLeavesWorking}
 use Rattle.judge.proofs.Left.{Leaves}
 use Rattle.runner.specs.Prepares.{Prepares}
@@ -13,6 +14,10 @@ pub record RunsFile (bytes results results′ working working′ : List ℕ) (r 
   pub says : ofRun r ≡ runSays bytes (length results) (length working)
   pub resultsAre : results′ ≡ runLeavesResults bytes results (length working)
   pub workingAre : working′ ≡ runLeavesWorking bytes (length results) working
+
+-- the refusal of a file at one of its numbers, by that number's index
+abbrev pub refusalAt : List ℕ → ℕ → ℕ → Refusal
+refusalAt bytes number index = record { number = number; place = placeOf bytes index }
 
 -- a file that the judge accepted, as numbers, and the directory prepared for its run with what the judge left
 pub record Passed (bytes nums directory ends : List ℕ) (ceiling store size : ℕ) : Type 0 where

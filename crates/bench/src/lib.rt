@@ -19,7 +19,7 @@ ghost use Rattle.rules.specs.Lines.{printed};
 ghost use Rattle.numbers.specs.Parts.{Roomy};
 ghost use Rattle.numbers.specs.Promises.{Reads, Writes};
 ghost use Rattle.lines.specs.Promises.{Prints};
-ghost use Rattle.bench.specs.Runs.{RunsFile, AsksAccepted, RunsAccepted, AsksLent};
+ghost use Rattle.bench.specs.Runs.{refusalAt, RunsFile, AsksAccepted, RunsAccepted, AsksLent};
 
 // A file of at most so many bytes is read into as many slots, which are set to 0 in less time than those of the longest.
 const SHORT: usize = 512;
@@ -66,7 +66,15 @@ fn judge_in(bytes: &[u8], slots: &mut [u64]) -> JudgeAnswer
     }
 }
 
-// The same, for the numbers that the bytes hold. The index of a fault becomes the place of that number.
+// The refusal of a file at the number with an index: that number's place.
+fn refusal_at(bytes: &[u8], number: u64, index: usize) -> Refusal
+    ensures { λ r. ⌜ r ≡ refusalAt (now (bytes .entry)) number index ⌝ }
+{
+    let place = numbers::place_of(bytes, index);
+    Refusal { number, place }
+}
+
+// The same, for the numbers that the bytes hold.
 fn judge_numbers(bytes: &[u8], nums: &[u64]) -> JudgeAnswer
     requires { ⌜ streamOf (now bytes) ≡ numbers (now nums) ⌝ }
     ensures { λ r. ⌜ ofJudge r ≡ judgeSays (now (bytes .entry)) ⌝ }
@@ -91,8 +99,7 @@ fn judge_numbers(bytes: &[u8], nums: &[u64]) -> JudgeAnswer
             length,
         } => JudgeAnswer::Accepted { ceiling, length },
         Verdict::Refused { number, index } => {
-            let place = numbers::place_of(bytes, index);
-            JudgeAnswer::Refused(Refusal { number, place })
+            JudgeAnswer::Refused(refusal_at(bytes, number, index))
         }
     }
 }
@@ -160,10 +167,7 @@ fn run_numbers(bytes: &[u8], nums: &[u64], results: &mut [u64], working: &mut [u
                 working,
             )
         }
-        Verdict::Refused { number, index } => {
-            let place = numbers::place_of(bytes, index);
-            RunAnswer::Unrun(Refusal { number, place })
-        }
+        Verdict::Refused { number, index } => RunAnswer::Unrun(refusal_at(bytes, number, index)),
     }
 }
 

@@ -1,6 +1,6 @@
--- `bench::judge_numbers` meets its contract: what the judge says of the numbers, with its index become a place.
-use borrow.Author.Needs.{needs}
+-- What carries it: what the judge says of the numbers, with its index become a place.
 use Rattle.bench.proofs.Judging.{verdicts}
+use borrow.Author.Needs.{needs}
 use Rattle.bench.proofs.judge_numbers.Statement.{statement}
 use Rattle.bench.proofs.judge_numbers.Tie as tie
 
@@ -13,8 +13,8 @@ enum-known-verdict c = search (verdicts, needs)
 enum-known-verdict-2 : tie.Need-enum-known-verdict-2
 enum-known-verdict-2 c = search (verdicts, needs)
 
-place-of-requires : tie.Need-place-of-requires
-place-of-requires c κs = search (verdicts, needs)
+refusal-at-requires : tie.Need-refusal-at-requires
+refusal-at-requires c κs = search (verdicts, needs)
 
 returns : tie.Need-returns
 returns c = search (verdicts, needs)
@@ -29,6 +29,6 @@ judge-numbers-spec =
     judge-requires
     enum-known-verdict
     enum-known-verdict-2
-    place-of-requires
+    refusal-at-requires
     returns
     returns-2)

@@ -23,8 +23,8 @@ run-accepted-requires c κs = verdict-accepted _ _ [] [] (c .before .before .bef
 enum-known-verdict-2 : tie.Need-enum-known-verdict-2
 enum-known-verdict-2 c = search (runs, needs)
 
-place-of-requires : tie.Need-place-of-requires
-place-of-requires c κs = search (runs, needs)
+refusal-at-requires : tie.Need-refusal-at-requires
+refusal-at-requires c κs = search (runs, needs)
 
 same-length : tie.Need-same-length
 same-length c = search (runs, needs)
@@ -48,7 +48,7 @@ run-numbers-spec =
     slice-aggregate-run-accepted
     run-accepted-requires
     enum-known-verdict-2
-    place-of-requires
+    refusal-at-requires
     same-length
     same-length-2
     returns
