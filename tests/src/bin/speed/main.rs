@@ -14,14 +14,13 @@ mod works;
 
 use kinds::KINDS;
 use ladder::Work;
-use report::{row, table, tenths, whole};
+use report::{tenths, whole, Report};
 use second::answer::judged;
 use second::generate::bench_file;
 use second::run::WORKING_SLOTS;
 use sides::{Library, Operation, Times};
-use std::hint::black_box;
 use std::ops::RangeInclusive;
-use tables::{Keys, MOST_ENTRIES};
+use tables::{Applied, Keys, MOST_ENTRIES};
 
 /// The most steps of a run.
 const MILLION: u64 = 1_000_000;
@@ -35,21 +34,29 @@ const SEED: u64 = 9;
 const GENERATED: usize = 100;
 const BYTES: RangeInclusive<usize> = 140..=160;
 
-/// How often a table is applied whose look-up is measured.
-const APPLIES: usize = 1000;
+/// How often everything is measured, so that what slows the machine for a while spoils no figure.
+const SWEEPS: usize = 6;
 
 fn main() {
     let mut library = Library::new();
-    small_and_large(&mut library);
-    million_steps(&mut library);
-    ifs(&mut library);
-    look_ups(&mut library);
-    growth_with_bytes(&mut library);
-    growth_with_steps(&mut library);
+    let reports = (0..SWEEPS).map(|_| measured(&mut library));
+    print!("{}", reports.last().expect("there are sweeps").text);
 }
 
-fn small_and_large(library: &mut Library) {
-    table(
+/// All tables, with the shortest times so far.
+fn measured(library: &mut Library) -> Report {
+    let mut report = Report::default();
+    small_and_large(library, &mut report);
+    million_steps(library, &mut report);
+    ifs(library, &mut report);
+    look_ups(library, &mut report);
+    growth_with_bytes(library, &mut report);
+    growth_with_steps(library, &mut report);
+    report
+}
+
+fn small_and_large(library: &mut Library, report: &mut Report) {
+    report.table(
         "Small and large files: nanoseconds a file",
         &["file", "bytes", "steps", "", "library", "second", "library, a byte", "ratio"],
     );
@@ -62,12 +69,11 @@ fn small_and_large(library: &mut Library) {
             let times = library.times(operation, &files);
             let file = [name.to_string(), whole(bytes as f64), whole(steps as f64), operation.name().to_string()];
             let both = [whole(times.library), whole(times.second)];
-            row(&[&file[..], &both, &[tenths(times.over(bytes).library), tenths(times.ratio())]].concat());
+            report.row(&[&file[..], &both, &[tenths(times.over(bytes).library), tenths(times.ratio())]].concat());
         }
     }
-    let mut slots = vec![0_u64; WORKING_SLOTS];
-    let [zeroing] = timing::shortest([&mut || black_box(&mut slots).fill(0)]);
-    println!("\nA run of the library sets {WORKING_SLOTS} working slots to 0. That alone: {} ns", whole(zeroing));
+    let zeroing = whole(library.zeroing());
+    report.line(&format!("\nA run of the library sets {WORKING_SLOTS} working slots to 0. That alone: {zeroing} ns"));
 }
 
 /// Generated files that are accepted.
@@ -76,43 +82,43 @@ fn generated() -> Vec<Vec<u8>> {
     files.filter(|bytes| BYTES.contains(&bytes.len()) && judged(bytes).is_ok()).take(GENERATED).collect()
 }
 
-fn million_steps(library: &mut Library) {
-    step_table("A million steps: nanoseconds a step of a run");
-    step_row(library, "expressions", works::expressions().file(MILLION));
-    step_row(library, "calls", works::calls().file(MILLION));
-    step_row(library, "calls for a value", works::values().file(MILLION));
-    step_row(library, "tables", tables::many_steps(MILLION));
+fn million_steps(library: &mut Library, report: &mut Report) {
+    step_table(report, "A million steps: nanoseconds a step of a run");
+    step_row(library, report, "expressions", works::expressions().file(MILLION));
+    step_row(library, report, "calls", works::calls().file(MILLION));
+    step_row(library, report, "calls for a value", works::values().file(MILLION));
+    step_row(library, report, "tables", tables::many_steps(MILLION));
 }
 
-fn ifs(library: &mut Library) {
-    step_table("Ifs: nanoseconds a step of a run");
+fn ifs(library: &mut Library, report: &mut Report) {
+    step_table(report, "Ifs: nanoseconds a step of a run");
     let [short, long] = [works::short_branch(), works::long_branch()];
     let mut compare = |name: &str, ifs: fn(&[u64]) -> Work| {
-        let ordinary = step_row(library, &format!("{name}, the other short"), ifs(&short).file(MILLION));
-        let worst = step_row(library, &format!("{name}, the other long"), ifs(&long).file(MILLION));
+        let ordinary = step_row(library, report, &format!("{name}, the other short"), ifs(&short).file(MILLION));
+        let worst = step_row(library, report, &format!("{name}, the other long"), ifs(&long).file(MILLION));
         worst.library / ordinary.library
     };
     let first = compare("first branch", works::first_branches);
     let second = compare("second branch", works::second_branches);
-    println!("\nA long other branch: {first:.2} and {second:.2} times the time of a short one");
+    report.line(&format!("\nA long other branch: {first:.2} and {second:.2} times the time of a short one"));
 }
 
-fn step_table(heading: &str) {
-    table(heading, &["run", "bytes", "steps", "library, a step", "second, a step", "ratio"]);
+fn step_table(report: &mut Report, heading: &str) {
+    report.table(heading, &["run", "bytes", "steps", "library, a step", "second, a step", "ratio"]);
 }
 
-/// Prints the times of a step, and answers them.
-fn step_row(library: &mut Library, name: &str, bytes: Vec<u8>) -> Times {
+/// Tells the times of a step, and answers them.
+fn step_row(library: &mut Library, report: &mut Report, name: &str, bytes: Vec<u8>) -> Times {
     let length = bytes.len();
     let steps = library.agreed(name, &bytes).expect(name);
     let times = library.times(Operation::Run, &[bytes]).over(steps as usize);
     let run = [name.to_string(), whole(length as f64), whole(steps as f64)];
-    row(&[&run[..], &[tenths(times.library), tenths(times.second), tenths(times.ratio())]].concat());
+    report.row(&[&run[..], &[tenths(times.library), tenths(times.second), tenths(times.ratio())]].concat());
     times
 }
 
-fn look_ups(library: &mut Library) {
-    table(
+fn look_ups(library: &mut Library, report: &mut Report) {
+    report.table(
         "Applies that find no entry: nanoseconds an apply, without the judge's time",
         &["keys", "entries", "in the file", "library, an apply", "second", "ratio", "library, an entry more"],
     );
@@ -123,42 +129,34 @@ fn look_ups(library: &mut Library) {
         ("four ternary", Keys::FourTernary, &[MOST_ENTRIES]),
     ];
     for (name, keys, counts) in kinds {
-        let single = apply_row(library, name, [1, 1], tables::look_ups(keys, 1, 1, APPLIES), APPLIES, None);
+        let single = apply_row(library, report, name, tables::one_table(keys, 1, 1), None);
         for &count in counts {
-            let file = tables::look_ups(keys, count, count, APPLIES);
-            apply_row(library, name, [count, count], file, APPLIES, Some(single));
+            apply_row(library, report, name, tables::one_table(keys, count, count), Some(single));
         }
-        let file = tables::look_ups(keys, 1, MOST_ENTRIES, APPLIES);
-        apply_row(library, name, [1, MOST_ENTRIES], file, APPLIES, None);
-        let (file, applies) = tables::eight_tables(keys);
-        let worst = format!("{name}, eight tables applied {} times", whole(applies as f64));
-        apply_row(library, &worst, [8, MOST_ENTRIES], file, applies, None);
+        apply_row(library, report, name, tables::one_table(keys, 1, MOST_ENTRIES), None);
+        let worst = tables::eight_tables(keys);
+        let name = format!("{name}, eight tables applied {} times", whole(worst.applies as f64));
+        apply_row(library, report, &name, worst, None);
     }
 }
 
-/// Prints the times of an apply, and answers them; beside them what an entry more takes, from the times with one.
-fn apply_row(
-    library: &mut Library,
-    name: &str,
-    [own, all]: [usize; 2],
-    bytes: Vec<u8>,
-    applies: usize,
-    single: Option<Times>,
-) -> Times {
+/// Tells the times of an apply, and answers them; beside them what an entry more takes, from the times with one.
+fn apply_row(library: &mut Library, report: &mut Report, name: &str, applied: Applied, single: Option<Times>) -> Times {
+    let Applied { own, all, applies, bytes } = applied;
     library.agreed(name, &bytes).expect(name);
     let files = [bytes];
     let judging = library.times(Operation::Judge, &files);
     let times = library.times(Operation::Run, &files).less(judging).over(applies);
     let more = single.map_or(String::new(), |single| tenths(times.less(single).over(own - 1).library));
     let both = [whole(times.library), whole(times.second), tenths(times.ratio()), more];
-    row(&[&[name.to_string(), own.to_string(), all.to_string()], &both[..]].concat());
+    report.row(&[&[name.to_string(), own.to_string(), all.to_string()], &both[..]].concat());
     times
 }
 
-fn growth_with_bytes(library: &mut Library) {
+fn growth_with_bytes(library: &mut Library, report: &mut Report) {
     let sizes = SIZES.map(|size| whole(size as f64));
     let columns: Vec<&str> = ["file"].into_iter().chain(sizes.iter().map(String::as_str)).collect();
-    table("Growth with bytes: nanoseconds a byte of the library's judge, and the ratio", &columns);
+    report.table("Growth with bytes: nanoseconds a byte of the library's judge, and the ratio", &columns);
     for (name, file) in KINDS {
         let cells = SIZES.map(|size| {
             let bytes = file(size);
@@ -167,15 +165,15 @@ fn growth_with_bytes(library: &mut Library) {
             let times = library.times(Operation::Judge, &[bytes]);
             format!("{} ({})", tenths(times.over(length).library), tenths(times.ratio()))
         });
-        row(&[&[name.to_string()], &cells[..]].concat());
+        report.row(&[&[name.to_string()], &cells[..]].concat());
     }
 }
 
-fn growth_with_steps(library: &mut Library) {
-    step_table("Growth with steps: nanoseconds a step of a run");
+fn growth_with_steps(library: &mut Library, report: &mut Report) {
+    step_table(report, "Growth with steps: nanoseconds a step of a run");
     for (name, work) in [("expressions", works::expressions()), ("calls", works::calls())] {
         for steps in STEPS {
-            step_row(library, name, work.file(steps));
+            step_row(library, report, name, work.file(steps));
         }
     }
 }

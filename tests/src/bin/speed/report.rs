@@ -1,15 +1,27 @@
 //! Tables of what is measured, as they stand in docs/SPEED.md.
 
-/// A heading, and the first row of the table below it.
-pub fn table(heading: &str, columns: &[&str]) {
-    println!("\n{heading}\n");
-    row(columns);
-    println!("|{}", "---|".repeat(columns.len()));
+#[derive(Default)]
+pub struct Report {
+    pub text: String,
 }
 
-pub fn row<Cell: AsRef<str>>(cells: &[Cell]) {
-    let cells: Vec<&str> = cells.iter().map(AsRef::as_ref).collect();
-    println!("| {} |", cells.join(" | "));
+impl Report {
+    /// A heading, and the first row of the table below it.
+    pub fn table(&mut self, heading: &str, columns: &[&str]) {
+        self.line(&format!("\n{heading}\n"));
+        self.row(columns);
+        self.line(&format!("|{}", "---|".repeat(columns.len())));
+    }
+
+    pub fn row<Cell: AsRef<str>>(&mut self, cells: &[Cell]) {
+        let cells: Vec<&str> = cells.iter().map(AsRef::as_ref).collect();
+        self.line(&format!("| {} |", cells.join(" | ")));
+    }
+
+    pub fn line(&mut self, line: &str) {
+        self.text.push_str(line);
+        self.text.push('\n');
+    }
 }
 
 pub fn tenths(number: f64) -> String {

@@ -5,6 +5,7 @@ use second::answer::{judged, marked, Answer, Signal};
 use second::inputs::store_numbers;
 use second::numbers::{self, MOST_BYTES};
 use second::run::WORKING_SLOTS;
+use std::collections::HashMap;
 use std::hint::black_box;
 
 /// The numbers of a store at most, and those of a call's answer.
@@ -26,7 +27,7 @@ extern "C" {
     );
 }
 
-#[derive(Clone, Copy)]
+#[derive(Clone, Copy, PartialEq, Eq, Hash)]
 pub enum Operation {
     Read,
     Judge,
@@ -51,6 +52,8 @@ pub struct Times {
 }
 
 impl Times {
+    const LONGEST: Times = Times { library: f64::INFINITY, second: f64::INFINITY };
+
     pub fn ratio(self) -> f64 {
         self.second / self.library
     }
@@ -64,21 +67,30 @@ impl Times {
     }
 }
 
-/// The library with the slots that it is lent, which are not cleared between two calls.
+/// The library with the slots that it is lent, which are not cleared between two calls; and the shortest times that were
+/// measured so far.
 pub struct Library {
     numbers: Vec<u64>,
     results: Vec<u64>,
     working: Vec<u64>,
+    least: HashMap<(Operation, Vec<Vec<u8>>), Times>,
+    least_zeroing: f64,
 }
 
 impl Library {
     pub fn new() -> Library {
-        Library { numbers: vec![0; MOST_BYTES], results: vec![0; MOST_STORE], working: vec![0; WORKING_SLOTS] }
+        Library {
+            numbers: vec![0; MOST_BYTES],
+            results: vec![0; MOST_STORE],
+            working: vec![0; WORKING_SLOTS],
+            least: HashMap::new(),
+            least_zeroing: f64::INFINITY,
+        }
     }
 
     fn call(&mut self, operation: Operation, bytes: &[u8]) -> Words {
         let mut answer = [0; 5];
-        let Library { numbers, results, working } = self;
+        let Library { numbers, results, working, .. } = self;
         let (file, length) = (bytes.as_ptr(), bytes.len());
         let (numbers, count) = (numbers.as_mut_ptr(), numbers.len());
         let (results, room) = (results.as_mut_ptr(), results.len());
@@ -95,8 +107,16 @@ impl Library {
         answer
     }
 
-    /// The times of an operation on each of the files, on the average.
+    /// The times of an operation on a file, the average of several: the shortest of these and of all measured before.
     pub fn times(&mut self, operation: Operation, files: &[Vec<u8>]) -> Times {
+        let now = self.times_now(operation, files).over(files.len());
+        let least = self.least.entry((operation, files.to_vec())).or_insert(Times::LONGEST);
+        *least = Times { library: least.library.min(now.library), second: least.second.min(now.second) };
+        *least
+    }
+
+    /// The times of an operation on all files.
+    fn times_now(&mut self, operation: Operation, files: &[Vec<u8>]) -> Times {
         let mut first = || {
             for bytes in files {
                 black_box(self.call(operation, black_box(bytes)));
@@ -108,7 +128,14 @@ impl Library {
             }
         };
         let [library, second] = shortest([&mut first, &mut other]);
-        Times { library, second }.over(files.len())
+        Times { library, second }
+    }
+
+    /// The time in which the working slots are set to 0, the shortest so far.
+    pub fn zeroing(&mut self) -> f64 {
+        let [now] = shortest([&mut || black_box(&mut self.working).fill(0)]);
+        self.least_zeroing = self.least_zeroing.min(now);
+        self.least_zeroing
     }
 
     /// The steps of a file, or none where it is refused, once both have read, judged and run it and answer the same.

@@ -8,6 +8,17 @@ use second::numbers::MOST_BYTES;
 pub const MOST_ENTRIES: usize = 64;
 const MOST_TABLES: usize = 8;
 
+/// How often one table is applied.
+const APPLIES: usize = 1000;
+
+/// A file that applies tables which have so many entries, of all that are in it.
+pub struct Applied {
+    pub own: usize,
+    pub all: usize,
+    pub applies: usize,
+    pub bytes: Vec<u8>,
+}
+
 /// The keys of a table, none of which matches an entry; where there are four, the last alone does not.
 #[derive(Clone, Copy)]
 pub enum Keys {
@@ -39,21 +50,22 @@ impl Keys {
     }
 }
 
-/// A table with so many entries of so many in the file, applied so often. The others are a second table's.
-pub fn look_ups(keys: Keys, own: usize, all: usize, applies: usize) -> Vec<u8> {
+/// One table with so many entries of so many in the file. The others are a second table's.
+pub fn one_table(keys: Keys, own: usize, all: usize) -> Applied {
     let table_of = |index: usize| u64::from(!index.is_multiple_of(all / own));
-    applied(keys, 2, &vec![apply(0); applies], (0..all).map(|index| (table_of(index), index)))
+    let bytes = applied(keys, 2, &vec![apply(0); APPLIES], (0..all).map(|index| (table_of(index), index)));
+    Applied { own, all, applies: APPLIES, bytes }
 }
 
-/// 64 entries of eight tables, which are applied in turn as often as fits: the file, and how often that is.
-pub fn eight_tables(keys: Keys) -> (Vec<u8>, usize) {
+/// 64 entries of eight tables, which are applied in turn as often as fits.
+pub fn eight_tables(keys: Keys) -> Applied {
     let file = |applies: usize| {
         let statements: Vec<Numbers> = (0..applies).map(|index| apply((index % MOST_TABLES) as u64)).collect();
         let entries = (0..MOST_ENTRIES).map(|index| ((index % MOST_TABLES) as u64, index));
         applied(keys, MOST_TABLES, &statements, entries)
     };
     let applies = most(MOST_BYTES, file);
-    (file(applies), applies)
+    Applied { own: MOST_ENTRIES / MOST_TABLES, all: MOST_ENTRIES, applies, bytes: file(applies) }
 }
 
 /// A file of so many tables with an action that does nothing, and entries by table and index.

@@ -3,9 +3,9 @@
 
 /// In nanoseconds: how long a side's round lasts at least, and how long all rounds go on.
 const ROUND: f64 = 200e3;
-const ALL_ROUNDS: f64 = 500e6;
+const ALL_ROUNDS: f64 = 100e6;
 /// How many rounds there are at least.
-const ROUNDS: usize = 30;
+const ROUNDS: usize = 8;
 
 /// The clock of a thread's processor time, as Linux numbers it.
 const THREAD_TIME: i32 = 3;
