@@ -1,6 +1,6 @@
-//! The proved library beside the second interpreter, for docs/SPEED.md: how long it takes to read, judge and run a file,
-//! and how that grows with bytes, steps and entries. `tests/speed` links it to the proved code. Before a file is timed,
-//! both sides have to answer the same.
+//! The proved library beside the second interpreter, for docs/SPEED.md: how long it takes to read, judge and run a
+//! file, and how that grows with bytes, steps and entries. `tests/speed` links it to the proved code. Before a file is
+//! timed, both sides have to answer the same.
 
 mod constructs;
 mod kinds;

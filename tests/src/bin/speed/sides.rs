@@ -67,8 +67,8 @@ impl Times {
     }
 }
 
-/// The library with the slots that it is lent, which are not cleared between two calls; and the shortest times that were
-/// measured so far.
+/// The library with the slots that it is lent, which are not cleared between two calls; and the shortest times that
+/// were measured so far.
 pub struct Library {
     numbers: Vec<u64>,
     results: Vec<u64>,
