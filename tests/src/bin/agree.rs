@@ -9,38 +9,30 @@ use second::answer::judged;
 use second::example;
 use second::generate::bench_file;
 use second::inputs::store_numbers;
-use second::numbers::{self, MOST_BYTES};
+use second::numbers::MOST_BYTES;
 use std::collections::BTreeMap;
 use std::process::ExitCode;
 
+/// What the judge says of a file: 1, ceiling and store length; or 0, the refusal's number and its place. Then 0.
+type Words = [u64; 5];
+
+#[link(name = "calls", kind = "static")]
 extern "C" {
-    fn speed_judge(nums: *const u64, count: usize, answer: *mut [u64; 3]);
+    fn nentuvar_judge(bytes: *const u8, length: usize, answer: *mut Words);
 }
 
-/// What the verified judge says of the numbers: 1, ceiling and store length; or 0, the refusal's number and an index.
-fn verdict(nums: &[u64]) -> [u64; 3] {
-    assert!(nums.len() <= MOST_BYTES);
-    let mut answer = [u64::MAX; 3];
-    unsafe { speed_judge(nums.as_ptr(), nums.len(), &mut answer) };
+/// The verified judge.
+fn library(bytes: &[u8]) -> Words {
+    let mut answer = [u64::MAX; 5];
+    unsafe { nentuvar_judge(bytes.as_ptr(), bytes.len(), &mut answer) };
     answer
 }
 
-/// The same of a file that reads as numbers, with a byte offset in the place of an index.
-fn library(bytes: &[u8]) -> Option<[u64; 3]> {
-    let read = numbers::read(bytes).ok()?;
-    let values: Vec<u64> = read.iter().map(|number| number.value).collect();
-    let mut answer = verdict(&values);
-    if answer[0] == 0 && answer[1] != 9 {
-        answer[2] = read.get(answer[2] as usize).map_or(bytes.len(), |number| number.place) as u64;
-    }
-    Some(answer)
-}
-
 /// The second interpreter's judge.
-fn second(bytes: &[u8]) -> [u64; 3] {
+fn second(bytes: &[u8]) -> Words {
     match judged(bytes) {
-        Ok((_, inputs, ceiling)) => [1, ceiling, store_numbers(&inputs.store).len() as u64],
-        Err(refusal) => [0, u64::from(refusal.number), refusal.place as u64],
+        Ok((_, inputs, ceiling)) => [1, ceiling, store_numbers(&inputs.store).len() as u64, 0, 0],
+        Err(refusal) => [0, u64::from(refusal.number), refusal.place as u64, 0, 0],
     }
 }
 
@@ -51,7 +43,7 @@ struct Tally {
 
 impl Tally {
     fn compare(&mut self, name: &str, bytes: &[u8]) {
-        let Some(theirs) = library(bytes) else { return };
+        let theirs = library(bytes);
         let ours = second(bytes);
         let kind = if ours[0] == 1 { "accepted".to_string() } else { format!("refused {:2}", ours[1]) };
         *self.answers.entry(kind).or_default() += 1;

@@ -1,0 +1,180 @@
+//! The two that are measured: the proved library through its C calls, and the second interpreter.
+
+use crate::timing::shortest;
+use second::answer::{judged, marked, Answer, Signal};
+use second::inputs::store_numbers;
+use second::numbers::{self, MOST_BYTES};
+use second::run::WORKING_SLOTS;
+use std::collections::HashMap;
+use std::hint::black_box;
+
+/// The numbers of a store at most, and those of a call's answer.
+const MOST_STORE: usize = 544;
+type Words = [u64; 5];
+
+#[link(name = "calls", kind = "static")]
+extern "C" {
+    fn nentuvar_read(bytes: *const u8, length: usize, slots: *mut u64, count: usize, answer: *mut Words);
+    fn nentuvar_judge(bytes: *const u8, length: usize, answer: *mut Words);
+    fn nentuvar_run(
+        bytes: *const u8,
+        length: usize,
+        results: *mut u64,
+        count: usize,
+        working: *mut u64,
+        room: usize,
+        answer: *mut Words,
+    );
+}
+
+#[derive(Clone, Copy, PartialEq, Eq, Hash)]
+pub enum Operation {
+    Read,
+    Judge,
+    Run,
+}
+
+impl Operation {
+    pub fn name(self) -> &'static str {
+        match self {
+            Operation::Read => "read",
+            Operation::Judge => "judge",
+            Operation::Run => "run",
+        }
+    }
+}
+
+/// The nanoseconds of an operation on a file.
+#[derive(Clone, Copy)]
+pub struct Times {
+    pub library: f64,
+    pub second: f64,
+}
+
+impl Times {
+    const LONGEST: Times = Times { library: f64::INFINITY, second: f64::INFINITY };
+
+    pub fn ratio(self) -> f64 {
+        self.second / self.library
+    }
+
+    pub fn less(self, other: Times) -> Times {
+        Times { library: self.library - other.library, second: self.second - other.second }
+    }
+
+    pub fn over(self, count: usize) -> Times {
+        Times { library: self.library / count as f64, second: self.second / count as f64 }
+    }
+}
+
+/// The library with the slots that it is lent, which are not cleared between two calls; and the shortest times that
+/// were measured so far.
+pub struct Library {
+    numbers: Vec<u64>,
+    results: Vec<u64>,
+    working: Vec<u64>,
+    least: HashMap<(Operation, Vec<Vec<u8>>), Times>,
+    least_zeroing: f64,
+}
+
+impl Library {
+    pub fn new() -> Library {
+        Library {
+            numbers: vec![0; MOST_BYTES],
+            results: vec![0; MOST_STORE],
+            working: vec![0; WORKING_SLOTS],
+            least: HashMap::new(),
+            least_zeroing: f64::INFINITY,
+        }
+    }
+
+    fn call(&mut self, operation: Operation, bytes: &[u8]) -> Words {
+        let mut answer = [0; 5];
+        let Library { numbers, results, working, .. } = self;
+        let (file, length) = (bytes.as_ptr(), bytes.len());
+        let (numbers, count) = (numbers.as_mut_ptr(), numbers.len());
+        let (results, room) = (results.as_mut_ptr(), results.len());
+        // A call reads and writes only the slices that it is lent, by their lengths.
+        unsafe {
+            match operation {
+                Operation::Read => nentuvar_read(file, length, numbers, count, &mut answer),
+                Operation::Judge => nentuvar_judge(file, length, &mut answer),
+                Operation::Run => {
+                    nentuvar_run(file, length, results, room, working.as_mut_ptr(), working.len(), &mut answer)
+                }
+            }
+        }
+        answer
+    }
+
+    /// The times of an operation on a file, the average of several: the shortest of these and of all measured before.
+    pub fn times(&mut self, operation: Operation, files: &[Vec<u8>]) -> Times {
+        let now = self.times_now(operation, files).over(files.len());
+        let least = self.least.entry((operation, files.to_vec())).or_insert(Times::LONGEST);
+        *least = Times { library: least.library.min(now.library), second: least.second.min(now.second) };
+        *least
+    }
+
+    /// The times of an operation on all files.
+    fn times_now(&mut self, operation: Operation, files: &[Vec<u8>]) -> Times {
+        let mut first = || {
+            for bytes in files {
+                black_box(self.call(operation, black_box(bytes)));
+            }
+        };
+        let mut other = || {
+            for bytes in files {
+                call_second(operation, black_box(bytes));
+            }
+        };
+        let [library, second] = shortest([&mut first, &mut other]);
+        Times { library, second }
+    }
+
+    /// The time in which the working slots are set to 0, the shortest so far.
+    pub fn zeroing(&mut self) -> f64 {
+        let [now] = shortest([&mut || black_box(&mut self.working).fill(0)]);
+        self.least_zeroing = self.least_zeroing.min(now);
+        self.least_zeroing
+    }
+
+    /// The steps of a file, or none where it is refused, once both have read, judged and run it and answer the same.
+    pub fn agreed(&mut self, name: &str, bytes: &[u8]) -> Option<u64> {
+        let read: Vec<u64> = numbers::read(bytes).expect(name).iter().map(|number| number.value).collect();
+        assert_eq!(self.call(Operation::Read, bytes), [1, read.len() as u64, 0, 0, 0], "{name}: numbers");
+        assert_eq!(self.numbers[..read.len()], read, "{name}: numbers");
+        assert_eq!(self.call(Operation::Judge, bytes), second_verdict(bytes), "{name}: verdict");
+        let (answer, store) = second_run(bytes);
+        assert_eq!(self.call(Operation::Run, bytes), answer, "{name}: run");
+        assert_eq!(self.results[..store.len()], store, "{name}: store");
+        (answer[0] != 0).then_some(answer[1])
+    }
+}
+
+fn call_second(operation: Operation, bytes: &[u8]) {
+    match operation {
+        Operation::Read => drop(black_box(numbers::read(bytes))),
+        Operation::Judge => drop(black_box(judged(bytes))),
+        Operation::Run => drop(black_box(marked(bytes))),
+    }
+}
+
+/// The second interpreter's verdict as the library tells it.
+fn second_verdict(bytes: &[u8]) -> Words {
+    match judged(bytes) {
+        Ok((_, inputs, ceiling)) => [1, ceiling, store_numbers(&inputs.store).len() as u64, 0, 0],
+        Err(refusal) => [0, u64::from(refusal.number), refusal.place as u64, 0, 0],
+    }
+}
+
+/// The second interpreter's run as the library tells it, and the final store.
+fn second_run(bytes: &[u8]) -> (Words, Vec<u64>) {
+    match marked(bytes) {
+        Answer::Finished { signal, steps, ceiling, store } => {
+            let first = if signal == Signal::Done { 1 } else { 2 };
+            ([first, steps, ceiling, store.len() as u64, 0], store)
+        }
+        Answer::Refused(refusal) => ([0, u64::from(refusal.number), refusal.place as u64, 0, 0], Vec::new()),
+        other => panic!("a judged file's run answers {other:?}"),
+    }
+}
