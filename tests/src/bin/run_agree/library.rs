@@ -6,6 +6,7 @@ pub type Numbers = [u64; 5];
 /// What they are before a call; no call leaves one of them so.
 const POISON: Numbers = [u64::MAX; 5];
 
+#[link(name = "calls", kind = "static")]
 extern "C" {
     fn nentuvar_judge(bytes: *const u8, length: usize, answer: *mut Numbers);
     fn nentuvar_run(
