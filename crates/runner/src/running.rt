@@ -200,8 +200,8 @@ fn run_call(
     ended
 }
 
-// So many arguments, into the slots from one on. Each is kept once those behind it are worked out, so a call among them
-// may use the slots.
+// So many arguments, whose parameters stand from `param` on, into the slots from one on. Each is kept once those behind it
+// are worked out, so a call among them may use the slots.
 fn run_args(
     nums: &[u64],
     ends: &[u64],
