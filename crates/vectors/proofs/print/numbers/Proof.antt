@@ -1,9 +1,9 @@
--- `vectors::lines::numbers` is safe and ends: fewer numbers are left after each turn.
+-- `vectors::print::numbers` is safe and ends: fewer numbers are left after each turn.
 use borrow.Author.Needs.{needs}
 use Prim.Native.Nat.{_-_}
 use lib.ListN.{length}
-use Rattle.vectors.proofs.lines.numbers.Statement.{statement}
-use Rattle.vectors.proofs.lines.numbers.Tie as tie
+use Rattle.vectors.proofs.print.numbers.Statement.{statement}
+use Rattle.vectors.proofs.print.numbers.Tie as tie
 
 abbrev Inv-loop : tie.InvT-loop
 Inv-loop list most index₀ index = Unit {0}

@@ -1,9 +1,9 @@
--- `vectors::lines::bytes` is safe and ends: fewer bytes are left after each turn.
+-- `vectors::print::bytes` is safe and ends: fewer bytes are left after each turn.
 use borrow.Author.Needs.{needs}
 use Prim.Native.Nat.{_-_}
 use lib.ListN.{length}
-use Rattle.vectors.proofs.lines.bytes.Statement.{statement}
-use Rattle.vectors.proofs.lines.bytes.Tie as tie
+use Rattle.vectors.proofs.print.bytes.Statement.{statement}
+use Rattle.vectors.proofs.print.bytes.Tie as tie
 
 abbrev Inv-loop : tie.InvT-loop
 Inv-loop list index₀ index = Unit {0}

@@ -1,5 +1,6 @@
 // What is printed: words, and numbers and bytes with a blank before each.
 use libc::STDOUT_FILENO;
+use rules::JudgeAnswer;
 use rules::ReadAnswer;
 use rules::Refusal;
 use rules::WriteAnswer;
@@ -56,6 +57,17 @@ pub(crate) fn read(answer: ReadAnswer) {
             number(count as u64);
         }
         ReadAnswer::Unread(unread) => refusal(unread),
+    }
+}
+
+pub(crate) fn judged(answer: JudgeAnswer) {
+    match answer {
+        JudgeAnswer::Accepted { ceiling, length } => {
+            text(b" judged");
+            number(ceiling);
+            number(length as u64);
+        }
+        JudgeAnswer::Refused(refused) => refusal(refused),
     }
 }
 
