@@ -12,6 +12,7 @@ pub mod judge;
 pub mod numbers;
 pub mod run;
 pub mod shape;
+pub mod stored;
 pub mod tree;
 pub mod unjudged;
 pub mod value;

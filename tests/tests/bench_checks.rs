@@ -1,9 +1,9 @@
-//! The bench checks of the scope page, starred and not.
+//! The bench checks of the scope page, starred and not. The program `vectors` runs their files too.
 
 mod common;
 
-use common::bench;
 use second::answer::{marked, unjudged, Answer};
+use second::stored::Stored;
 
 /// The example of the result lines without its store.
 const EXAMPLE: &str = "1 1 2 4 4 1 128 1 0 1 0 4 0 1 5 0 1 3 0 1 1 0 5 0 0 1 0 0 1 0 5 0 1 0 6 0 9";
@@ -13,18 +13,29 @@ fn times(count: usize, words: &str) -> String {
     format!("{words} ").repeat(count)
 }
 
+/// The bytes of a check, which have to be among the files of `vectors`.
+fn stored(bytes: Vec<u8>) -> Vec<u8> {
+    let stored = Stored::read().unwrap_or_else(|fault| panic!("{fault}"));
+    assert!(stored.files.values().any(|file| *file == bytes), "not stored: {bytes:?}");
+    bytes
+}
+
+fn bench(numbers: &str) -> Vec<u8> {
+    stored(common::bench(numbers))
+}
+
 fn lines(numbers: &str) -> String {
     marked(&bench(numbers)).lines()
 }
 
-/// A program that assigns an expression of a type to its one global and ends with the global at 0.
-fn assigning(kind: u64, expression: &str) -> String {
-    format!("1 0 1 {kind} 0 0 1 4 0 {expression} 0 0")
+/// A program that assigns an expression of a type to its one global, which holds a number before.
+fn assigning(kind: u64, expression: &str, before: u64) -> String {
+    format!("1 0 1 {kind} 0 0 1 4 0 {expression} 0 {before}")
 }
 
-/// What the one global holds after the assignment.
+/// What the one global holds after the assignment; 7 before.
 fn assigned(width: u64, expression: &str) -> u64 {
-    match marked(&bench(&assigning(width, expression))) {
+    match marked(&bench(&assigning(width, expression, 7))) {
         Answer::Finished { store, .. } => store[0],
         other => panic!("{other:?}"),
     }
@@ -48,7 +59,7 @@ fn the_example_with_a_wider_parameter() {
 
 #[test]
 fn three_more_that_are_stuck_unjudged() {
-    let sum = assigning(4, "9 0 1 4 1 1 5 1");
+    let sum = assigning(4, "9 0 1 4 1 1 5 1", 0);
     let condition = "1 0 0 0 0 2 1 1 1 0 0 0";
     let empty_function = "1 0 0 1 1 8 0 0 0 0 4 0 0 0";
     for stuck in [sum.as_str(), condition, empty_function] {
@@ -60,9 +71,9 @@ fn three_more_that_are_stuck_unjudged() {
 fn the_smallest_files() {
     assert_eq!(lines("1 0 0 0 0 0 0"), "done 1 1\n\n");
     assert_eq!(lines("1"), "refused 4 1\n");
-    assert_eq!(marked(&[]).lines(), "refused 1 0\n");
-    assert_eq!(marked(&[0x80]).lines(), "refused 2 0\n");
-    assert_eq!(marked(&[0x80, 0x00]).lines(), "refused 3 0\n");
+    assert_eq!(marked(&stored(vec![])).lines(), "refused 1 0\n");
+    assert_eq!(marked(&stored(vec![0x80])).lines(), "refused 2 0\n");
+    assert_eq!(marked(&stored(vec![0x80, 0x00])).lines(), "refused 3 0\n");
 }
 
 #[test]
@@ -82,12 +93,12 @@ fn slice_and_concatenation() {
 #[test]
 fn an_inout_parameter_wins_over_its_global() {
     let action = "0 1 3 8 0 3 2 1 4 0 1 8 1 1 3 0 1 8 2";
-    assert_eq!(lines(&format!("1 0 1 8 1 {action} 0 4 0 1 4 0 0 0")), "done 7 7\n2\n");
+    assert_eq!(lines(&format!("1 0 1 8 1 {action} 0 4 0 1 4 0 0 9")), "done 7 7\n2\n");
 }
 
 #[test]
 fn depth_32_of_expressions() {
-    let nested = |nots| assigning(0, &format!("{}0 1", times(nots, "7")));
+    let nested = |nots| assigning(0, &format!("{}0 1", times(nots, "7")), 0);
     assert_eq!(lines(&nested(30)), "done 32 32\n1\n");
     assert_eq!(lines(&nested(31)), "refused 5 40\n");
 }

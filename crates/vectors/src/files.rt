@@ -1,15 +1,15 @@
-// Files of bytes through the crates: a line for each crate that a file reaches.
-ghost use Prim.Native.Nat.{_≤_};
-ghost use lib.ListN.{length};
-ghost use Rattle.shape.specs.Ends.{mostNumbers};
-use crate::lines;
-use judge::Verdict;
+// Files of bytes: what each reads as; where it reads, the judge's verdict; where that accepts it, its result lines.
+use crate::print;
+use rules::JudgeAnswer;
 use rules::ReadAnswer;
-use rules::Refusal;
-use shape::Scan;
+use rules::WriteAnswer;
 
+// No file that is read holds more numbers.
+const NUMBERS: usize = 4096;
 // So many of a file's numbers are printed.
 const SHOWN: usize = 4;
+// Bytes enough for the result lines of every file.
+const LINES: usize = 12288;
 
 pub(crate) fn each() {
     let count = os::arg_count();
@@ -40,80 +40,44 @@ fn file(name: &[u8]) {
 }
 
 fn check(name: &[u8], bytes: &[u8]) {
-    let mut slots = [0u64; shape::NUMBERS];
-    let answer = numbers::read(bytes, &mut slots);
-    lines::text(name);
-    lines::read(answer);
+    let mut slots = [0u64; NUMBERS];
+    let answer = bench::read(bytes, &mut slots);
+    print::text(name);
+    print::read(answer);
     match answer {
-        ReadAnswer::Count(count) => read(name, bytes, &slots[0..count]),
-        ReadAnswer::Unread(_) => lines::end(),
+        ReadAnswer::Count(count) => {
+            print::numbers(&slots[..count], SHOWN);
+            print::end();
+            judge(name, bytes);
+        }
+        ReadAnswer::Unread(_) => print::end(),
     }
 }
 
-// The list of numbers that the bytes hold, and what the crates behind make of it.
-fn read(name: &[u8], bytes: &[u8], list: &[u64])
-    requires { ⌜ length (now list) ≤ mostNumbers ⌝ }
-{
-    lines::numbers(list, SHOWN);
-    lines::end();
-    scan(name, bytes, list);
-}
-
-// The program at the head of a list of numbers, which the bytes hold. An index becomes the place of that number.
-fn scan(name: &[u8], bytes: &[u8], list: &[u64])
-    requires { ⌜ length (now list) ≤ mostNumbers ⌝ }
-{
-    let mut directory = [0u64; shape::SLOTS];
-    let mut ends = [0u64; shape::NUMBERS];
-    let answer = shape::scan_program(list, &mut directory, &mut ends);
-    lines::text(name);
+fn judge(name: &[u8], bytes: &[u8]) {
+    let answer = bench::judge(bytes);
+    print::text(name);
+    print::judged(answer);
+    print::end();
     match answer {
-        Scan::Past(end) => {
-            lines::text(b" shape");
-            lines::number(numbers::place_of(bytes, end) as u64);
-            lines::end();
-            verdict(name, bytes, list);
-        }
-        Scan::Fault { number, index } => {
-            let place = numbers::place_of(bytes, index);
-            lines::refusal(Refusal { number, place });
-            lines::end();
-        }
+        JudgeAnswer::Accepted { .. } => run(name, bytes),
+        JudgeAnswer::Refused(_) => {}
     }
 }
 
-// The judge's verdict on the list of numbers.
-fn verdict(name: &[u8], bytes: &[u8], list: &[u64])
-    requires { ⌜ length (now list) ≤ mostNumbers ⌝ }
-{
-    let mut directory = [0u64; shape::SLOTS];
-    let mut ends = [0u64; shape::NUMBERS];
-    let mut widths = [0u64; program::WIDTHS];
-    let mut entries = [0u64; lists::ENTRIES];
-    let mut offsets = [0u64; lists::OFFSETS];
-    let answer = judge::judge(
-        list,
-        &mut directory,
-        &mut ends,
-        &mut widths,
-        &mut entries,
-        &mut offsets,
-    );
-    lines::text(name);
+// The result lines as they are, with the name before the first.
+fn run(name: &[u8], bytes: &[u8]) {
+    let mut result = [0u8; LINES];
+    let answer = bench::lines(bytes, &mut result);
+    print::text(name);
     match answer {
-        Verdict::Accepted {
-            ceiling,
-            store: _,
-            length,
-        } => {
-            lines::text(b" judged");
-            lines::number(ceiling);
-            lines::number(length as u64);
+        WriteAnswer::Length(length) => {
+            print::text(b" ");
+            print::text(&result[..length]);
         }
-        Verdict::Refused { number, index } => {
-            let place = numbers::place_of(bytes, index);
-            lines::refusal(Refusal { number, place });
+        WriteAnswer::Unwritten(unwritten) => {
+            print::refusal(unwritten);
+            print::end();
         }
     }
-    lines::end();
 }

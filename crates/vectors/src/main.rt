@@ -1,7 +1,7 @@
-// Runs bench checks through the proved crates and prints what each answers. The arguments name files of bytes. What is
-// printed is compared with the file `stdout`, which is worked out from document 01 and never from this program.
+// Runs bench checks by the operations of crate `bench` and prints what they answer. The arguments name files of bytes.
+// What is printed is compared with the file `stdout`, which is worked out from document 01 and never from this program.
 mod files;
-mod lines;
+mod print;
 mod room;
 
 fn main() {

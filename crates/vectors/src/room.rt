@@ -1,6 +1,6 @@
 // Reading and writing where there is little room, and what stays. A line says what is read or written, how many of the
 // slots or bytes are lent, the answer, and what all of them hold afterwards.
-use crate::lines;
+use crate::print;
 use rules::ReadAnswer;
 use rules::WriteAnswer;
 ghost use Prim.Native.Nat.{_≤_};
@@ -36,21 +36,21 @@ fn read(bytes: &[u8], room: usize)
 {
     let mut slots = [SLOT_MARK; ALL];
     let answer = read_into(bytes, room, &mut slots);
-    lines::text(b"read");
-    lines::bytes(bytes);
-    lines::text(b" into");
-    lines::number(room as u64);
-    lines::read(answer);
-    lines::text(b" slots");
-    lines::numbers(&slots, ALL);
-    lines::end();
+    print::text(b"read");
+    print::bytes(bytes);
+    print::text(b" into");
+    print::number(room as u64);
+    print::read(answer);
+    print::text(b" slots");
+    print::numbers(&slots, ALL);
+    print::end();
 }
 
 // With the first `room` of the slots lent.
 fn read_into(bytes: &[u8], room: usize, slots: &mut [u64]) -> ReadAnswer
     requires { ⌜ room ≤ length (now slots) ⌝ }
 {
-    numbers::read(bytes, &mut slots[0..room])
+    bench::read(bytes, &mut slots[0..room])
 }
 
 pub(crate) fn writes() {
@@ -67,21 +67,21 @@ fn write(list: &[u64], room: usize)
 {
     let mut bytes = [BYTE_MARK; ALL];
     let answer = write_into(list, room, &mut bytes);
-    lines::text(b"write");
-    lines::numbers(list, SHOWN);
-    lines::text(b" into");
-    lines::number(room as u64);
-    lines::written(answer);
-    lines::text(b" bytes");
-    lines::bytes(&bytes);
-    lines::end();
+    print::text(b"write");
+    print::numbers(list, SHOWN);
+    print::text(b" into");
+    print::number(room as u64);
+    print::written(answer);
+    print::text(b" bytes");
+    print::bytes(&bytes);
+    print::end();
 }
 
 // With the first `room` of the bytes lent.
 fn write_into(list: &[u64], room: usize, bytes: &mut [u8]) -> WriteAnswer
     requires { ⌜ room ≤ length (now bytes) ⌝ }
 {
-    numbers::write(list, &mut bytes[0..room])
+    bench::write(list, &mut bytes[0..room])
 }
 
 // Lists that are written and read back. One that takes more bytes than a bench file may have is written and not read.
@@ -94,25 +94,25 @@ pub(crate) fn round_trips() {
 
 fn round_trip(list: &[u64]) {
     let mut bytes = io::large_buffer();
-    let answer = numbers::write(list, &mut bytes);
-    lines::text(b"there");
-    lines::number(list.len() as u64);
-    lines::numbers(list, SHOWN);
-    lines::written(answer);
+    let answer = bench::write(list, &mut bytes);
+    print::text(b"there");
+    print::number(list.len() as u64);
+    print::numbers(list, SHOWN);
+    print::written(answer);
     match answer {
         WriteAnswer::Length(length) => read_back(&bytes[0..length]),
-        WriteAnswer::Unwritten(_) => lines::end(),
+        WriteAnswer::Unwritten(_) => print::end(),
     }
 }
 
 fn read_back(bytes: &[u8]) {
     let mut slots = [0u64; ALL];
-    let answer = numbers::read(bytes, &mut slots);
-    lines::text(b" back");
-    lines::read(answer);
+    let answer = bench::read(bytes, &mut slots);
+    print::text(b" back");
+    print::read(answer);
     match answer {
-        ReadAnswer::Count(count) => lines::numbers(&slots, count),
+        ReadAnswer::Count(count) => print::numbers(&slots, count),
         ReadAnswer::Unread(_) => {}
     }
-    lines::end();
+    print::end();
 }

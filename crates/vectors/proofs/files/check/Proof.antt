@@ -1,6 +1,6 @@
 -- `vectors::files::check` is safe and ends: the numbers that are counted lie within the slots.
 use Rattle.numbers.proofs.Outcomes.{numbers-within}
-use Rattle.vectors.proofs.Within.{part-fits}
+use Rattle.numbers.proofs.Room.{part-whole}
 use borrow.Author.Needs.{needs}
 use Rattle.vectors.proofs.files.check.Statement.{statement}
 use Rattle.vectors.proofs.files.check.Tie as tie
@@ -20,23 +20,26 @@ read-requires-2 c κs = search needs
 enum-known-answer : tie.Need-enum-known-answer
 enum-known-answer c = search needs
 
-sub-read : tie.Need-sub-read
-sub-read c = search needs
+array-share-prefix-slots : tie.Need-array-share-prefix-slots
+array-share-prefix-slots c = search (numbers-within, needs)
 
-part-read-start : tie.Need-part-read-start
-part-read-start c = search needs
+slice-aggregate-numbers : tie.Need-slice-aggregate-numbers
+slice-aggregate-numbers c = search (numbers-within, part-whole, needs)
 
-part-read-end : tie.Need-part-read-end
-part-read-end c = search (numbers-within, needs)
+numbers-requires : tie.Need-numbers-requires
+numbers-requires c κs = search needs
 
-read-requires-3 : tie.Need-read-requires-3
-read-requires-3 c κs = search (numbers-within, part-fits, needs)
+end-requires : tie.Need-end-requires
+end-requires c κs = search needs
+
+judge-requires : tie.Need-judge-requires
+judge-requires c κs = search needs
 
 enum-told : tie.Need-enum-told
 enum-told c = search needs
 
-end-requires : tie.Need-end-requires
-end-requires c κs = search needs
+end-requires-2 : tie.Need-end-requires-2
+end-requires-2 c κs = search needs
 
 returns : tie.Need-returns
 returns c = search needs
@@ -53,11 +56,12 @@ check-spec =
     text-requires
     read-requires-2
     enum-known-answer
-    sub-read
-    part-read-start
-    part-read-end
-    read-requires-3
-    enum-told
+    array-share-prefix-slots
+    slice-aggregate-numbers
+    numbers-requires
     end-requires
+    judge-requires
+    enum-told
+    end-requires-2
     returns
     returns-2)
