@@ -66,14 +66,6 @@ fn judge_in(bytes: &[u8], slots: &mut [u64]) -> JudgeAnswer
     }
 }
 
-// The refusal of a file at the number with an index: that number's place.
-fn refusal_at(bytes: &[u8], number: u64, index: usize) -> Refusal
-    ensures { λ r. ⌜ r ≡ refusalAt (now (bytes .entry)) number index ⌝ }
-{
-    let place = numbers::place_of(bytes, index);
-    Refusal { number, place }
-}
-
 // The same, for the numbers that the bytes hold.
 fn judge_numbers(bytes: &[u8], nums: &[u64]) -> JudgeAnswer
     requires { ⌜ streamOf (now bytes) ≡ numbers (now nums) ⌝ }
@@ -102,6 +94,14 @@ fn judge_numbers(bytes: &[u8], nums: &[u64]) -> JudgeAnswer
             JudgeAnswer::Refused(refusal_at(bytes, number, index))
         }
     }
+}
+
+// The refusal of a file at the number with an index: that number's place.
+fn refusal_at(bytes: &[u8], number: u64, index: usize) -> Refusal
+    ensures { λ r. ⌜ r ≡ refusalAt (now (bytes .entry)) number index ⌝ }
+{
+    let place = numbers::place_of(bytes, index);
+    Refusal { number, place }
 }
 
 // The run of a bench file: how it ended, its steps, ceiling and store's length, with the final store in the result slots
