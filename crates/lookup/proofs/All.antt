@@ -1,5 +1,5 @@
 -- The keys of a table against the patterns of an entry, the first and then the others.
-use mathlib.Core.Bool.{Bool, true, false, false≢true, not}
+use mathlib.Core.Bool.{Bool, true, false, false≢true}
 use mathlib.Core.Path.{_≡_, refl, sym, _∙_}
 use mathlib.Core.List.{List, [], _∷_}
 use Prim.Native.Nat.{ℕ, _+_, _-_, _^_, _<_}
@@ -245,14 +245,6 @@ along-told nums ends directory keys from count slot j at m false next prefix mor
     others-prefix nums ends directory keys from count slot j at m false next prefix more t e (Yes p last) u p last refl refl
 along-told nums ends directory keys from count slot j at m l next prefix more t e No u =
     others-unmatched nums ends directory keys from count slot j at m l next prefix more t e No u refl
-
-pub not-yes : (b : Bool) → not b ≡ true → b ≡ false
-not-yes true e = sym e
-not-yes false e = refl
-
-pub not-no : (b : Bool) → not b ≡ false → b ≡ true
-not-no true e = refl
-not-no false e = sym e
 
 -- the loop: what is told of the keys that are left is told of all
 pub record Matching (nums ends directory keys : List ℕ) (from count slot at key left width j next : ℕ) (lpm : Bool)

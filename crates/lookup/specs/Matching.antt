@@ -3,7 +3,7 @@
 use mathlib.Core.Bool.{Bool, true, false}
 use mathlib.Core.Path.{_≡_}
 use mathlib.Core.List.{List, [], _∷_, map}
-use Prim.Native.Nat.{ℕ, _+_, _*_, _≤_}
+use Prim.Native.Nat.{ℕ, _+_, _≤_}
 use lib.ListN.{length, getD}
 use Rattle.rules.specs.Numbers.{mostBytes}
 use Rattle.rules.specs.Words.{widest}

@@ -1,7 +1,8 @@
 -- What carries it: what is told of the keys that are left is told of all.
-use Rattle.lookup.proofs.All.{Matching, all, matching-missed, matching-first, matching-kept, not-yes, not-no}
+use Rattle.lookup.proofs.All.{Matching, all, matching-missed, matching-first, matching-kept}
 use mathlib.Core.Logic.{⊎-elim}
 use borrow.Author.Needs.{needs}
+use borrow.Author.Tests.{not-true, not-false}
 use Rattle.lookup.proofs.matching.match_from.Statement.{statement}
 use Rattle.lookup.proofs.matching.match_from.Tie as tie
 
@@ -18,7 +19,7 @@ match-one-requires : tie.Need-match-one-requires Inv-loop μ-loop
 match-one-requires c κs = search (all, needs)
 
 returns : tie.Need-returns Inv-loop μ-loop
-returns c = matching-missed _ _ _ _ _ _ _ _ _ _ _ _ _ _ _ (c .before .before .before .before .loop .inv) (c .before .before .before .loop-test .taken) _ _ _ _ (c .before .before .match-one .ensures) (not-yes _ (c .if1 .taken))
+returns c = matching-missed _ _ _ _ _ _ _ _ _ _ _ _ _ _ _ (c .before .before .before .before .loop .inv) (c .before .before .before .loop-test .taken) _ _ _ _ (c .before .before .match-one .ensures) (not-true _ (c .if1 .taken))
 
 add-key : tie.Need-add-key Inv-loop μ-loop
 add-key c = search (all, needs)
@@ -43,8 +44,8 @@ loop-less c = search (all, needs)
 
 loop-again : tie.Need-loop-again Inv-loop μ-loop
 loop-again c = ⊎-elim
-    (λ first. rw (first .1, first .2) (matching-first _ _ _ _ _ _ _ _ _ _ _ _ _ _ _ (c .before .before .before .before .before .before .loop .inv) (c .before .before .before .before .before .loop-test .taken) _ _ _ _ (c .before .before .before .before .match-one .ensures) (not-no _ (c .before .before .if1 .left)) (not-yes _ (first .0 .taken))))
-    (λ later. rw (later .1, later .2) (matching-kept _ _ _ _ _ _ _ _ _ _ _ _ _ _ _ (c .before .before .before .before .before .before .loop .inv) (c .before .before .before .before .before .loop-test .taken) _ _ _ _ (c .before .before .before .before .match-one .ensures) (not-no _ (c .before .before .if1 .left)) (not-no _ (later .0 .left))))
+    (λ first. rw (first .1, first .2) (matching-first _ _ _ _ _ _ _ _ _ _ _ _ _ _ _ (c .before .before .before .before .before .before .loop .inv) (c .before .before .before .before .before .loop-test .taken) _ _ _ _ (c .before .before .before .before .match-one .ensures) (not-false _ (c .before .before .if1 .left)) (not-true _ (first .0 .taken))))
+    (λ later. rw (later .1, later .2) (matching-kept _ _ _ _ _ _ _ _ _ _ _ _ _ _ _ (c .before .before .before .before .before .before .loop .inv) (c .before .before .before .before .before .loop-test .taken) _ _ _ _ (c .before .before .before .before .match-one .ensures) (not-false _ (c .before .before .if1 .left)) (not-false _ (later .0 .left))))
     (c .before .if2 .came)
 
 returns-2 : tie.Need-returns-2 Inv-loop μ-loop
