@@ -492,15 +492,6 @@ module _ (nums directory ends scope slots frame : List ℕ) (depth at : ℕ)
   pub expr-inside : at < length nums
   expr-inside = expr-begins (a .stands) .inside
 
-  pub expr-next : at + 1 < 2 ^ 64
-  expr-next = omega (arith, expr-inside, a .stage .scene .scopes .program .numbers)
-
-  pub expr-second : at + 2 < 2 ^ 64
-  expr-second = omega (arith, expr-inside, a .stage .scene .scopes .program .numbers)
-
-  pub expr-third : at + 3 < 2 ^ 64
-  expr-third = omega (arith, expr-inside, a .stage .scene .scopes .program .numbers)
-
   pub expr-leaf : LeafAt nums ends depth at
       → AsksLeafAt nums directory ends scope slots frame depth at
   expr-leaf l = record { asks = a; leaf = l }
@@ -523,9 +514,6 @@ expr-fall scope depth t e = rank-lower t (getD scope 0 0) (32 * depth + 20) (32 
 
 pub ruleset exprRuns = (
   expr-inside,
-  expr-next,
-  expr-second,
-  expr-third,
   expr-leaf,
   expr-one,
   expr-two,

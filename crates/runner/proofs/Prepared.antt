@@ -1,15 +1,14 @@
 -- The directory as a run finds it: its parts as they were, and behind them what the judge left.
-use mathlib.Core.Option.{some}
-use mathlib.Core.Path.{_≡_, _∙_, sym}
+use mathlib.Core.Path.{_≡_, _∙_}
 use mathlib.Core.List.{List, [], _∷_}
 use Prim.Native.Nat.{ℕ, _+_, _-_, _*_, _≤_, _<_}
 use native.Mathlib.Omega.{arith}
-use lib.ListN.{length, getD, getElem?}
-use Rattle.rules.specs.Syntax.{Key, Table, Program}
-use Rattle.rules.specs.Reading.{mostGlobals, mostTables, mostKeys}
+use lib.ListN.{length, getD}
+use Rattle.rules.specs.Syntax.{Program}
+use Rattle.rules.specs.Reading.{mostGlobals, mostKeys}
 use Rattle.rules.specs.Form.{ok, judgeProgram}
 use Rattle.rules.specs.Lists.{Entry, mostEntries}
-use Rattle.shape.specs.Directory.{headersSlot, globalsSlot, callablesSlot, tablesSlot, offsetsSlot, entriesSlot, widthsSlot, slotCount}
+use Rattle.shape.specs.Directory.{bodySlot, endSlot, offsetsSlot, entriesSlot, widthsSlot}
 use Rattle.program.specs.Stands.{StandsList, StandsProgram}
 use Rattle.program.specs.Keys.{WidthsOf}
 use Rattle.program.proofs.Found.{member-in}
@@ -125,8 +124,8 @@ module _ {offsets entries widths directory directory′ : List ℕ} (p : Prepare
       globals = list-kept (omega arith) (s .globals);
       callables = list-kept (omega arith) (s .callables);
       tables = list-kept (omega arith) (s .tables);
-      body = rw (p .parts 68 (omega arith)) (s .body);
-      ending = p .parts 69 (omega arith) ∙ s .ending;
+      body = rw (p .parts bodySlot (omega arith)) (s .body);
+      ending = p .parts endSlot (omega arith) ∙ s .ending;
     }
 
     pub offsets-laid : {P : Program} → length (P .globals) ≤ mostGlobals → OffsetsOf P offsets 0

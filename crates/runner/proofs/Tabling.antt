@@ -6,7 +6,6 @@ use mathlib.Core.List.{List, [], _∷_, map}
 use Prim.Native.Nat.{ℕ, suc, _+_, _-_, _*_, _≤_, _<_, _^_}
 use native.Mathlib.Omega.{arith}
 use lib.ListN.{length, getD, getElem?, replicate}
-use Rattle.rules.specs.Numbers.{mostBytes}
 use Rattle.rules.specs.Words.{widest}
 use Rattle.rules.specs.Syntax.{Numeral, Key, Table, Program}
 use Rattle.rules.specs.Reading.{mostKeys}
@@ -326,13 +325,6 @@ module _ (nums directory ends scope slots frame : List ℕ) (t : ℕ) where
       table-keys-fall x e = rank-lower x (getD scope 0 0) 1500 (1400 + getD nums at 0) e
           (omega (arith, key-count (a .program) found (a .stage) (a .going)))
 
-      pub default-inside : default < length nums
-      default-inside = table-default it .holds .inside
-
-      pub default-second : default + 2 < 2 ^ 64
-      unfolding applyScope
-      default-second = omega (arith, default-inside, a .stage .scene .scopes .program .numbers)
-
     module _ (slots₁ frame₁ keys₁ : List ℕ)
         (r : RunsKeys nums directory ends scope slots slots₁ frame frame₁ (replicate 4 0) keys₁ 0
         (at + 1) (getD nums at 0)) where
@@ -374,17 +366,6 @@ module _ (nums directory ends scope slots frame : List ℕ) (t : ℕ) where
                     (e .entry .position) (e .entry .arguments)
                     (entry-same (a .program) found (a .stage) (a .going) keys₁ h told q));
               }
-
-          pub entry-inside : (entry : ℕ) → x ≡ Lookups.Found entry → entry < length nums
-          entry-inside entry q = there (a .program) found (a .stage) (a .going) keys₁ h told q .position .inside
-
-          pub entry-low : (entry : ℕ) → x ≡ Lookups.Found entry → entry < mostBytes
-          unfolding applyScope
-          entry-low entry q = omega (arith, entry-inside entry q, a .stage .scene .scopes .program .numbers)
-
-          pub entry-next : (entry : ℕ) → x ≡ Lookups.Found entry → entry + 1 < 2 ^ 64
-          unfolding applyScope
-          entry-next entry q = omega (arith, entry-inside entry q, a .stage .scene .scopes .program .numbers)
 
           pub default-action : x ≡ Lookups.Nothing
               → AsksAction nums directory ends slots₁ frame₁ actions default (default + 2)
@@ -465,12 +446,8 @@ pub ruleset tableRuns = (
   table-next,
   table-keys,
   table-keys-fall,
-  default-inside,
-  default-second,
   table-look,
   entry-action,
-  entry-inside,
-  entry-next,
   default-action,
   entry-runs,
   default-runs,

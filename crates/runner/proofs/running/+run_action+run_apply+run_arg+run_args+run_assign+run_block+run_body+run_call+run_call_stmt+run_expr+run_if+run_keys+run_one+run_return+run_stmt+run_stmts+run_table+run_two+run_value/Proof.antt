@@ -15,7 +15,7 @@ use Rattle.runner.proofs.Blocks.{Blocking, blockRuns, memberRuns, membe
 use Rattle.runner.proofs.Applying.{applyRuns}
 use Rattle.runner.proofs.Keying.{keysRuns, keys-fall, keys-rest, keys-runs}
 use Rattle.runner.proofs.Actions.{actionRuns, action-body, action-falls}
-use Rattle.runner.proofs.Tabling.{tableRuns, action-fall, default-action, default-runs, entry-action, entry-inside, entry-low, table-look}
+use Rattle.runner.proofs.Tabling.{tableRuns, action-fall, default-action, default-runs, entry-action, table-look}
 use Prim.Native.Nat.{ℕ, _<_}
 use borrow.Fn.Kinds.{In}
 use borrow.Fn.PlainCycle.{Measures, is, falls, and}
