@@ -9,6 +9,8 @@ pub mod example;
 pub mod generate;
 pub mod inputs;
 pub mod judge;
+#[cfg(feature = "library")]
+pub mod library;
 pub mod numbers;
 pub mod run;
 pub mod shape;

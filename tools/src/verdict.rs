@@ -16,50 +16,14 @@ pub fn answer_of(words: Words, results: &[u64]) -> Answer {
     Answer::Finished { signal, steps: second, ceiling: third, store: results[..length as usize].to_vec() }
 }
 
+/// The judge's refusal of a file, or the runner's answer.
 #[cfg(feature = "library")]
-pub use library::answer;
-
-#[cfg(feature = "library")]
-mod library {
-    use super::{answer_of, Words};
-    use second::answer::Answer;
+pub fn answer(bytes: &[u8]) -> Answer {
+    use second::library::{run, MOST_STORE};
     use second::run::WORKING_SLOTS;
-
-    /// A store has at most 32 headers, each with a mark and 16 fields.
-    const RESULT_SLOTS: usize = 32 * 17;
-
-    #[link(name = "calls", kind = "static")]
-    extern "C" {
-        fn nentuvar_run(
-            bytes: *const u8,
-            length: usize,
-            results: *mut u64,
-            result_count: usize,
-            working: *mut u64,
-            working_count: usize,
-            answer: *mut Words,
-        );
-    }
-
-    /// The judge's refusal of a file, or the runner's answer.
-    pub fn answer(bytes: &[u8]) -> Answer {
-        let mut results = [0; RESULT_SLOTS];
-        let mut working = vec![0; WORKING_SLOTS];
-        let mut words: Words = [0; 5];
-        // The call reads and writes only the slices that it is lent, by their lengths.
-        unsafe {
-            nentuvar_run(
-                bytes.as_ptr(),
-                bytes.len(),
-                results.as_mut_ptr(),
-                results.len(),
-                working.as_mut_ptr(),
-                working.len(),
-                &mut words,
-            )
-        };
-        answer_of(words, &results)
-    }
+    let mut results = [0; MOST_STORE];
+    let mut working = vec![0; WORKING_SLOTS];
+    answer_of(run(bytes, &mut results, MOST_STORE, &mut working, WORKING_SLOTS), &results)
 }
 
 #[cfg(test)]

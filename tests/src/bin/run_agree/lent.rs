@@ -1,14 +1,12 @@
 //! The slots that runs are lent: poisoned before a run, compared after it, and poisoned again where it wrote.
 
-use crate::library;
 use crate::wanted::outcome;
 use second::answer::Answer;
+use second::library::{self, MOST_STORE};
 use second::run::WORKING_SLOTS;
 
 /// Result and working slots lent over those that are wanted: none, some, and short by one: either of them, and both.
 const WAYS: [(isize, isize); 5] = [(0, 0), (3, 7), (0, -1), (-1, 0), (-1, -1)];
-/// How many numbers a store has at most: a valid mark and 16 fields for each of 32 headers.
-const MOST_RESULTS: usize = 544;
 /// The store's length that is taken for a file without a store.
 const SOME: usize = 5;
 /// Slots over those that are wanted, of which 16 at least stay behind the lent ones, where no run may touch them.
@@ -83,7 +81,7 @@ impl Loan {
     fn new(way: usize) -> Loan {
         Loan {
             over: WAYS[way],
-            results: Slots::poisoned(MOST_RESULTS + OVER, way),
+            results: Slots::poisoned(MOST_STORE + OVER, way),
             working: Slots::poisoned(WORKING_SLOTS + OVER, WAYS.len() + way),
         }
     }

@@ -8,7 +8,6 @@
 //! ```
 
 mod lent;
-mod library;
 mod tally;
 mod wanted;
 

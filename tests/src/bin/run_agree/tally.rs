@@ -1,9 +1,8 @@
 //! Files compared, and what came of it.
 
 use crate::lent::Loan;
-use crate::library;
-use crate::wanted::verdict;
 use second::answer::{marked, Answer, Signal};
+use second::library::{judge, judge_says};
 use std::collections::BTreeMap;
 use std::fmt::Display;
 
@@ -26,8 +25,8 @@ impl Tally {
         let answer = marked(bytes);
         *self.answers.entry(kind(&answer)).or_default() += 1;
         self.files += 1;
-        let told = library::judge(bytes);
-        if verdict(&answer) != Some(told) {
+        let told = judge(bytes);
+        if judge_says(&answer) != Some(told) {
             self.differences += 1;
             println!("{name}: the judge says {told:?}, the second interpreter {answer:?}");
         }

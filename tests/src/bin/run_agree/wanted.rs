@@ -1,8 +1,8 @@
-//! What the verified calls have to answer and to leave, by the second interpreter's answer.
+//! What the verified run has to answer and to leave, by the second interpreter's answer and the slots that are lent.
 
 use crate::lent::Lent;
-use crate::library::Numbers;
-use second::answer::{Answer, Signal};
+use second::answer::{Answer, Refusal};
+use second::library::{refused, run_says, Numbers};
 use second::run::WORKING_SLOTS;
 
 static ZEROS: [u64; WORKING_SLOTS] = [0; WORKING_SLOTS];
@@ -14,38 +14,18 @@ pub struct Outcome<'a> {
     pub working: &'a [u64],
 }
 
-/// The judge's; none if this is no answer to a judged file.
-pub fn verdict(answer: &Answer) -> Option<Numbers> {
-    match answer {
-        Answer::Refused(refusal) if refusal.number <= 12 => Some(refused(refusal.number, refusal.place)),
-        Answer::Finished { ceiling, store, .. } => Some([1, *ceiling, store.len() as u64, 0, 0]),
-        _ => None,
-    }
-}
-
-/// A run's with so many slots; none if this is no answer to a judged file.
+/// None if this is no answer to a judged file.
 pub fn outcome(answer: &Answer, lent: Lent) -> Option<Outcome<'_>> {
-    match answer {
-        Answer::Refused(refusal) if refusal.number <= 12 => Some(untouched(refusal.number, refusal.place)),
+    let told = run_says(answer)?;
+    Some(match answer {
         Answer::Finished { store, .. } if lent.results < store.len() || lent.working < WORKING_SLOTS => {
-            Some(untouched(13, 0))
+            untouched(refused(Refusal::at(13, 0)))
         }
-        Answer::Finished { signal, steps, ceiling, store } => {
-            let first = match signal {
-                Signal::Done => 1,
-                Signal::Exit => 2,
-            };
-            let answer = [first, *steps, *ceiling, store.len() as u64, 0];
-            Some(Outcome { answer, results: store, working: &ZEROS })
-        }
-        _ => None,
-    }
+        Answer::Finished { store, .. } => Outcome { answer: told, results: store, working: &ZEROS },
+        _ => untouched(told),
+    })
 }
 
-fn refused(number: u8, place: usize) -> Numbers {
-    [0, u64::from(number), place as u64, 0, 0]
-}
-
-fn untouched(number: u8, place: usize) -> Outcome<'static> {
-    Outcome { answer: refused(number, place), results: &[], working: &[] }
+fn untouched(answer: Numbers) -> Outcome<'static> {
+    Outcome { answer, results: &[], working: &[] }
 }

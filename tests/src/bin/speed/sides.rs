@@ -1,31 +1,12 @@
 //! The two that are measured: the proved library through its C calls, and the second interpreter.
 
 use crate::timing::shortest;
-use second::answer::{judged, marked, Answer, Signal};
-use second::inputs::store_numbers;
+use second::answer::{judged, marked, Answer};
+use second::library::{self, judge_says, run_says, Numbers, MOST_STORE};
 use second::numbers::{self, MOST_BYTES};
 use second::run::WORKING_SLOTS;
 use std::collections::HashMap;
 use std::hint::black_box;
-
-/// The numbers of a store at most, and those of a call's answer.
-const MOST_STORE: usize = 544;
-type Words = [u64; 5];
-
-#[link(name = "calls", kind = "static")]
-extern "C" {
-    fn nentuvar_read(bytes: *const u8, length: usize, slots: *mut u64, count: usize, answer: *mut Words);
-    fn nentuvar_judge(bytes: *const u8, length: usize, answer: *mut Words);
-    fn nentuvar_run(
-        bytes: *const u8,
-        length: usize,
-        results: *mut u64,
-        count: usize,
-        working: *mut u64,
-        room: usize,
-        answer: *mut Words,
-    );
-}
 
 #[derive(Clone, Copy, PartialEq, Eq, Hash)]
 pub enum Operation {
@@ -88,23 +69,13 @@ impl Library {
         }
     }
 
-    fn call(&mut self, operation: Operation, bytes: &[u8]) -> Words {
-        let mut answer = [0; 5];
+    fn call(&mut self, operation: Operation, bytes: &[u8]) -> Numbers {
         let Library { numbers, results, working, .. } = self;
-        let (file, length) = (bytes.as_ptr(), bytes.len());
-        let (numbers, count) = (numbers.as_mut_ptr(), numbers.len());
-        let (results, room) = (results.as_mut_ptr(), results.len());
-        // A call reads and writes only the slices that it is lent, by their lengths.
-        unsafe {
-            match operation {
-                Operation::Read => nentuvar_read(file, length, numbers, count, &mut answer),
-                Operation::Judge => nentuvar_judge(file, length, &mut answer),
-                Operation::Run => {
-                    nentuvar_run(file, length, results, room, working.as_mut_ptr(), working.len(), &mut answer)
-                }
-            }
+        match operation {
+            Operation::Read => library::read(bytes, numbers),
+            Operation::Judge => library::judge(bytes),
+            Operation::Run => library::run(bytes, results, MOST_STORE, working, WORKING_SLOTS),
         }
-        answer
     }
 
     /// The times of an operation on a file, the average of several: the shortest of these and of all measured before.
@@ -143,11 +114,12 @@ impl Library {
         let read: Vec<u64> = numbers::read(bytes).expect(name).iter().map(|number| number.value).collect();
         assert_eq!(self.call(Operation::Read, bytes), [1, read.len() as u64, 0, 0, 0], "{name}: numbers");
         assert_eq!(self.numbers[..read.len()], read, "{name}: numbers");
-        assert_eq!(self.call(Operation::Judge, bytes), second_verdict(bytes), "{name}: verdict");
-        let (answer, store) = second_run(bytes);
-        assert_eq!(self.call(Operation::Run, bytes), answer, "{name}: run");
+        let answer = marked(bytes);
+        assert_eq!(Some(self.call(Operation::Judge, bytes)), judge_says(&answer), "{name}: verdict");
+        assert_eq!(Some(self.call(Operation::Run, bytes)), run_says(&answer), "{name}: run");
+        let Answer::Finished { steps, store, .. } = answer else { return None };
         assert_eq!(self.results[..store.len()], store, "{name}: store");
-        (answer[0] != 0).then_some(answer[1])
+        Some(steps)
     }
 }
 
@@ -156,25 +128,5 @@ fn call_second(operation: Operation, bytes: &[u8]) {
         Operation::Read => drop(black_box(numbers::read(bytes))),
         Operation::Judge => drop(black_box(judged(bytes))),
         Operation::Run => drop(black_box(marked(bytes))),
-    }
-}
-
-/// The second interpreter's verdict as the library tells it.
-fn second_verdict(bytes: &[u8]) -> Words {
-    match judged(bytes) {
-        Ok((_, inputs, ceiling)) => [1, ceiling, store_numbers(&inputs.store).len() as u64, 0, 0],
-        Err(refusal) => [0, u64::from(refusal.number), refusal.place as u64, 0, 0],
-    }
-}
-
-/// The second interpreter's run as the library tells it, and the final store.
-fn second_run(bytes: &[u8]) -> (Words, Vec<u64>) {
-    match marked(bytes) {
-        Answer::Finished { signal, steps, ceiling, store } => {
-            let first = if signal == Signal::Done { 1 } else { 2 };
-            ([first, steps, ceiling, store.len() as u64, 0], store)
-        }
-        Answer::Refused(refusal) => ([0, u64::from(refusal.number), refusal.place as u64, 0, 0], Vec::new()),
-        other => panic!("a judged file's run answers {other:?}"),
     }
 }
