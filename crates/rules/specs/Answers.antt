@@ -1,6 +1,6 @@
 -- What the public operations answer and leave in the slots lent to them (document 01, "The answers"). An answer is a
--- list of numbers: 0, a refusal's number and its place; or 1 (2 where a run ends by exit) and what is told. A stuck run
--- would be 3, which is no answer. Answers depend on the bytes or numbers given and on how many slots are lent: what the
+-- list of numbers: 0, a refusal's number and its place; or 1 (2 where a run ends by exit, 4 and the error where it ends
+-- by a reject) and what is told. A stuck run would be 3, which is no answer. Answers depend on the bytes or numbers given and on how many slots are lent: what the
 -- slots held occurs only in what is left.
 use mathlib.Core.Bool.{true, false, _&&_}
 use Prim.Native.Nat.{ℕ}
@@ -9,7 +9,7 @@ use lib.Dec.{leb}
 use lib.ListN.{length, drop, replicate}
 use Rattle.rules.specs.declared.Refusal.{Refusal}
 use Rattle.rules.specs.declared.Signal.{Signal}
-use Rattle.rules.specs.declared.Signal.the-variants.{Done, Exit}
+use Rattle.rules.specs.declared.Signal.the-variants.{Done, Exit, Reject}
 use Rattle.rules.specs.declared.ReadAnswer.{ReadAnswer}
 use Rattle.rules.specs.declared.ReadAnswer.the-variants.{Count, Unread}
 use Rattle.rules.specs.declared.WriteAnswer.{WriteAnswer}
@@ -23,7 +23,7 @@ use Rattle.rules.specs.Syntax.{Program}
 use Rattle.rules.specs.Reading.{Got, got, bad, Reader, _>>=_, pure, readProgram}
 use Rattle.rules.specs.Form.{Res, ok, fault, need, judgeProgram}
 use Rattle.rules.specs.Ceiling.{mostSteps, ceilingOf}
-use Rattle.rules.specs.Lists.{Entry, Cell, readEntries, readStore, nothingLeft, slotsOf}
+use Rattle.rules.specs.Lists.{Entry, Cell, readEntries, readStore, readPacket, nothingLeft, slotsOf}
 use Rattle.rules.specs.Running.{Out, done, stuck, full, runProgram}
 use Rattle.rules.specs.Computing.{computed}
 
@@ -46,12 +46,13 @@ unfoldable pub ofJudge : JudgeAnswer → List ℕ
 ofJudge (Accepted ceiling length) = 1 ∷ ceiling ∷ length ∷ []
 ofJudge (Refused r) = ofRefusal r
 
-unfoldable pub ofSignal : Signal → ℕ
-ofSignal Done = 1
-ofSignal Exit = 2
+unfoldable pub ofSignal : Signal → List ℕ
+ofSignal Done = 1 ∷ []
+ofSignal Exit = 2 ∷ []
+ofSignal (Reject error) = 4 ∷ error ∷ []
 
 unfoldable pub ofRun : RunAnswer → List ℕ
-ofRun (Ended signal steps ceiling length) = ofSignal signal ∷ steps ∷ ceiling ∷ length ∷ []
+ofRun (Ended signal steps ceiling length) = ofSignal signal ++ steps ∷ ceiling ∷ length ∷ []
 ofRun (Unrun r) = ofRefusal r
 
 -- so many slots or bytes are wanted and so many lent: the answer, or 13
@@ -89,20 +90,24 @@ pub record Bench : Type 0 where
   pub program : Program
   pub entries : List Entry
   pub store : List Cell
+  pub packet : List ℕ
 
 unfoldable pub checked : {A : Type 0} → Res A → Reader A
 checked (ok a) left at = got a left at
 checked (fault number index) left at = bad number index
 
-unfoldable pub judging : Reader Bench
-judging = do
-  program ← readProgram
+unfoldable pub judgingProgram : Program → Reader Bench
+judgingProgram program = do
   formed ← checked (judgeProgram program)
   bounded ← checked (need 9 0 (leb (ceilingOf program) mostSteps))
   entries ← readEntries true program
   store ← readStore program
+  packet ← readPacket program
   ended ← nothingLeft
-  pure (record { program = program; entries = entries; store = store })
+  pure (record { program = program; entries = entries; store = store; packet = packet })
+
+unfoldable pub judging : Reader Bench
+judging = readProgram >>= λ program. judgingProgram program
 
 pub data Judged : Type 0 where
   accepted : Bench → Judged
@@ -140,7 +145,8 @@ outcomeOf ceiling full = fills
 
 unfoldable pub runBench : ℕ → Bench → Outcome
 runBench capacity bench =
-    outcomeOf (ceilingOf (bench .program)) (runProgram capacity (bench .program) (bench .entries) (bench .store))
+    outcomeOf (ceilingOf (bench .program))
+    (runProgram capacity (bench .program) (bench .entries) (bench .store) (bench .packet))
 
 -- the working slots that a run asks for, and the first so many of which it leaves at 0
 abbrev pub workingSlots : ℕ
@@ -158,7 +164,7 @@ runWith capacity results working (accepted bench) =
 -- an outcome in numbers, with what is told of the store
 unfoldable pub toldWith : (List ℕ → List ℕ) → Outcome → List ℕ
 toldWith ofStore (refusal number place) = refusing number place
-toldWith ofStore (ended signal steps ceiling store) = ofSignal signal ∷ steps ∷ ceiling ∷ ofStore store
+toldWith ofStore (ended signal steps ceiling store) = ofSignal signal ++ steps ∷ ceiling ∷ ofStore store
 toldWith ofStore fills = refusing 14 0
 toldWith ofStore sticks = 3 ∷ []
 
@@ -203,17 +209,19 @@ unfoldable pub fileOutcome : ℕ → Judged → Outcome
 fileOutcome capacity (accepted bench) = runBench capacity bench
 fileOutcome capacity (refused number place) = refusal number place
 
--- the running rules alone, with 1 to 5 asked: entries are cut out of the numbers, a store is read that fits, and
--- what is left over does not matter; where either cannot be had the run is stuck from the start; 0 stands for the
+-- the running rules alone, with 1 to 5 asked: entries are cut out of the numbers, a store and a packet are read that
+-- fit, and what is left over does not matter; where one cannot be had the run is stuck from the start; 0 stands for the
 -- ceiling
 unfoldable pub cutting : Program → Reader Bench
 cutting program = do
   entries ← readEntries false program
   store ← readStore program
-  pure (record { program = program; entries = entries; store = store })
+  packet ← readPacket program
+  pure (record { program = program; entries = entries; store = store; packet = packet })
 
 unfoldable pub runCut : ℕ → Got Bench → Outcome
-runCut capacity (got bench left at) = outcomeOf 0 (runProgram capacity (bench .program) (bench .entries) (bench .store))
+runCut capacity (got bench left at) =
+    outcomeOf 0 (runProgram capacity (bench .program) (bench .entries) (bench .store) (bench .packet))
 runCut capacity (bad number index) = sticks
 
 unfoldable pub runRead : ℕ → List ℕ → Got Program → Outcome
@@ -226,7 +234,7 @@ runStream capacity bytes (broken number place) = refusal number place
 
 -- what a file gives, and what its program gives unjudged; whoever unfolds one of them computes
 unfoldable pub marked : List ℕ → List ℕ
-unfolding computed checked judging placed judgedStream judged outcomeOf runBench fileOutcome toldWith numbersOf ofSignal
+unfolding computed checked judgingProgram judging placed judgedStream judged outcomeOf runBench fileOutcome toldWith numbersOf ofSignal
 marked bytes = numbersOf (fileOutcome workingSlots (judged bytes))
 
 unfoldable pub unjudged : List ℕ → List ℕ

@@ -1,13 +1,15 @@
--- The ceiling (document 01, "How it runs", last paragraph; refusal 9): at least the steps of every run, from the
+-- The ceiling (document 01, "How it runs", last paragraph; refusal 9; document 02, E2): at least the steps of every run, from the
 -- program alone. Each construct counts 1 and its operands; both branches of an if their larger; a call and an apply
 -- add what they run.
+use mathlib.Core.Bool.{true, false}
 use mathlib.Core.Option.{Option, none, some}
 use Prim.Native.Nat.{ℕ, zero, suc, _+_, max}
-use mathlib.Core.List.{List, [], _∷_, _++_}
+use mathlib.Core.List.{List, [], _∷_, _++_, map}
+use lib.Dec.{eqb}
 use lib.ListN.{getElem?, getD, length}
 use Rattle.rules.specs.Syntax.{Expr, boolLiteral, bitsLiteral, readOf, validOf, negation, complement, binary, cast, slice, concatenation, callExpr, Args, noArgs, arg}
-use Rattle.rules.specs.Syntax.{Stmt, empty, assign, ifElse, block, callStmt, apply, returnValue, return, exit, setValid, setInvalid, Stmts, noStmts, stmt}
-use Rattle.rules.specs.Syntax.{Callable, Numeral, Key, Table, Program}
+use Rattle.rules.specs.Syntax.{Stmt, empty, assign, ifElse, block, callStmt, apply, returnValue, return, exit, setValid, setInvalid, extract, verify, Stmts, noStmts, stmt}
+use Rattle.rules.specs.Syntax.{Callable, Numeral, Key, Table, Transition, noTransition, accept, reject, leadTo, select, ParserState, Program}
 
 -- the most that a judged program may take
 abbrev pub mostSteps : ℕ
@@ -48,6 +50,8 @@ module _ (callee table : ℕ → ℕ) where
     ceilingStmt (exit at) = 1
     ceilingStmt (setValid at g) = 1
     ceilingStmt (setInvalid at g) = 1
+    ceilingStmt (extract at g) = 1
+    ceilingStmt (verify at c e) = 1 + ceilingExpr callee c
 
     pub ceilingStmts : Stmts → ℕ
     ceilingStmts noStmts = 0
@@ -57,7 +61,7 @@ module _ (callee table : ℕ → ℕ) where
 unfoldable pub calleeIn : List ℕ → ℕ → ℕ
 calleeIn ceilings f = getD ceilings f 0
 
--- no apply stands in a callable
+-- no apply stands in a callable or a state
 abbrev pub noTable : ℕ → ℕ
 noTable t = 0
 
@@ -83,10 +87,31 @@ unfoldable pub ceilingTable : (ℕ → ℕ) → Option Table → ℕ
 ceilingTable callee none = 0
 ceilingTable callee (some T) = ceilingKeys callee (T .keys) + largestOf callee (T .actions)
 
--- the program's: its apply body's
+-- a transition: its expression, and the dearest of the states that it names
+unfoldable pub ceilingTransition : (ℕ → ℕ) → (ℕ → ℕ) → Transition → ℕ
+ceilingTransition callee later noTransition = 0
+ceilingTransition callee later accept = 0
+ceilingTransition callee later (reject e) = 0
+ceilingTransition callee later (leadTo s) = later (s .number)
+ceilingTransition callee later (select at e ps) = ceilingExpr callee e + largestOf later (map (λ p. p .state) ps)
+
+-- a state with what it leads to; the first of the list has number n
+unfoldable pub ceilingFrom : (ℕ → ℕ) → ℕ → List ParserState → ℕ → ℕ
+ceilingFrom callee n [] m = 0
+ceilingFrom callee n (s ∷ ss) m = elim (eqb m n) [
+  | true ↦ 1 + (ceilingStmt callee noTable (s .body)
+    + ceilingTransition callee (ceilingFrom callee (suc n) ss) (s .transition))
+  | false ↦ ceilingFrom callee (suc n) ss m
+]
+
+unfoldable pub ceilingParser : (ℕ → ℕ) → Program → ℕ
+ceilingParser callee P = ceilingFrom callee 0 (P .states) 0
+
+-- the program's: its parser's and its apply body's
 unfoldable pub ceilingWith : List ℕ → Program → ℕ
 ceilingWith ceilings P =
-    ceilingStmt (calleeIn ceilings) (λ t. ceilingTable (calleeIn ceilings) (getElem? (P .tables) t)) (P .body)
+    ceilingParser (calleeIn ceilings) P
+    + ceilingStmt (calleeIn ceilings) (λ t. ceilingTable (calleeIn ceilings) (getElem? (P .tables) t)) (P .body)
 
 unfoldable pub ceilingOf : Program → ℕ
 ceilingOf P = ceilingWith (ceilingsBelow P (length (P .callables))) P

@@ -1,9 +1,9 @@
--- What is well formed (document 01, the section of that name; refusals 6, 7 and 8). A part is fine, with what is
+-- What is well formed (document 01, the section of that name; refusals 6, 7 and 8; document 02, E2). A part is fine, with what is
 -- known of it, or has a fault with its index. A construct's names come first, then its operands from left to right,
 -- then itself: 7 before 8.
 use mathlib.Core.Bool.{Bool, true, false, not, _&&_, _||_}
 use mathlib.Core.Option.{Option, none, some}
-use Prim.Native.Nat.{ℕ, suc, _+_}
+use Prim.Native.Nat.{ℕ, suc, _+_, _%_}
 use mathlib.Core.List.{List, [], _∷_}
 use lib.Dec.{ltb, eqb}
 use lib.ListN.{getElem?, length}
@@ -11,8 +11,8 @@ use Rattle.rules.specs.Words.{fitsWidth, sliceFits, sliceWidth, joinFits
 use Rattle.rules.specs.Syntax.{Ty, bool, bits, GlobalTy, variable, header, Direction, byNone, byIn, byOut, byInout, KeyKind, exact, lpm, ternary}
 use Rattle.rules.specs.Syntax.{Operator, arithmetic, order, shift, equality, logic, Place, local, parameter, global, field}
 use Rattle.rules.specs.Syntax.{Expr, boolLiteral, bitsLiteral, readOf, validOf, negation, complement, binary, cast, slice, concatenation, callExpr, Args, noArgs, arg}
-use Rattle.rules.specs.Syntax.{Stmt, empty, assign, ifElse, block, callStmt, apply, returnValue, return, exit, setValid, setInvalid, Stmts, noStmts, stmt}
-use Rattle.rules.specs.Syntax.{Global, Parameter, Callable, Numeral, Key, Table, Program, placeIn}
+use Rattle.rules.specs.Syntax.{Stmt, empty, assign, ifElse, block, callStmt, apply, returnValue, return, exit, setValid, setInvalid, extract, verify, Stmts, noStmts, stmt}
+use Rattle.rules.specs.Syntax.{Global, Parameter, Callable, Numeral, Key, Table, Pair, Transition, noTransition, accept, reject, leadTo, select, ParserState, Program, placeIn}
 
 infixl 20 _>>=_
 -- fine, with what is known; or a fault and its index
@@ -105,7 +105,7 @@ tableGives byInout = false
 -- where a statement stands
 pub data Body : Type 0 where
   inFunction : Ty → Body
-  inAction inApply : Body
+  inAction inApply inState : Body
 
 -- what a body sees: the callables below `reach`, its parameters and locals; a function sees no globals
 pub record Scope : Type 0 where
@@ -119,6 +119,7 @@ unfoldable pub seesGlobals : Body → Bool
 seesGlobals (inFunction t) = false
 seesGlobals inAction = true
 seesGlobals inApply = true
+seesGlobals inState = true
 
 -- of the places that there are, those that may be written: not a parameter that only goes in
 unfoldable pub writableAs : Option Parameter → Bool
@@ -147,6 +148,18 @@ judgeField at f (aHeader widths) = named (suc (suc at)) (getElem? widths f) >>= 
 unfoldable pub judgeHeader : ℕ → Shape → Res (Unit {0})
 judgeHeader at (aVariable t) = fault 7 at
 judgeHeader at (aHeader widths) = ok tt
+
+-- a header that is extracted has whole bytes
+unfoldable pub bitsIn : List ℕ → ℕ
+bitsIn [] = 0
+bitsIn (width ∷ widths) = width + bitsIn widths
+
+unfoldable pub wholeBytes : List ℕ → Bool
+wholeBytes widths = eqb (bitsIn widths % 8) 0
+
+unfoldable pub judgeExtracted : ℕ → Shape → Res (Unit {0})
+judgeExtracted at (aVariable t) = fault 7 at
+judgeExtracted at (aHeader widths) = need 7 at (wholeBytes widths)
 
 -- a global: its name, what is asked of its shape, and that it is seen
 unfoldable pub judgeGlobal : {A : Type 0} → Scope → ℕ → ℕ → (Shape → Res A) → Res A
@@ -200,7 +213,7 @@ placesAgree (p ∷ ps) (x ∷ xs) = (not (wantsPlace (p .direction)) || x .writa
 unfoldable pub judgeGiven : ℕ → List Parameter → List Given → Res (Unit {0})
 judgeGiven at ps xs = need 7 at (typesAgree ps xs) >>= λ _. need 8 at (placesAgree ps xs)
 
--- tag 13 calls functions only; a function calls functions only
+-- tag 13 calls functions only; a function calls functions only; a state calls nothing
 unfoldable pub functionTy : ℕ → Option Ty → Res Ty
 functionTy at none = fault 8 at
 functionTy at (some t) = ok t
@@ -210,6 +223,7 @@ mayCall (inFunction t) none = false
 mayCall (inFunction t) (some u) = true
 mayCall inAction returns = true
 mayCall inApply returns = true
+mayCall inState returns = false
 
 unfoldable mutual
   pub judgeExpr : Scope → Expr → Res Ty
@@ -237,6 +251,7 @@ unfoldable mutual
     c ← named (suc at) (callableBelow (Γ .program) (Γ .reach) f)
     given ← judgeArgs Γ xs
     agree ← judgeGiven at (c .parameters) given
+    allowed ← need 8 at (mayCall (Γ .body) (c .returns))
     functionTy at (c .returns)
 
   pub judgeArgs : Scope → Args → Res (List Given)
@@ -246,21 +261,34 @@ unfoldable mutual
     given ← judgeArgs Γ xs
     ok (record { ty = t; writable = writableIn Γ (placeIn e) } ∷ given)
 
--- return with a value stands in functions only; return without one, and exit, elsewhere; apply in the apply body only
+-- return with a value stands in functions only; return without one, and exit, in actions and the apply body; apply in
+-- the apply body only; extract and verify in states only
 unfoldable pub judgeReturned : ℕ → Body → Ty → Res (Unit {0})
 judgeReturned at (inFunction t) u = needTy at t u
 judgeReturned at inAction u = fault 8 at
 judgeReturned at inApply u = fault 8 at
+judgeReturned at inState u = fault 8 at
 
 unfoldable pub isApply : Body → Bool
 isApply (inFunction t) = false
 isApply inAction = false
 isApply inApply = true
+isApply inState = false
 
 unfoldable pub isFunction : Body → Bool
 isFunction (inFunction t) = true
 isFunction inAction = false
 isFunction inApply = false
+isFunction inState = false
+
+unfoldable pub isState : Body → Bool
+isState (inFunction t) = false
+isState inAction = false
+isState inApply = false
+isState inState = true
+
+unfoldable pub mayLeave : Body → Bool
+mayLeave body = not (isFunction body || isState body)
 
 unfoldable mutual
   pub judgeStmt : Scope → Stmt → Res (Unit {0})
@@ -283,10 +311,15 @@ unfoldable mutual
     need 8 at (mayCall (Γ .body) (c .returns))
   judgeStmt Γ (apply at t) = named (suc at) (getElem? (Γ .program .tables) t) >>= λ _. need 8 at (isApply (Γ .body))
   judgeStmt Γ (returnValue at e) = judgeExpr Γ e >>= λ t. judgeReturned at (Γ .body) t
-  judgeStmt Γ (return at) = need 8 at (not (isFunction (Γ .body)))
-  judgeStmt Γ (exit at) = need 8 at (not (isFunction (Γ .body)))
+  judgeStmt Γ (return at) = need 8 at (mayLeave (Γ .body))
+  judgeStmt Γ (exit at) = need 8 at (mayLeave (Γ .body))
   judgeStmt Γ (setValid at g) = judgeHeaderAt Γ at g
   judgeStmt Γ (setInvalid at g) = judgeHeaderAt Γ at g
+  judgeStmt Γ (extract at g) = judgeGlobal Γ at g (judgeExtracted at) >>= λ _. need 8 at (isState (Γ .body))
+  judgeStmt Γ (verify at c e) = do
+    t ← judgeExpr Γ c
+    aBool ← needTy at bool t
+    need 8 at (isState (Γ .body))
 
   pub judgeStmts : Scope → Stmts → Res (Unit {0})
   judgeStmts Γ noStmts = ok tt
@@ -306,6 +339,8 @@ unfoldable mutual
   returnsOn (exit at) = false
   returnsOn (setValid at g) = false
   returnsOn (setInvalid at g) = false
+  returnsOn (extract at g) = false
+  returnsOn (verify at c e) = false
 
   pub someReturns : Stmts → Bool
   someReturns noStmts = false
@@ -398,10 +433,50 @@ unfoldable pub judgeTables : Program → List Table → Res (Unit {0})
 judgeTables P [] = ok tt
 judgeTables P (T ∷ Ts) = judgeTable P T >>= λ _. judgeTables P Ts
 
+-- states see all callables, which they may not call, and have no locals or parameters
+unfoldable pub stateScope : Program → Scope
+stateScope P = record { program = P; reach = length (P .callables); parameters = []; locals = []; body = inState }
+
+-- a state leads only to later ones
+unfoldable pub laterState : Program → ℕ → ℕ → Option ParserState
+laterState P n m = onlyIf (ltb n m) (getElem? (P .states) m)
+
+unfoldable pub judgeLater : Program → ℕ → Numeral → Res (Unit {0})
+judgeLater P n s = named (s .at) (laterState P n (s .number)) >>= λ _. ok tt
+
+-- a transition: its states in file order, its expression, then itself: bits as a key, and values that fit
+unfoldable pub judgePairs : Program → ℕ → List Pair → Res (Unit {0})
+judgePairs P n [] = ok tt
+judgePairs P n (p ∷ ps) = judgeLater P n (p .state) >>= λ _. judgePairs P n ps
+
+unfoldable pub valuesFit : ℕ → List Pair → Res (Unit {0})
+valuesFit width [] = ok tt
+valuesFit width (p ∷ ps) = need 7 (p .value .at) (fitsWidth width (p .value .number)) >>= λ _. valuesFit width ps
+
+unfoldable pub judgeTransition : Program → ℕ → Transition → Res (Unit {0})
+judgeTransition P n noTransition = ok tt
+judgeTransition P n accept = ok tt
+judgeTransition P n (reject e) = ok tt
+judgeTransition P n (leadTo s) = judgeLater P n s
+judgeTransition P n (select at e ps) = do
+  names ← judgePairs P n ps
+  t ← judgeExpr (stateScope P) e
+  width ← widthAt (suc at) t
+  valuesFit width ps
+
+-- state number n: its statement, then its transition
+unfoldable pub judgeState : Program → ℕ → ParserState → Res (Unit {0})
+judgeState P n s = judgeStmt (stateScope P) (s .body) >>= λ _. judgeTransition P n (s .transition)
+
+unfoldable pub judgeStates : Program → ℕ → List ParserState → Res (Unit {0})
+judgeStates P n [] = ok tt
+judgeStates P n (s ∷ ss) = judgeState P n s >>= λ _. judgeStates P (suc n) ss
+
 -- the program, in file order
 unfoldable pub judgeProgram : Program → Res (Unit {0})
 judgeProgram P = do
   globals ← judgeGlobals P (P .globals)
   callables ← judgeCallables P 0 (P .callables)
   tables ← judgeTables P (P .tables)
+  states ← judgeStates P 0 (P .states)
   judgeStmt (applyScope P) (P .body)

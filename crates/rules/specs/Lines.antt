@@ -1,10 +1,10 @@
--- The result lines (document 01, the section of that name): the bytes that the marking program prints, in ASCII.
+-- The result lines (document 01, the section of that name; document 02, E2): the bytes that the marking program prints, in ASCII.
 use mathlib.Core.Bool.{true, false}
 use Prim.Native.Nat.{ℕ, zero, suc, _+_, _/_, _%_}
 use mathlib.Core.List.{List, [], _∷_, _++_}
 use lib.Dec.{ltb}
 use Rattle.rules.specs.declared.Signal.{Signal}
-use Rattle.rules.specs.declared.Signal.the-variants.{Done, Exit}
+use Rattle.rules.specs.declared.Signal.the-variants.{Done, Exit, Reject}
 use Rattle.rules.specs.Answers.{judged, Outcome, refusal, ended, fills, sticks, fileOutcome, workingSlots}
 
 abbrev pub blank : ℕ
@@ -13,11 +13,7 @@ blank = 32
 abbrev pub newline : ℕ
 newline = 10
 
--- `done`, `exit`, `refused`
-unfoldable pub wordOf : Signal → List ℕ
-wordOf Done = 100 ∷ 111 ∷ 110 ∷ 101 ∷ []
-wordOf Exit = 101 ∷ 120 ∷ 105 ∷ 116 ∷ []
-
+-- `refused`
 abbrev pub refusedWord : List ℕ
 refusedWord = 114 ∷ 101 ∷ 102 ∷ 117 ∷ 115 ∷ 101 ∷ 100 ∷ []
 
@@ -40,6 +36,12 @@ behindBlanks (n ∷ ns) = blank ∷ decimal n ++ behindBlanks ns
 unfoldable pub betweenBlanks : List ℕ → List ℕ
 betweenBlanks [] = []
 betweenBlanks (n ∷ ns) = decimal n ++ behindBlanks ns
+
+-- `done`; `exit`; `reject` and its error
+unfoldable pub wordOf : Signal → List ℕ
+wordOf Done = 100 ∷ 111 ∷ 110 ∷ 101 ∷ []
+wordOf Exit = 101 ∷ 120 ∷ 105 ∷ 116 ∷ []
+wordOf (Reject error) = (114 ∷ 101 ∷ 106 ∷ 101 ∷ 99 ∷ 116 ∷ []) ++ behindBlanks (error ∷ [])
 
 unfoldable pub refusedLine : ℕ → ℕ → List ℕ
 refusedLine number place = refusedWord ++ behindBlanks (number ∷ place ∷ []) ++ (newline ∷ [])

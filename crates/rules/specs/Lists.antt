@@ -1,15 +1,15 @@
--- Entries and store (document 01, "What is well formed", last paragraph; refusals 10, 11 and 12): the numbers
--- behind the program, strictly in file order. `strict` is true for the judge; where it is false, entries are only
+-- Entries, store and packet (document 01, "What is well formed", last paragraph; refusals 10, 11 and 12; document 02,
+-- E2; refusal 16): the numbers behind the program, strictly in file order. `strict` is true for the judge; where it is false, entries are only
 -- cut out of the numbers, fit or not.
 use mathlib.Core.Bool.{Bool, true, false, not, _&&_, _||_}
 use mathlib.Core.Option.{Option, none, some}
 use Prim.Native.Nat.{ℕ}
 use mathlib.Core.List.{List, [], _∷_, _++_}
-use lib.Dec.{eqb}
+use lib.Dec.{eqb, ltb}
 use lib.ListN.{getElem?}
 use Rattle.rules.specs.Words.{fitsWidth, prefixFits, maskFits}
 use Rattle.rules.specs.Syntax.{Ty, bool, bits, KeyKind, exact, lpm, ternary, Global, Parameter, Callable, Key, Table, Program}
-use Rattle.rules.specs.Reading.{got, bad, Reader, _>>=_, pure, lookedUp, within, repeat}
+use Rattle.rules.specs.Reading.{got, bad, Reader, _>>=_, pure, lookedUp, within, repeat, hasParser}
 use Rattle.rules.specs.Form.{Res, ok, fault, andLook, onlyIf, fits, Shape, aVariable, aHeader, shapeIn, judgeExpr, applyScope}
 
 -- what an entry asks of a key: a value; a value and a prefix length; a value and a mask
@@ -114,6 +114,19 @@ readCells P (g ∷ gs) = readCell (shapeIn P (g .ty)) >>= λ c. readCells P gs >
 
 unfoldable pub readStore : Program → Reader (List Cell)
 readStore P = readCells P (P .globals)
+
+-- the packet's bytes, which a file has that has a parser
+abbrev pub mostPacket : ℕ
+mostPacket = 512
+
+unfoldable pub isByte : ℕ → Bool
+isByte n = ltb n 256
+
+unfoldable pub readBytes : Reader (List ℕ)
+readBytes = lookedUp 16 (within 0 mostPacket) >>= λ n. repeat n (passing 16 isByte)
+
+unfoldable pub readPacket : Program → Reader (List ℕ)
+readPacket P = elim (hasParser (P .version)) [ true ↦ readBytes | false ↦ pure [] ]
 
 -- 12
 unfoldable pub nothingLeft : Reader (Unit {0})

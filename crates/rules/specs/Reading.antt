@@ -1,7 +1,7 @@
--- Reading a program from the list of numbers (document 01, "The bench file"; refusals 5 and 4). A reader takes the
+-- Reading a program from the list of numbers (document 01, "The bench file"; refusals 5 and 4; document 02, E2). A reader takes the
 -- numbers that are left and the index of the first of them. It gives what it read, or the fault with its index: the
 -- first one in file order, 5 before 4 at one number.
-use mathlib.Core.Bool.{true, false, _&&_}
+use mathlib.Core.Bool.{Bool, true, false, _&&_}
 use mathlib.Core.Option.{Option, none, some}
 use Prim.Native.Nat.{ℕ, zero, suc, _-_}
 use mathlib.Core.List.{List, [], _∷_}
@@ -12,8 +12,8 @@ use Rattle.rules.specs.Syntax.{Ty, bool, bits, GlobalTy, variable, heade
 use Rattle.rules.specs.Syntax.{plus, minus, times, and, or, xor, less, lessOrEqual, shiftLeft, shiftRight, equal, unequal, both, either}
 use Rattle.rules.specs.Syntax.{Operator, arithmetic, order, shift, equality, logic, Place, local, parameter, global, field}
 use Rattle.rules.specs.Syntax.{Expr, boolLiteral, bitsLiteral, readOf, validOf, negation, complement, binary, cast, slice, concatenation, callExpr, Args, noArgs, arg}
-use Rattle.rules.specs.Syntax.{Stmt, empty, assign, ifElse, block, callStmt, apply, returnValue, return, exit, setValid, setInvalid, Stmts, noStmts, stmt}
-use Rattle.rules.specs.Syntax.{HeaderTy, Global, Parameter, Callable, Numeral, Key, Table, Program}
+use Rattle.rules.specs.Syntax.{Stmt, empty, assign, ifElse, block, callStmt, apply, returnValue, return, exit, setValid, setInvalid, extract, verify, Stmts, noStmts, stmt}
+use Rattle.rules.specs.Syntax.{HeaderTy, Global, Parameter, Callable, Numeral, Key, Table, Pair, Transition, noTransition, accept, reject, leadTo, select, ParserState, Program}
 
 infixl 20 _>>=_
 -- what was read with the numbers left and their index; or a fault and its index
@@ -112,6 +112,16 @@ mostArguments = 8
 abbrev pub mostMembers : ℕ
 mostMembers = 64
 
+abbrev pub mostStates : ℕ
+mostStates = 16
+
+abbrev pub mostPairs : ℕ
+mostPairs = 16
+
+-- the largest error
+abbrev pub mostError : ℕ
+mostError = 255
+
 -- the highest bound of a slice
 abbrev pub highestBound : ℕ
 highestBound = 63
@@ -127,13 +137,20 @@ pub data ExprTag : Type 0 where
 
 pub data StmtTag : Type 0 where
   tagEmpty tagAssign tagIf tagBlock tagCallStmt tagApply tagReturnValue tagReturn tagExit : StmtTag
-  tagSetValid tagSetInvalid : StmtTag
+  tagSetValid tagSetInvalid tagExtract tagVerify : StmtTag
 
 pub data CallableKind : Type 0 where
   kindAction kindFunction : CallableKind
 
+pub data TransitionTag : Type 0 where
+  tagNone tagAccept tagReject tagLeadTo tagSelect : TransitionTag
+
 unfoldable pub versionOf : ℕ → Option ℕ
 versionOf = within 1 1
+
+-- from version 2 on a file has a parser block, and its statements
+unfoldable pub hasParser : ℕ → Bool
+hasParser version = leb 2 version
 
 module _ (version : ℕ) where
   abbrev pub exprTags : List ExprTag
@@ -145,9 +162,15 @@ module _ (version : ℕ) where
       ∷ shift shiftLeft ∷ shift shiftRight ∷ equality equal ∷ equality unequal ∷ order less ∷ order lessOrEqual
       ∷ logic both ∷ logic either ∷ []
 
+  unfoldable pub parserTags : List StmtTag
+  parserTags = elim (hasParser version) [ true ↦ tagExtract ∷ tagVerify ∷ [] | false ↦ [] ]
+
   abbrev pub stmtTags : List StmtTag
   stmtTags = tagEmpty ∷ tagAssign ∷ tagIf ∷ tagBlock ∷ tagCallStmt ∷ tagApply ∷ tagReturnValue ∷ tagReturn ∷ tagExit
-      ∷ tagSetValid ∷ tagSetInvalid ∷ []
+      ∷ tagSetValid ∷ tagSetInvalid ∷ parserTags
+
+  abbrev pub transitionTags : List TransitionTag
+  transitionTags = tagNone ∷ tagAccept ∷ tagReject ∷ tagLeadTo ∷ tagSelect ∷ []
 
   abbrev pub callableKinds : List CallableKind
   callableKinds = kindAction ∷ kindFunction ∷ []
@@ -259,6 +282,8 @@ module _ (version : ℕ) where
   readStmtAs tagExit at operand target inner = pure (exit at)
   readStmtAs tagSetValid at operand target inner = number >>= λ g. pure (setValid at g)
   readStmtAs tagSetInvalid at operand target inner = number >>= λ g. pure (setInvalid at g)
+  readStmtAs tagExtract at operand target inner = number >>= λ g. pure (extract at g)
+  readStmtAs tagVerify at operand target inner = operand >>= λ c. between 0 mostError >>= λ e. pure (verify at c e)
 
   unfoldable pub readStmt : ℕ → Reader Stmt
   readStmt zero = tooDeep
@@ -321,12 +346,38 @@ module _ (version : ℕ) where
       arguments = arguments;
     })
 
+  -- the parser block: each state is a statement and a transition
+  unfoldable pub readPair : Reader Pair
+  readPair = readNumeral >>= λ value. readNumeral >>= λ state. pure (record { value = value; state = state })
+
+  unfoldable pub readTransitionAs : TransitionTag → ℕ → Reader Transition
+  readTransitionAs tagNone at = pure noTransition
+  readTransitionAs tagAccept at = pure accept
+  readTransitionAs tagReject at = between 0 mostError >>= λ e. pure (reject e)
+  readTransitionAs tagLeadTo at = readNumeral >>= λ state. pure (leadTo state)
+  readTransitionAs tagSelect at = readExpr deepest >>= λ e. listOf 0 mostPairs readPair >>= λ ps.
+      pure (select at e ps)
+
+  unfoldable pub readTransition : Reader Transition
+  readTransition = do at ← here; tag ← standsFor (getElem? transitionTags); readTransitionAs tag at
+
+  unfoldable pub readState : Reader ParserState
+  readState = do
+    at ← here
+    body ← readStmt deepest
+    transition ← readTransition
+    pure (record { at = at; body = body; transition = transition })
+
+  unfoldable pub readStates : Reader (List ParserState)
+  readStates = elim (hasParser version) [ true ↦ listOf 1 mostStates readState | false ↦ pure [] ]
+
   unfoldable pub readAfterVersion : Reader Program
   readAfterVersion = do
     headers ← listOf 0 mostHeaders readHeader
     globals ← listOf 0 mostGlobals readGlobal
     callables ← listOf 0 mostCallables readCallable
     tables ← listOf 0 mostTables readTable
+    states ← readStates
     body ← readStmt deepest
     pure (record {
       version = version;
@@ -334,6 +385,7 @@ module _ (version : ℕ) where
       globals = globals;
       callables = callables;
       tables = tables;
+      states = states;
       body = body;
     })
 

@@ -1,40 +1,43 @@
--- How it runs (document 01, the section of that name). A construct runs to an answer, a later state and the stores
+-- How it runs (document 01, the section of that name; document 02, E2). A construct runs to an answer, a later state and the stores
 -- that its steps saw; it is stuck where its values, places, names or argument counts are not as "What is well formed"
 -- asks; it is full where a call's slots pass the capacity. Directions, copy-in and copy-out are those of source
 -- document 000, section 2.2; an out parameter starts at 0, as that document's prose has it and its call rule has not.
 -- Calls and signals are 004's.
 use mathlib.Core.Bool.{Bool, true, false, not, _&&_, _||_}
 use mathlib.Core.Option.{Option, none, some}
-use Prim.Native.Nat.{ℕ, zero, suc, _+_, _-_}
+use Prim.Native.Nat.{ℕ, zero, suc, _+_, _-_, _*_, _/_, _%_, _^_}
 use mathlib.Core.List.{List, [], _∷_, _++_, map}
 use lib.Dec.{ltb, leb, eqb}
 use lib.Bits.{bitAnd, bitOr, bitXor}
-use lib.ListN.{getElem?, length}
+use lib.ListN.{getElem?, length, take, drop}
 use Rattle.rules.specs.declared.Signal.{Signal}
-use Rattle.rules.specs.declared.Signal.the-variants.{Done, Exit}
+use Rattle.rules.specs.declared.Signal.the-variants.{Done, Exit, Reject}
 use Rattle.rules.specs.Words.{fitsWidth, sum, difference, product, complementOf, shiftedLeft, shiftedRight, castTo, sliceFits, sliceWidth, sliceOf, joinFits, joined, prefixMatches, prefixFits, maskMatches, maskFits}
 use Rattle.rules.specs.Syntax.{Ty, bool, bits, Value, value, KeyKind, exact, lpm, ternary}
 use Rattle.rules.specs.Syntax.{Arithmetic, plus, minus, times, and, or, xor, Order, less, lessOrEqual, Shift, shiftLeft, shiftRight, Equality, equal, unequal, Logic, both, either}
 use Rattle.rules.specs.Syntax.{Operator, arithmetic, order, shift, equality, logic, Place, local, parameter, global, field}
 use Rattle.rules.specs.Syntax.{Expr, boolLiteral, bitsLiteral, readOf, validOf, negation, complement, binary, cast, slice, concatenation, callExpr, Args, noArgs, arg}
-use Rattle.rules.specs.Syntax.{Stmt, empty, assign, ifElse, block, callStmt, apply, returnValue, return, exit, setValid, setInvalid, Stmts, noStmts, stmt}
-use Rattle.rules.specs.Syntax.{Parameter, Callable, Key, Table, Program, placeIn}
+use Rattle.rules.specs.Syntax.{Stmt, empty, assign, ifElse, block, callStmt, apply, returnValue, return, exit, setValid, setInvalid, extract, verify, Stmts, noStmts, stmt}
+use Rattle.rules.specs.Syntax.{Parameter, Callable, Key, Table, Pair, Transition, noTransition, accept, reject, leadTo, select, ParserState, Program, placeIn}
 use Rattle.rules.specs.Form.{Res, ok, fault, andLook, onlyIf, sameTy, fits, Shape, aVariable, aHeader, globalAt, callableBelow, wantsPlace, goesIn, comesBack}
-use Rattle.rules.specs.Form.{Body, inFunction, inAction, inApply, Scope, seesGlobals, writable, mayCall, isFunction, scopeOf, applyScope, isLpm, oneLpm, listable}
+use Rattle.rules.specs.Form.{Body, inFunction, inAction, inApply, inState, Scope, seesGlobals, writable, mayCall, isFunction, isState, mayLeave, scopeOf, applyScope, stateScope, bitsIn, wholeBytes, valuesFit, isLpm, oneLpm, listable}
 use Rattle.rules.specs.Lists.{Pattern, exactly, prefixed, masked, Entry, Cell, variableCell, headerCell, actionAt, markOf, slotsOf}
 
 infixl 20 _>>=_
--- the store, and the numbers that a body's parameters and locals hold
+-- the store, the numbers that a body's parameters and locals hold, and the packet's bytes that are not read yet
 pub record State : Type 0 where
   pub store : List Cell
   pub parameters : List ℕ
   pub locals : List ℕ
+  pub packet : List ℕ
 
--- how a statement ends: the next one goes on; its body ends, with a value or without; the whole run ends
+-- how a statement ends: the next one goes on; its body ends, with a value or without; the whole run ends, by an exit or
+-- by a reject with its error
 pub data Ending : Type 0 where
   onward returned : Ending
   returnedValue : Value → Ending
   exited : Ending
+  rejected : (error : ℕ) → Ending
 
 -- the store as it stood just before each step: there are as many steps as stores
 abbrev pub Seen : Type 0
@@ -166,13 +169,16 @@ makeInvalid (variableCell n) = none
 makeInvalid (headerCell valid ns) = some (headerCell false (zeroed ns))
 
 unfoldable pub withStore : State → List Cell → State
-withStore s cells = record { store = cells; parameters = s .parameters; locals = s .locals }
+withStore s cells = record { store = cells; parameters = s .parameters; locals = s .locals; packet = s .packet }
 
 unfoldable pub withParameters : State → List ℕ → State
-withParameters s ns = record { store = s .store; parameters = ns; locals = s .locals }
+withParameters s ns = record { store = s .store; parameters = ns; locals = s .locals; packet = s .packet }
 
 unfoldable pub withLocals : State → List ℕ → State
-withLocals s ns = record { store = s .store; parameters = s .parameters; locals = ns }
+withLocals s ns = record { store = s .store; parameters = s .parameters; locals = ns; packet = s .packet }
+
+unfoldable pub withPacket : State → List ℕ → State
+withPacket s ns = record { store = s .store; parameters = s .parameters; locals = s .locals; packet = ns }
 
 unfoldable pub changeStore : (Cell → Option Cell) → ℕ → State → Option State
 changeStore f g s = andLook (change f (s .store) g) λ cells. some (withStore s cells)
@@ -198,6 +204,59 @@ validAt Γ g = do
   widths ← orStuck (andLook (shapeFor Γ g) headerOnly)
   b ← gets (λ s. andLook (getElem? (s .store) g) validIn)
   pure (truth b)
+
+-- the bits of a byte and of a packet, the highest first, and the number that bits stand for
+unfoldable pub bitsBelow : ℕ → ℕ → List ℕ
+bitsBelow zero n = []
+bitsBelow (suc i) n = (n / 2 ^ i % 2) ∷ bitsBelow i n
+
+unfoldable pub bitsOfBytes : List ℕ → List ℕ
+bitsOfBytes [] = []
+bitsOfBytes (n ∷ ns) = bitsBelow 8 n ++ bitsOfBytes ns
+
+unfoldable pub numberOfBits : ℕ → List ℕ → ℕ
+numberOfBits front [] = front
+numberOfBits front (b ∷ bs) = numberOfBits (front * 2 + b) bs
+
+-- each field takes the next bits
+unfoldable pub fieldsFrom : List ℕ → List ℕ → List ℕ
+fieldsFrom [] bs = []
+fieldsFrom (width ∷ widths) bs = numberOfBits 0 (take width bs) ∷ fieldsFrom widths (drop width bs)
+
+-- extract fills a header from the unread bytes and makes it valid
+unfoldable pub fillHeader : List ℕ → Cell → Option Cell
+fillHeader ns (variableCell n) = none
+fillHeader ns (headerCell valid old) = some (headerCell true ns)
+
+unfoldable pub bytesIn : List ℕ → ℕ
+bytesIn widths = bitsIn widths / 8
+
+unfoldable pub takeHeader : ℕ → List ℕ → State → Option State
+takeHeader g widths s = andLook (changeStore (fillHeader (fieldsFrom widths (bitsOfBytes (s .packet)))) g s) λ filled.
+    some (withPacket filled (drop (bytesIn widths) (s .packet)))
+
+-- the errors of a packet that is too short, a select without a match, a state with no transition
+abbrev pub shortPacket : ℕ
+shortPacket = 1
+
+abbrev pub noMatch : ℕ
+noMatch = 2
+
+abbrev pub noWayOn : ℕ
+noWayOn = 3
+
+unfoldable pub extractInto : ℕ → List ℕ → M State Ending
+extractInto g widths s = elim (leb (bytesIn widths) (length (s .packet))) [
+  | true ↦ next (puts (takeHeader g widths) s) (λ _. pure onward)
+  | false ↦ pure (rejected shortPacket) s
+]
+
+unfoldable pub wholeHeader : Shape → Option (List ℕ)
+wholeHeader (aVariable t) = none
+wholeHeader (aHeader widths) = onlyIf (wholeBytes widths) (some widths)
+
+unfoldable pub extractAt : Scope → ℕ → M State Ending
+extractAt Γ g = orStuck (andLook (shapeFor Γ g) wholeHeader) >>= λ widths. extractInto g widths
 
 -- operators on values
 unfoldable pub calculate : Arithmetic → ℕ → ℕ → ℕ → ℕ
@@ -290,18 +349,21 @@ andThenRun onward rest = rest
 andThenRun returned rest = pure returned
 andThenRun (returnedValue v) rest = pure (returnedValue v)
 andThenRun exited rest = pure exited
+andThenRun (rejected e) rest = pure (rejected e)
 
 unfoldable pub valueOf : Ending → Option Value
 valueOf onward = none
 valueOf returned = none
 valueOf (returnedValue v) = some v
 valueOf exited = none
+valueOf (rejected e) = none
 
 unfoldable pub afterCall : Ending → Ending
 afterCall onward = onward
 afterCall returned = onward
 afterCall (returnedValue v) = onward
 afterCall exited = exited
+afterCall (rejected e) = rejected e
 
 -- a function's body ends with a value
 unfoldable pub bodyEnded : Option Ty → Ending → Option Ending
@@ -360,12 +422,13 @@ comeBack Γ (arg e xs) (p ∷ ps) (n ∷ ns) = elim (comesBack (p .direction)) [
   | false ↦ comeBack Γ xs ps ns
 ]
 
--- behind a body: exit ends the run at once and writes nothing back
+-- behind a body: exit and reject end the run at once and write nothing back
 unfoldable pub afterBody : Ending → M State (Unit {0}) → M State Ending
 afterBody onward back = back >>= λ _. pure onward
 afterBody returned back = back >>= λ _. pure returned
 afterBody (returnedValue v) back = back >>= λ _. pure (returnedValue v)
 afterBody exited back = pure exited
+afterBody (rejected e) back = pure (rejected e)
 
 -- in a body with this scope, with so many slots in use
 module _ (Γ : Scope) (used : ℕ) (calls : Calls) where
@@ -398,16 +461,17 @@ module _ (Γ : Scope) (used : ℕ) (calls : Calls) where
     runArgs (arg e xs) [] = nowhere
     runArgs (arg e xs) (p ∷ ps) = do n ← goIn Γ p (placeIn e) (runExpr e); ns ← runArgs xs ps; pure (n ∷ ns)
 
--- return: a value of its type in a function; without one, as exit, elsewhere
+-- return: a value of its type in a function; without one, as exit, in actions and the apply body
 unfoldable pub returnedFrom : Body → Value → Option Ending
 returnedFrom (inFunction t) v = andLook (numberOf t v) λ n. some (returnedValue (value t n))
 returnedFrom inAction v = none
 returnedFrom inApply v = none
+returnedFrom inState v = none
 
-unfoldable pub notInFunction : {S : Type 0} → Body → Ending → M S Ending
-notInFunction body ending = must (not (isFunction body)) >>= λ _. pure ending
+unfoldable pub leaveBy : {S : Type 0} → Body → Ending → M S Ending
+leaveBy body ending = must (mayLeave body) >>= λ _. pure ending
 
--- `applied` is what an apply does: nothing covers one in a callable
+-- `applied` is what an apply does: nothing covers one in a callable or a state
 module _ (Γ : Scope) (used : ℕ) (calls : Calls) (applied : ℕ → M State Ending) where
   unfoldable mutual
     pub runStmt : Stmt → M State Ending
@@ -423,10 +487,15 @@ module _ (Γ : Scope) (used : ℕ) (calls : Calls) (applied : ℕ → M State En
       pure (afterCall ending))
     runStmt (apply at t) = tick (applied t)
     runStmt (returnValue at e) = tick (runExpr Γ used calls e >>= λ v. orStuck (returnedFrom (Γ .body) v))
-    runStmt (return at) = tick (notInFunction (Γ .body) returned)
-    runStmt (exit at) = tick (notInFunction (Γ .body) exited)
+    runStmt (return at) = tick (leaveBy (Γ .body) returned)
+    runStmt (exit at) = tick (leaveBy (Γ .body) exited)
     runStmt (setValid at g) = tick (changeHeader Γ g makeValid >>= λ _. pure onward)
     runStmt (setInvalid at g) = tick (changeHeader Γ g makeInvalid >>= λ _. pure onward)
+    runStmt (extract at g) = tick (must (isState (Γ .body)) >>= λ _. extractAt Γ g)
+    runStmt (verify at c e) = tick (do
+      allowed ← must (isState (Γ .body))
+      v ← runExpr Γ used calls c
+      choose v (pure onward) (pure (rejected e)))
 
     pub runStmts : Stmts → M State Ending
     runStmts noStmts = pure onward
@@ -442,9 +511,9 @@ leave returns (done ending s seen) = left (s .parameters) (s .store) seen (bodyE
 leave returns stuck = stuck
 leave returns full = full
 
--- a fresh state: locals at 0 or false
+-- a fresh state: locals at 0 or false; a callable sees no packet
 unfoldable pub fresh : Callable → List ℕ → List Cell → State
-fresh c ns cells = record { store = cells; parameters = ns; locals = map (λ _. 0) (c .locals) }
+fresh c ns cells = record { store = cells; parameters = ns; locals = map (λ _. 0) (c .locals); packet = [] }
 
 module _ (capacity : ℕ) (P : Program) where
   -- its slots: one for each parameter and local, above those in use
@@ -591,23 +660,72 @@ module _ (P : Program) (used : ℕ) (calls : Calls) where
     asked ← must (isFine (oneLpm false (T .keys)) && entriesFit P T (map (λ k. k .width) ks) (entriesOf t entries))
     runFound T (lookUp (longestWins (T .keys)) ks nothing (entriesOf t entries))
 
--- the whole run: the apply body, with the store's slots in use; return ends it as its last statement does
+-- the parser block: a state entered is a step; nothing covers a call or an apply in it
+abbrev pub noCalls : Calls
+noCalls used f ns = nowhere
+
+-- the first equal value wins; `later` is what a later state does
+unfoldable pub selected : (ℕ → M State Ending) → ℕ → List Pair → M State Ending
+selected later n [] = pure (rejected noMatch)
+selected later n (p ∷ ps) = elim (eqb n (p .value .number)) [
+  | true ↦ later (p .state .number)
+  | false ↦ selected later n ps
+]
+
+module _ (P : Program) (used : ℕ) where
+  unfoldable pub runTransition : (ℕ → M State Ending) → Transition → M State Ending
+  runTransition later noTransition = pure (rejected noWayOn)
+  runTransition later accept = pure onward
+  runTransition later (reject e) = pure (rejected e)
+  runTransition later (leadTo s) = later (s .number)
+  runTransition later (select at e ps) = do
+    v ← runExpr (stateScope P) used noCalls e
+    k ← orStuck (worked v)
+    asked ← must (isFine (valuesFit (k .width) ps))
+    selected later (k .number) ps
+
+  unfoldable pub runState : (ℕ → M State Ending) → ParserState → M State Ending
+  runState later s = tick (do
+    ending ← runStmt (stateScope P) used noCalls (λ t. nowhere) (s .body)
+    andThenRun ending (runTransition later (s .transition)))
+
+  -- state m, of a list whose first has number n; it leads to the states behind it
+  unfoldable pub runFrom : ℕ → List ParserState → ℕ → M State Ending
+  runFrom n [] m = nowhere
+  runFrom n (s ∷ ss) m = elim (eqb m n) [
+    | true ↦ runState (runFrom (suc n) ss) s
+    | false ↦ runFrom (suc n) ss m
+  ]
+
+  -- parsing starts at state 0; a program of version 1 has no parser
+  unfoldable pub runParser : List ParserState → M State Ending
+  runParser [] = pure onward
+  runParser (s ∷ ss) = runFrom 0 (s ∷ ss) 0
+
+-- the whole run: the parser and, unless it rejects, the apply body, with the store's slots in use; return ends it as
+-- its last statement does
 unfoldable pub signalOf : Ending → Signal
 signalOf onward = Done
 signalOf returned = Done
 signalOf (returnedValue v) = Done
 signalOf exited = Exit
+signalOf (rejected e) = Reject e
 
 unfoldable pub finish : Out State Ending → Out (List Cell) Signal
 finish (done ending s seen) = done (signalOf ending) (s .store) seen
 finish stuck = stuck
 finish full = full
 
-unfoldable pub started : List Cell → State
-started cells = record { store = cells; parameters = []; locals = [] }
+unfoldable pub started : List Cell → List ℕ → State
+started cells packet = record { store = cells; parameters = []; locals = []; packet = packet }
 
-unfoldable pub runProgram : ℕ → Program → List Entry → List Cell → Out (List Cell) Signal
-runProgram capacity P entries store =
-    let used = length (slotsOf store) in
+unfoldable pub runApply : ℕ → Program → List Entry → ℕ → M State Ending
+runApply capacity P entries used =
     let calls = callsBelow capacity P (length (P .callables)) in
-    finish (runStmt (applyScope P) used calls (runTable P used calls entries) (P .body) (started store))
+    runStmt (applyScope P) used calls (runTable P used calls entries) (P .body)
+
+unfoldable pub runProgram : ℕ → Program → List Entry → List Cell → List ℕ → Out (List Cell) Signal
+runProgram capacity P entries store packet =
+    let used = length (slotsOf store) in
+    finish (next (runParser P used (P .states) (started store packet)) (λ ending.
+    andThenRun ending (runApply capacity P entries used)))

@@ -1,4 +1,4 @@
--- The tree of a program (document 01, "The bench file"). `at` is the index of a node's tag in the list of numbers
+-- The tree of a program (document 01, "The bench file"; document 02, E2). `at` is the index of a node's tag in the list of numbers
 -- (of a callable its kind, of anything else its first number): refusals speak of places. The running rules look at
 -- none of them.
 use mathlib.Core.Option.{Option, none, some}
@@ -85,6 +85,8 @@ mutual
     exit : (at : ℕ) → Stmt
     setValid : (at global : ℕ) → Stmt
     setInvalid : (at global : ℕ) → Stmt
+    extract : (at global : ℕ) → Stmt
+    verify : (at : ℕ) → Expr → (error : ℕ) → Stmt
 
   pub data Stmts : Type 0 where
     noStmts : Stmts
@@ -129,12 +131,30 @@ pub record Table : Type 0 where
   pub countAt : ℕ
   pub arguments : List Numeral
 
+-- the parser block (document 02, E2). A select's pair: a value, and the number of the state that it leads to
+pub record Pair : Type 0 where
+  pub value : Numeral
+  pub state : Numeral
+
+pub data Transition : Type 0 where
+  noTransition accept : Transition
+  reject : (error : ℕ) → Transition
+  leadTo : Numeral → Transition
+  select : (at : ℕ) → Expr → List Pair → Transition
+
+pub record ParserState : Type 0 where
+  pub at : ℕ
+  pub body : Stmt
+  pub transition : Transition
+
+-- a version 1 program has no states
 pub record Program : Type 0 where
   pub version : ℕ
   pub headers : List HeaderTy
   pub globals : List Global
   pub callables : List Callable
   pub tables : List Table
+  pub states : List ParserState
   pub body : Stmt
 
 -- the place that an expression names, if it names one

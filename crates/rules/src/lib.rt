@@ -6,10 +6,11 @@ pub struct Refusal {
     pub place: usize,
 }
 
-// How a run ends.
+// How a run ends; a reject has its error.
 pub enum Signal {
     Done,
     Exit,
+    Reject(u64),
 }
 
 // What reading bytes as numbers answers: how many there are.
