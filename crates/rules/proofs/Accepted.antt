@@ -9,24 +9,25 @@ use lib.Dec.{leb, eqb}
 use lib.ListN.{getElem?, length}
 use borrow.Author.Tests.{eqb-true, leb-true}
 use Rattle.rules.specs.declared.Signal.{Signal}
-use Rattle.rules.specs.declared.Signal.the-variants.{Done, Exit}
+use Rattle.rules.specs.declared.Signal.the-variants.{Done, Exit, Reject}
 use Rattle.rules.specs.Numbers.{Stream, numbers, broken, streamOf}
 use Rattle.rules.specs.Words.{fitsWidth, prefixFits, maskFits}
 use Rattle.rules.specs.Syntax.{bool, KeyKind, exact, lpm, ternary, Global, Parameter, Key, Table, Program}
-use Rattle.rules.specs.Reading.{Got, within, readProgram}
-use Rattle.rules.specs.Form.{Res, ok, need, onlyIf, fits, Shape, aVariable, aHeader, shapeIn, inApply, applyScope, judgeTable, judgeTables, judgeGlobals, judgeStmt, judgeProgram}
-use Rattle.rules.specs.Ceiling.{mostSteps, calleeIn, ceilingsBelow, ceilingTable, ceilingWith, ceilingOf}
-use Rattle.rules.specs.Lists.{Entry, mostEntries, nothingLeft, Cell, variableCell, headerCell, passing, keyWidth, actionAt, numbered, asked, readPattern, readPatterns, readArguments, readEntry, readEntries, readFields, readShape, readCell, readCells, readStore, slotsOf}
-use Rattle.rules.specs.Running.{State, Ending, Seen, Out, done, full, callsBelow, argumentsFit, argumentsGiven, patternFits, patternsFit, runTable, finish, started, runProgram}
-use Rattle.rules.specs.Answers.{Bench, checked, judging, Judged, accepted, refused, placed, judgedStream, judged, outcomeOf, runBench, fileOutcome, toldWith, numbersOf, ofSignal, workingSlots, marked}
+use Rattle.rules.specs.Reading.{Got, within, hasParser, readProgram}
+use Rattle.rules.specs.Form.{Res, ok, need, onlyIf, fits, Shape, aVariable, aHeader, shapeIn, inApply, applyScope, judgeTable, judgeTables, judgeGlobals, judgeStates, judgeStmt, judgeProgram}
+use Rattle.rules.specs.Ceiling.{mostSteps, calleeIn, ceilingsBelow, ceilingTable, ceilingParser, ceilingWith, ceilingOf}
+use Rattle.rules.specs.Lists.{Entry, mostEntries, nothingLeft, Cell, variableCell, headerCell, passing, keyWidth, actionAt, numbered, asked, isByte, mostPacket, readBytes, readPacket, readPattern, readPatterns, readArguments, readEntry, readEntries, readFields, readShape, readCell, readCells, readStore, slotsOf}
+use Rattle.rules.specs.Running.{State, Ending, Seen, Out, done, full, M, _>>=_, andThenRun, callsBelow, runStmt, runParser, argumentsFit, argumentsGiven, patternFits, patternsFit, runTable, finish, started, runProgram}
+use Rattle.rules.specs.Answers.{Bench, checked, judgingProgram, judging, Judged, accepted, refused, placed, judgedStream, judged, outcomeOf, runBench, fileOutcome, toldWith, numbersOf, ofSignal, workingSlots, marked}
 use Rattle.rules.proofs.Refusals.{program-reads, Judging-ok, fine, faulty, program-judged, place-within, Stream-ok, whole, breaks, stream-ok}
-use Rattle.rules.proofs.Predicates.{JudgeGives, gives, if-any, and-both, both-true, All2, nil, cons, All, none-left, also, look-all, IfOk, isOk, IfSome, ifNone, ifSome, IfGot, isGot, isBad, SomeOf, isSome, ok-then, ok-map, ok-self, from-ok, if-then, if-map, if-self, Reads, reads-then, reads-pure, reads-looked-up, reads-repeat, Good, good, isFull, Runs}
+use Rattle.rules.proofs.Predicates.{JudgeGives, gives, if-any, and-both, both-true, All2, nil, cons, All, none-left, also, look-all, IfOk, isOk, IfSome, ifNone, ifSome, IfGot, isGot, isBad, SomeOf, isSome, ok-then, ok-map, ok-self, from-ok, if-then, if-map, if-self, Reads, reads-then, reads-pure, reads-looked-up, reads-repeat, at-most, Good, good, isFull, Runs, runs-then, runs-fits}
 use Rattle.rules.proofs.Readers.{Given}
 use Rattle.rules.proofs.Limits.{Limited, gives-limited}
 use Rattle.rules.proofs.Fits.{FitWidth, CellFits, variableFits, validFits, invalidFits, GlobalFits, globalFits, StoreFits, StateFits}
 use Rattle.rules.proofs.Sound.{EndOk, CallsOk, AppliesOk, sound-stmt}
 use Rattle.rules.proofs.Callables.{AllJudged, judged-all, calls-below}
 use Rattle.rules.proofs.Tables.{EntryOk, table-ok}
+use Rattle.rules.proofs.Parsers.{as-apply, as-state, parsed-then, parser-ok}
 
 -- numbers that pass a test
 only-if : (b : Bool) {A : Type 0} (a : A) → IfSome (λ x. (x ≡ a) × (b ≡ true)) (onlyIf b (some a))
@@ -137,6 +138,26 @@ store-reads : (P : Program) → Reads (StoreFits P) (readStore P)
 unfolding readStore
 store-reads P = cells-read P (P .globals)
 
+-- the packet
+abbrev PacketFits : List ℕ → Type 0
+PacketFits ns = All (λ n. isByte n ≡ true) ns
+
+bytes-read : Reads PacketFits readBytes
+unfolding readBytes
+bytes-read = reads-then (reads-looked-up 16 (gives 16 refl) λ n. if-any (within 0 mostPacket n)) λ n _.
+    reads-repeat n (reads-passing 16 (gives 16 refl) isByte)
+
+packet-reads : (P : Program) → Reads PacketFits (readPacket P)
+unfolding readPacket
+packet-reads P = go (hasParser (P .version))
+  where
+    go : (b : Bool) → Reads {A = List ℕ} PacketFits (elim b [
+      | true ↦ readBytes
+      | false ↦ Rattle.rules.specs.Reading.pure []
+    ])
+    go true = bytes-read
+    go false = reads-pure _ none-left
+
 -- what is known of a bench file that the judge accepts
 pub record BenchOk (bench : Bench) : Type 0 where
   pub limited : Limited (bench .program)
@@ -144,6 +165,7 @@ pub record BenchOk (bench : Bench) : Type 0 where
   pub bounded : ceilingOf (bench .program) ≤ mostSteps
   pub entries-fit : All (EntryOk (bench .program)) (bench .entries)
   pub store-fits : StoreFits (bench .program) (bench .store)
+  pub packet-fits : PacketFits (bench .packet)
 
 reads-checked : {A : Type 0} {r : Res A} → Judging-ok r → Reads (λ a. r ≡ ok a) (checked r)
 unfolding checked
@@ -174,16 +196,18 @@ program-limited : Reads Limited readProgram
 program-limited = record { reads = λ left at. got-limited (program-reads .reads left at) (gives-limited .given left at) }
 
 judging-reads : Reads BenchOk judging
-unfolding judging
+unfolding judging judgingProgram
 judging-reads = reads-then program-limited λ P limited. reads-then (reads-checked (program-judged P)) λ _ formed.
     reads-then (reads-checked (bounded-ok (leb (ceilingOf P) mostSteps))) λ _ bounded.
     reads-then (entries-read P) λ es fit.
-    reads-then (store-reads P) λ cells fits. reads-then (record { reads = left-at }) λ _ _. reads-pure _ (record {
+    reads-then (store-reads P) λ cells fits. reads-then (packet-reads P) λ packet bytes.
+    reads-then (record { reads = left-at }) λ _ _. reads-pure _ (record {
       limited = limited;
       formed = formed;
       bounded = leb-true (ceilingOf P) mostSteps (needed 9 0 (leb (ceilingOf P) mostSteps) bounded);
       entries-fit = fit;
       store-fits = fits;
+      packet-fits = bytes;
     })
 
 accepted-ok : (bytes : List ℕ) {g : Got Bench} (bench : Bench) → IfGot BenchOk g → placed bytes g ≡ accepted bench
@@ -219,7 +243,7 @@ parts-judged-if : (P : Program) → IfOk (λ _. PartsJudged P) (judgeProgram P)
 unfolding judgeProgram
 parts-judged-if P = ok-then (ok-self (judgeGlobals P (P .globals))) λ _ _.
     ok-then (judged-all P 0 (P .callables)) λ _ callables. ok-then (tables-judged P (P .tables)) λ _ tables.
-    ok-map (ok-self (judgeStmt (applyScope P) (P .body))) λ _ _. record { callables = callables; tables = tables }
+    ok-then (ok-self (judgeStates P 0 (P .states))) λ _ _. ok-map (ok-self (judgeStmt (applyScope P) (P .body))) λ _ _. record { callables = callables; tables = tables }
 
 pub parts-judged : (P : Program) → judgeProgram P ≡ ok tt → PartsJudged P
 parts-judged P e = from-ok (rw e at (parts-judged-if P))
@@ -230,8 +254,8 @@ pub data Ends (P : Program) : Out (List Cell) Signal → Type 0 where
       → Ends P (done signal store seen)
   fills : Ends P full
 
-finish-ends : (P : Program) {b : Bool} {o : Out State Ending}
-    → Good _≤_ (StateFits (applyScope P)) (EndOk inApply b) (ceilingOf P) o → Ends P (finish o)
+finish-ends : (P : Program) {R : Ending → Type 0} {o : Out State Ending}
+    → Good _≤_ (StateFits (applyScope P)) R (ceilingOf P) o → Ends P (finish o)
 unfolding finish applyScope
 finish-ends P (good seen r f q) = ends _ _ seen q (f .store-fits)
 finish-ends P isFull = fills
@@ -253,24 +277,30 @@ module _ (capacity : ℕ) (P : Program) (entries : List Entry) (fit : All (Entry
       go (some T) e (ifSome j) = ifSome (from-ok (rw j at (table-ok P used (callsBelow capacity P (length
           (P .callables))) (calleeIn (ceilingsBelow P (length (P .callables)))) h entries fit t T e)))
 
-  program-ok : IfOk (λ _. (store : List Cell) → StoreFits P store
-      → Ends P (runProgram capacity P entries store)) (judgeProgram P)
-  unfolding judgeProgram runProgram started ceilingOf ceilingWith applyScope
+  program-ok : IfOk (λ _. (store : List Cell) (packet : List ℕ) → StoreFits P store
+      → Ends P (runProgram capacity P entries store packet)) (judgeProgram P)
+  unfolding judgeProgram runProgram started ceilingOf ceilingWith applyScope _>>=_
   program-ok = ok-then (ok-self (judgeGlobals P (P .globals))) λ _ _.
       ok-then (judged-all P 0 (P .callables)) λ _ callables. ok-then (tables-judged P (P .tables)) λ _ tables.
-      ok-map (ok-self (judgeStmt (applyScope P) (P .body))) λ _ j store h.
-      finish-ends P ((from-ok (rw j at (sound-stmt (applyScope P) (length (slotsOf store)) (callsBelow capacity P
-      (length (P .callables))) (calleeIn (ceilingsBelow P (length (P .callables))))
-      (calls-below capacity P callables (length (P .callables))) _ _ (applies (length (slotsOf store))
-      (calls-below capacity P callables (length (P .callables))) (look-all tables)) (P .body)))) .run _
+      ok-then (ok-self (judgeStates P 0 (P .states))) λ _ i.
+      ok-map (ok-self (judgeStmt (applyScope P) (P .body))) λ _ j store packet h.
+      let used = length (slotsOf store) in
+      let calls = callsBelow capacity P (length (P .callables)) in
+      let callee = calleeIn (ceilingsBelow P (length (P .callables))) in
+      let called : CallsOk P (length (P .callables)) calls callee = calls-below capacity P callables (length
+      (P .callables)) in
+      let parses = runs-fits (as-state P) (as-apply P) (from-ok (rw i at (parser-ok P used calls callee called))) in
+      let applied = from-ok (rw j at (sound-stmt (applyScope P) used calls callee called _ _ (applies used called
+      (look-all tables)) (P .body))) in
+      finish-ends P (runs-then at-most parses (λ e he. parsed-then he applied) .run _
       (record { store-fits = h; parameters-fit = nil; locals-fit = nil }))
 
 -- THE THEOREM: for all bytes that are accepted, and every capacity
 pub accepted-ends : (capacity : ℕ) (bytes : List ℕ) (bench : Bench) → judged bytes ≡ accepted bench
-    → Ends (bench .program) (runProgram capacity (bench .program) (bench .entries) (bench .store))
+    → Ends (bench .program) (runProgram capacity (bench .program) (bench .entries) (bench .store) (bench .packet))
 accepted-ends capacity bytes bench e = let known = judged-ok bytes bench e in
     from-ok (rw (known .formed) at (program-ok capacity (bench .program) (bench .entries) (known .entries-fit)))
-    (bench .store) (known .store-fits)
+    (bench .store) (bench .packet) (known .store-fits)
 
 -- so no file's result is the stuck one
 ends-told : (P : Program) (ceiling : ℕ) {o : Out (List Cell) Signal} → Ends P o
@@ -278,10 +308,11 @@ ends-told : (P : Program) (ceiling : ℕ) {o : Out (List Cell) Signal} → Ends 
 unfolding numbersOf toldWith outcomeOf ofSignal
 ends-told P ceiling (ends Done store seen q h) e = let z : _≡_ {A = ℕ} 1 3 = cc in omega arith
 ends-told P ceiling (ends Exit store seen q h) e = let z : _≡_ {A = ℕ} 2 3 = cc in omega arith
+ends-told P ceiling (ends (Reject error) store seen q h) e = let z : _≡_ {A = ℕ} 4 3 = cc in omega arith
 ends-told P ceiling fills e = let z : _≡_ {A = ℕ} 0 3 = cc in omega arith
 
 file-told : (capacity : ℕ) (j : Judged) → ((bench : Bench) → j ≡ accepted bench
-    → Ends (bench .program) (runProgram capacity (bench .program) (bench .entries) (bench .store)))
+    → Ends (bench .program) (runProgram capacity (bench .program) (bench .entries) (bench .store) (bench .packet)))
     → numbersOf (fileOutcome capacity j) ≡ 3 ∷ [] → ⊥
 unfolding fileOutcome runBench
 file-told capacity (accepted bench) h e = ends-told (bench .program) (ceilingOf (bench .program)) (h bench refl) e
@@ -291,7 +322,7 @@ pub never-stuck : (bytes : List ℕ) → marked bytes ≡ 3 ∷ [] → ⊥
 unfolding marked
 never-stuck bytes e = file-told workingSlots (judged bytes) (λ bench q. accepted-ends workingSlots bytes bench q) e
 
--- every file is accepted, or refused with a number from 1 to 12 at a place within it
+-- every file is accepted, or refused with a number from 1 to 12 or 16 at a place within it
 pub data Answered (bytes : List ℕ) : Judged → Type 0 where
   isAccepted : {bench : Bench} → Answered bytes (accepted bench)
   isRefused : {number place : ℕ} → JudgeGives number → place ≤ length bytes → Answered bytes (refused number place)

@@ -6,15 +6,17 @@ use mathlib.Core.Option.{Option, none, some}
 use Prim.Native.Nat.{ℕ, zero, suc}
 use native.Mathlib.Omega.{arith}
 use mathlib.Core.List.{List, [], _∷_}
+use lib.Dec.{leb, eqb}
+use lib.ListN.{length}
 use Rattle.rules.specs.Syntax.{Ty, bool, bits, Value, value, Operator, arithmetic, order, shift, equality, logic, Logic, both, either, Place}
 use Rattle.rules.specs.Syntax.{Expr, boolLiteral, bitsLiteral, readOf, validOf, negation, complement, binary, cast, slice, concatenation, callExpr, Args, noArgs, arg}
-use Rattle.rules.specs.Syntax.{Stmt, empty, assign, ifElse, block, callStmt, apply, returnValue, return, exit, setValid, setInvalid, Stmts, noStmts, stmt}
-use Rattle.rules.specs.Syntax.{Parameter, Key, Table, Program}
+use Rattle.rules.specs.Syntax.{Stmt, empty, assign, ifElse, block, callStmt, apply, returnValue, return, exit, setValid, setInvalid, extract, verify, Stmts, noStmts, stmt}
+use Rattle.rules.specs.Syntax.{Parameter, Key, Table, Pair, Transition, noTransition, accept, reject, leadTo, select, ParserState, Program}
 use Rattle.rules.specs.Form.{Body, Scope, goesIn, comesBack}
 use Rattle.rules.specs.Lists.{Entry, Cell}
-use Rattle.rules.specs.Running.{State, Ending, onward, returned, returnedValue, exited, Seen, Out, done, stuck, full, M, more, next, _>>=_, pure, nowhere, tick, orStuck, must, gets, setTo, puts}
+use Rattle.rules.specs.Running.{State, Ending, onward, returned, returnedValue, exited, rejected, Seen, Out, done, stuck, full, M, more, next, _>>=_, pure, nowhere, tick, orStuck, must, gets, setTo, puts}
 use Rattle.rules.specs.Running.{readAt, writeAt, changeHeader, validAt, choose, logicWith, binaryWith, andThenRun, Calls, enter, onStore, takeIn, goIn, writeBack, inTurn, comeBack, afterBody, runCall, runExpr, runArgs}
-use Rattle.rules.specs.Running.{notInFunction, runStmt, runStmts, Found, found, nothing, runKeys, runAction, runFound, runTable}
+use Rattle.rules.specs.Running.{bytesIn, takeHeader, extractInto, extractAt, leaveBy, runStmt, runStmts, Found, found, nothing, runKeys, runAction, runFound, runTable, selected, runTransition, runState, runFrom, runParser}
 
 -- two outcomes that are the same, and not full
 pub data Alike {S A : Type 0} : Out S A → Out S A → Type 0 where
@@ -38,7 +40,7 @@ unfolding more
 more-alike seen bothDone = bothDone
 more-alike seen bothStuck = bothStuck
 
-next-alike : {S A B : Type 0} {o p : Out S A} {k l : A → M S B} → Alike o p → ((a : A) → RunAlike (k a) (l a))
+pub next-alike : {S A B : Type 0} {o p : Out S A} {k l : A → M S B} → Alike o p → ((a : A) → RunAlike (k a) (l a))
     → Alike (next o k) (next p l)
 unfolding next
 next-alike (bothDone {a} {s} {seen}) h = more-alike seen (h a .alike s)
@@ -112,16 +114,17 @@ module _ {S : Type 0} where
   binary-alike (equality o) h g = then-alike h λ v. then-alike g λ u. some-alike _
   binary-alike (logic o) h g = then-alike h λ v. logic-alike o v (then-alike g λ u. some-alike _)
 
-  and-then-alike : {m n : M S Ending} (e : Ending) → RunAlike m n → RunAlike (andThenRun e m) (andThenRun e n)
+  pub and-then-alike : {m n : M S Ending} (e : Ending) → RunAlike m n → RunAlike (andThenRun e m) (andThenRun e n)
   unfolding andThenRun
   and-then-alike onward h = h
   and-then-alike returned h = pure-alike _
   and-then-alike (returnedValue v) h = pure-alike _
   and-then-alike exited h = pure-alike _
+  and-then-alike (rejected e) h = pure-alike _
 
-  not-in-function-alike : (b : Body) (e : Ending) → RunAlike {S = S} (notInFunction b e) (notInFunction b e)
-  unfolding notInFunction
-  not-in-function-alike b e = then-alike (must-alike _) λ _. pure-alike e
+  leave-by-alike : (b : Body) (e : Ending) → RunAlike {S = S} (leaveBy b e) (leaveBy b e)
+  unfolding leaveBy
+  leave-by-alike b e = then-alike (must-alike _) λ _. pure-alike e
 
 module _ (Γ : Scope) where
   read-alike : (p : Place) → RunAlike (readAt Γ p) (readAt Γ p)
@@ -135,6 +138,22 @@ module _ (Γ : Scope) where
   change-alike : (g : ℕ) (f : Cell → Option Cell) → RunAlike (changeHeader Γ g f) (changeHeader Γ g f)
   unfolding changeHeader
   change-alike g f = then-alike (some-alike _) λ _. puts-alike _
+
+  extract-alike : (g : ℕ) → RunAlike (extractAt Γ g) (extractAt Γ g)
+  unfolding extractAt extractInto next _>>=_
+  extract-alike g = then-alike (some-alike _) λ widths. record {
+    alike = λ s. go widths s (leb (bytesIn widths) (length (s .packet)));
+  }
+    where
+      go : (widths : List ℕ) (s : State) (b : Bool) → Alike {S = State} {A = Ending} (elim b [
+        | true ↦ next (puts (takeHeader g widths) s) (λ _. pure onward)
+        | false ↦ pure (rejected 1) s
+      ]) (elim b [
+        | true ↦ next (puts (takeHeader g widths) s) (λ _. pure onward)
+        | false ↦ pure (rejected 1) s
+      ])
+      go widths s true = then-alike (puts-alike (takeHeader g widths)) (λ _. pure-alike onward) .alike s
+      go widths s false = pure-alike (rejected 1) .alike s
 
   valid-alike : (g : ℕ) → RunAlike (validAt Γ g) (validAt Γ g)
   unfolding validAt
@@ -190,6 +209,7 @@ after-alike onward h = then-alike h λ _. pure-alike _
 after-alike returned h = then-alike h λ _. pure-alike _
 after-alike (returnedValue v) h = then-alike h λ _. pure-alike _
 after-alike exited h = pure-alike _
+after-alike (rejected e) h = pure-alike _
 
 -- the calls of two runs are alike
 module _ (used other : ℕ) (calls others : Calls)
@@ -217,7 +237,7 @@ module _ (used other : ℕ) (calls others : Calls)
       expr-alike (concatenation at a b) = tick-alike (then-alike (expr-alike a) λ v. then-alike (expr-alike b) λ u.
           some-alike _)
       expr-alike (callExpr at f xs) = tick-alike (then-alike (some-alike _) λ c. then-alike (some-alike _) λ t.
-          then-alike (args-alike xs (c .parameters)) λ ns. then-alike (call-alike f xs (c .parameters) ns) λ e.
+          then-alike (must-alike _) λ _. then-alike (args-alike xs (c .parameters)) λ ns. then-alike (call-alike f xs (c .parameters) ns) λ e.
           some-alike _)
 
       args-alike : (xs : Args) (ps : List Parameter)
@@ -244,10 +264,13 @@ module _ (used other : ℕ) (calls others : Calls)
             pure-alike _)
         stmt-alike (apply at t) = tick-alike (applies t)
         stmt-alike (returnValue at e) = tick-alike (then-alike (expr-alike e) λ v. some-alike _)
-        stmt-alike (return at) = tick-alike (not-in-function-alike _ _)
-        stmt-alike (exit at) = tick-alike (not-in-function-alike _ _)
+        stmt-alike (return at) = tick-alike (leave-by-alike _ _)
+        stmt-alike (exit at) = tick-alike (leave-by-alike _ _)
         stmt-alike (setValid at g) = tick-alike (then-alike (change-alike Γ g _) λ _. pure-alike _)
         stmt-alike (setInvalid at g) = tick-alike (then-alike (change-alike Γ g _) λ _. pure-alike _)
+        stmt-alike (extract at g) = tick-alike (then-alike (must-alike _) λ _. extract-alike Γ g)
+        stmt-alike (verify at c e) = tick-alike (then-alike (must-alike _) λ _. then-alike (expr-alike c) λ v.
+            choose-alike v (pure-alike _) (pure-alike _))
 
         stmts-alike : (ss : Stmts) → RunAlike (runStmts Γ used calls applied ss) (runStmts Γ other others elsewhere ss)
         stmts-alike noStmts = pure-alike _
@@ -276,3 +299,32 @@ module _ (used other : ℕ) (calls others : Calls)
     unfolding runTable
     table-alike entries t = then-alike (some-alike _) λ T. then-alike (keys-alike (T .keys)) λ ks.
         then-alike (must-alike _) λ _. found-alike T _
+
+    selected-alike : {later elsewhere : ℕ → M State Ending} → ((m : ℕ) → RunAlike (later m) (elsewhere m)) → (n : ℕ)
+        (ps : List Pair) → RunAlike (selected later n ps) (selected elsewhere n ps)
+    unfolding selected
+    selected-alike h n [] = pure-alike _
+    selected-alike h n (p ∷ ps) = branch-alike (eqb n (p .value .number)) (h (p .state .number)) (selected-alike h n ps)
+
+    transition-alike : {later elsewhere : ℕ → M State Ending} → ((m : ℕ) → RunAlike (later m) (elsewhere m))
+        → (t : Transition) → RunAlike (runTransition P used calls later t) (runTransition P other others elsewhere t)
+    unfolding runTransition
+    transition-alike h noTransition = pure-alike _
+    transition-alike h accept = pure-alike _
+    transition-alike h (reject e) = pure-alike _
+    transition-alike h (leadTo s) = h (s .number)
+    transition-alike h (select at e ps) = then-alike (expr-alike _ e) λ v. then-alike (some-alike _) λ k.
+        then-alike (must-alike _) λ _. selected-alike h (k .number) ps
+
+    from-alike : (n : ℕ) (ss : List ParserState) (m : ℕ)
+        → RunAlike (runFrom P used calls n ss m) (runFrom P other others n ss m)
+    unfolding runFrom runState
+    from-alike n [] m = nowhere-alike
+    from-alike n (s ∷ ss) m = branch-alike (eqb m n) (tick-alike (then-alike (stmt-alike _ _ _ (λ t. nowhere-alike)
+        (s .body)) λ e. and-then-alike e (transition-alike (from-alike (suc n) ss) (s .transition))))
+        (from-alike (suc n) ss m)
+
+    pub parser-alike : (ss : List ParserState) → RunAlike (runParser P used calls ss) (runParser P other others ss)
+    unfolding runParser
+    parser-alike [] = pure-alike onward
+    parser-alike (s ∷ ss) = from-alike 0 (s ∷ ss) 0

@@ -2,22 +2,23 @@
 use mathlib.Core.Path.{_≡_, refl, sym, ap, ap₂, subst, _∙_}
 use mathlib.Core.Bool.{Bool, true, false, false≢true}
 use mathlib.Core.Option.{Option, none, some}
-use Prim.Native.Nat.{ℕ, suc, _+_, _-_, _^_, _<_}
+use Prim.Native.Nat.{ℕ, zero, suc, _+_, _-_, _*_, _/_, _^_, _<_, _≤_}
 use native.Mathlib.Omega.{arith}
-use mathlib.Core.List.{List}
+use mathlib.Core.List.{List, [], _∷_, _++_}
 use lib.Dec.{eqb}
 use lib.Bits.{bitAnd, bitOr, bitXor, and-lt, or-lt, xor-lt}
-use lib.ListN.{getElem?, length, length-append}
-use lib.Pow.{pow-pos}
+use lib.ListN.{getElem?, length, length-append, take, drop}
+use lib.Pow.{pow-pos, pow-mono}
+use native.Mathlib.Nat.{mod-lt, lt-of-lt-of-le, add-zero, zero-add}
 use borrow.Author.Tests.{eqb-true, ltb-true, lt-ltb, eq-eqb}
 use Rattle.rules.specs.Words.{fitsWidth, sum, difference, product, complementOf, shiftedLeft, shiftedRight, castTo, sliceFits, sliceWidth, sliceOf, joinFits, joined}
 use Rattle.rules.specs.Syntax.{Ty, bool, bits, Value, value, Global, Parameter, Program, Arithmetic, plus, minus, times, and, or, xor, Order, Shift, shiftLeft, shiftRight, Equality, Place, local, parameter, global, field}
-use Rattle.rules.specs.Form.{Res, andLook, onlyIf, sameTy, fits, Shape, aVariable, aHeader, shapeIn, globalAt, seesGlobals, Scope, judgeVariable, judgeField, judgeHeader, judgeGlobal, judgePlace, judgeHeaderAt, needTy, widthAt}
+use Rattle.rules.specs.Form.{Res, andLook, onlyIf, sameTy, fits, Shape, aVariable, aHeader, shapeIn, globalAt, seesGlobals, Scope, judgeVariable, judgeField, judgeHeader, judgeGlobal, judgePlace, judgeHeaderAt, wholeBytes, judgeExtracted, needTy, widthAt}
 use Rattle.rules.specs.Lists.{Cell, variableCell, headerCell, markOf, slotsOfCell, slotsOf}
-use Rattle.rules.specs.Running.{State, change, numberOf, truth, variableTy, fieldTy, headerOnly, shapeFor, declared, variableIn, fieldIn, held, setVariable, setField, zeroed, makeValid, makeInvalid, withStore, withParameters, withLocals, changeStore, put}
+use Rattle.rules.specs.Running.{State, change, numberOf, truth, variableTy, fieldTy, headerOnly, shapeFor, declared, variableIn, fieldIn, held, setVariable, setField, zeroed, makeValid, makeInvalid, withStore, withParameters, withLocals, withPacket, bitsBelow, bitsOfBytes, numberOfBits, fieldsFrom, fillHeader, wholeHeader, changeStore, put}
 use Rattle.rules.specs.Running.{calculate, compare, shiftBy, agree, arithmeticOn, orderOn, shiftOn, equalityOn, notOn, complementOn, castOn, sliceOn, concatenationOn, aBool}
 use Rattle.rules.proofs.Fitting.{sum-fits, difference-fits, product-fits, complement-fits, left-fits, right-fits, cast-fits, slice-fits, joined-fits}
-use Rattle.rules.proofs.Predicates.{All2, nil, cons, IfOk, isOk, isFault, IfSome, ifNone, ifSome, SomeOf, isSome, ok-then, ok-map, ok-found, ok-need, some-then, if-then, if-only, if-map, if-self, from-some, look-fits, change-fits}
+use Rattle.rules.proofs.Predicates.{All2, nil, cons, All, none-left, also, IfOk, isOk, isFault, IfSome, ifNone, ifSome, SomeOf, isSome, ok-then, ok-map, ok-found, ok-need, some-then, if-then, if-only, if-map, if-self, from-some, look-fits, change-fits}
 
 -- a number fits a type, a value has one
 abbrev pub Fit : Ty → ℕ → Type 0
@@ -124,6 +125,52 @@ unfolding makeInvalid
 make-invalid (validFits h) = isSome (invalidFits (zeroed-zeros h))
 make-invalid (invalidFits h) = isSome (invalidFits (zeroed-zeros h))
 
+-- fields that are filled from bits
+abbrev Bit : ℕ → Type 0
+Bit b = b < 2
+
+bits-below : (i n : ℕ) → All Bit (bitsBelow i n)
+unfolding bitsBelow
+bits-below zero n = none-left
+bits-below (suc i) n = also (mod-lt (n / 2 ^ i) (omega arith)) (bits-below i n)
+
+all-append : {A : Type 0} {Q : A → Type 0} {xs ys : List A} → All Q xs → All Q ys → All Q (xs ++ ys)
+all-append none-left k = k
+all-append (also p h) k = also p (all-append h k)
+
+bits-of-bytes : (ns : List ℕ) → All Bit (bitsOfBytes ns)
+unfolding bitsOfBytes
+bits-of-bytes [] = none-left
+bits-of-bytes (n ∷ ns) = all-append (bits-below 8 n) (bits-of-bytes ns)
+
+all-drop : {A : Type 0} {Q : A → Type 0} (i : ℕ) {xs : List A} → All Q xs → All Q (drop i xs)
+all-drop zero h = h
+all-drop (suc i) none-left = none-left
+all-drop (suc i) (also p h) = all-drop i h
+
+-- so many bits behind a number of a width make one that is so much wider
+bits-fit : (w width front : ℕ) {bs : List ℕ} → All Bit bs → front < 2 ^ width
+    → numberOfBits front (take w bs) < 2 ^ (width + w)
+unfolding numberOfBits
+bits-fit zero width front h f = rw (add-zero width) f
+bits-fit (suc w) width front none-left f = lt-of-lt-of-le f (pow-mono (let up : width ≤ width + suc w = omega arith in up))
+bits-fit (suc w) width front (also {a = b} {xs = bs} p h) f =
+    let same : width + 1 + w ≡ width + suc w = omega arith in
+    subst (λ k. numberOfBits (front * 2 + b) (take w bs) < 2 ^ k) same
+    (bits-fit w (width + 1) (front * 2 + b) h (unfold joined in joined-fits width 1 front b f p))
+
+fields-from : (widths : List ℕ) {bs : List ℕ} → All Bit bs → All2 FitWidth widths (fieldsFrom widths bs)
+unfolding fieldsFrom fitsWidth
+fields-from [] h = nil
+fields-from (w ∷ widths) {bs} h =
+    cons (lt-ltb _ (2 ^ w) (rw (zero-add w) at (bits-fit w 0 0 h (omega arith)))) (fields-from widths (all-drop w h))
+
+pub fill-header : {widths : List ℕ} {c : Cell} (packet : List ℕ) → CellFits (aHeader widths) c
+    → SomeOf (CellFits (aHeader widths)) (fillHeader (fieldsFrom widths (bitsOfBytes packet)) c)
+unfolding fillHeader
+fill-header {widths} packet (validFits h) = isSome (validFits (fields-from widths (bits-of-bytes packet)))
+fill-header {widths} packet (invalidFits h) = isSome (validFits (fields-from widths (bits-of-bytes packet)))
+
 -- globals: looked up with their shape
 look-global : {P : Program} {g : Global} {o : Option Cell} → SomeOf (GlobalFits P g) o → IfSome (λ shape.
     SomeOf (CellFits shape) o) (shapeIn P (g .ty))
@@ -172,6 +219,11 @@ module _ (Γ : Scope) where
   with-locals : {s : State} {ns : List ℕ} → StateFits Γ s → All2 Fit (Γ .locals) ns → StateFits Γ (withLocals s ns)
   unfolding withLocals
   with-locals f h = record { store-fits = f .store-fits; parameters-fit = f .parameters-fit; locals-fit = h }
+
+  pub with-packet : {s : State} (ns : List ℕ) → StateFits Γ s → StateFits Γ (withPacket s ns)
+  unfolding withPacket
+  with-packet ns f =
+      record { store-fits = f .store-fits; parameters-fit = f .parameters-fit; locals-fit = f .locals-fit }
 
   variable-held : (shape : Shape) {o : Option Cell} → SomeOf (CellFits shape) o → IfSome (λ t.
       SomeOf (Fit t) (andLook o variableIn)) (variableTy shape)
@@ -268,6 +320,17 @@ module _ (Γ : Scope) where
       (judgeHeaderAt Γ at g)
   unfolding judgeHeaderAt
   header-at at g = ok-map (global-ok at g (header-ok at)) λ _ h. some-then h λ shape r. rw (r .1) (r .0)
+
+  whole-ok : (at : ℕ) (shape : Shape)
+      → IfOk (λ _. SomeOf (λ widths. some shape ≡ some (aHeader widths)) (wholeHeader shape)) (judgeExtracted at shape)
+  unfolding judgeExtracted wholeHeader onlyIf
+  whole-ok at (aVariable t) = isFault
+  whole-ok at (aHeader widths) = ok-map (ok-need 7 at (wholeBytes widths)) λ _ e. rw e (isSome refl)
+
+  pub whole-at : (at g : ℕ)
+      → IfOk (λ _. SomeOf (λ widths. globalAt (Γ .program) g ≡ some (aHeader widths)) (andLook (shapeFor Γ g) wholeHeader))
+      (judgeGlobal Γ at g (judgeExtracted at))
+  whole-at at g = ok-map (global-ok at g (whole-ok at)) λ _ h. some-then h λ shape r. rw (r .1) (r .0)
 
 -- operators
 lt-fits : (w n : ℕ) → n < 2 ^ w → Fit (bits w) n

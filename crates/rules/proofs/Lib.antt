@@ -4,6 +4,7 @@ pub mod Fits
 pub mod Sound
 pub mod Callables
 pub mod Tables
+pub mod Parsers
 pub mod Refusals
 pub mod Readers
 pub mod Limits

@@ -64,7 +64,8 @@ pub gives-limited : Gives Limited readProgram
 unfolding readProgram readAfterVersion
 gives-limited = gives-then _ λ version. gives-with (gives-members 0 mostHeaders (gives-header version)) λ hs h.
     gives-with (gives-list 0 mostGlobals _) λ gs g.
-    gives-with (gives-members 0 mostCallables (gives-callable version)) λ cs c. gives-then _ λ ts. gives-then _ λ body.
+    gives-with (gives-members 0 mostCallables (gives-callable version)) λ cs c. gives-then _ λ ts. gives-then _ λ ss.
+    gives-then _ λ body.
     gives-pure _ _ (record { headers = h .1; globals = g; callables = c .0; slots = c .1 })
 
 -- a store that fits such a program

@@ -1,14 +1,15 @@
 -- What is said of an answer of the rules, as data: of a judged part, of an option, of what a reader gives, of a run. One law for each way
 -- of putting two together, so that a construct of a theorem is a line or two.
 use mathlib.Core.Path.{_≡_, refl}
-use mathlib.Core.Bool.{Bool, true, false, _&&_, false≢true}
+use mathlib.Core.Logic.{_⊎_, inl, inr}
+use mathlib.Core.Bool.{Bool, true, false, _&&_, _||_, false≢true}
 use mathlib.Core.Option.{Option, none, some}
 use Prim.Native.Nat.{ℕ, zero, suc, _+_, _≤_}
 use native.Mathlib.Omega.{arith}
 use mathlib.Core.List.{List, [], _∷_, _++_}
-use lib.Dec.{leb}
+use lib.Dec.{leb, eqb}
 use lib.ListN.{getElem?, length, length-append}
-use borrow.Author.Tests.{leb-true}
+use borrow.Author.Tests.{leb-true, eqb-true}
 use Rattle.rules.specs.Reading.{Got, got, bad, Reader}
 use Rattle.rules.specs.Reading as Reading
 use Rattle.rules.specs.Form.{Res, ok, fault, _>>=_, named, need, andLook, onlyIf}
@@ -49,10 +50,14 @@ pub data IfSome {A : Type 0} (P : A → Type 0) : Option A → Type 0 where
 
 -- the numbers that the judge refuses with
 abbrev pub JudgeGives : ℕ → Type 0
-JudgeGives n = (1 ≤ n) × (n ≤ 12)
+JudgeGives n = ((1 ≤ n) × (n ≤ 12)) ⊎ (n ≡ 16)
 
-pub gives : (n : ℕ) → (leb 1 n && leb n 12) ≡ true → JudgeGives n
-gives n e = let both = and-both (leb 1 n) (leb n 12) e in (leb-true 1 n (both .0), leb-true n 12 (both .1))
+pub gives : (n : ℕ) → (leb 1 n && leb n 12 || eqb n 16) ≡ true → JudgeGives n
+gives n e = go (leb 1 n && leb n 12) refl e
+  where
+    go : (b : Bool) → (leb 1 n && leb n 12) ≡ b → (b || eqb n 16) ≡ true → JudgeGives n
+    go true q e = let both = and-both (leb 1 n) (leb n 12) q in inl (leb-true 1 n (both .0), leb-true n 12 (both .1))
+    go false q e = inr (eqb-true n 16 e)
 
 pub data IfGot {A : Type 0} (P : A → Type 0) : Got A → Type 0 where
   isGot : {a : A} {left : List ℕ} {at : ℕ} → P a → IfGot P (got a left at)
@@ -272,6 +277,16 @@ good-map g isFull = isFull
 pub runs-map : {W : ℕ → ℕ → Type 0} {S A : Type 0} {F : S → Type 0} {R Q : A → Type 0} {c : ℕ} {m : M S A}
     → Runs W F R c m → ((a : A) → R a → Q a) → Runs W F Q c m
 runs-map h g = record { run = λ s f. good-map g (h .run s f) }
+
+-- a run where what is known of the state is said in another way
+good-fits : {W : ℕ → ℕ → Type 0} {S A : Type 0} {F G : S → Type 0} {R : A → Type 0} {c : ℕ} {o : Out S A} → ((s : S)
+    → F s → G s) → Good W F R c o → Good W G R c o
+good-fits g (good seen r f q) = good seen r (g _ f) q
+good-fits g isFull = isFull
+
+pub runs-fits : {W : ℕ → ℕ → Type 0} {S A : Type 0} {F G : S → Type 0} {R : A → Type 0} {c : ℕ} {m : M S A} → ((s : S)
+    → G s → F s) → ((s : S) → F s → G s) → Runs W F R c m → Runs W G R c m
+runs-fits g h r = record { run = λ s f. good-fits h (r .run s (g s f)) }
 
 -- at most a smaller ceiling is at most a larger one
 good-le : {S B : Type 0} {F : S → Type 0} {R : B → Type 0} {c d : ℕ} {o : Out S B} → c ≤ d → Good _≤_ F R c o

@@ -22,14 +22,14 @@ use Rattle.rules.proofs.Room.{accepted-same, accepted-not-full}
 use Rattle.rules.proofs.Codec.{Below, read-write, write-one-form, write-below}
 use Rattle.rules.proofs.Same.{read-same, write-same, judge-same, run-same}
 
--- Demand 1. Every file is accepted, or refused with a number from 1 to 12 at a place within it (`Answered` of Accepted).
+-- Demand 1. Every file is accepted, or refused with a number from 1 to 12 or 16 at a place within it (`Answered` of Accepted).
 pub every-file : (bytes : List ℕ) → Answered bytes (judged bytes)
 every-file = judge-answers
 
--- Demand 3. A file that the judge accepts is not stuck: its run is done or exit, within the ceiling, and in the final store every field
+-- Demand 3. A file that the judge accepts is not stuck: its run is done, exit or reject, within the ceiling, and in the final store every field
 -- and variable fits its declared type and a header marked invalid has only zeros (`Ends`, with `StoreFits` of Fits); or it is full.
 pub sound : (capacity : ℕ) (bytes : List ℕ) (bench : Bench) → judged bytes ≡ accepted bench
-    → Ends (bench .program) (runProgram capacity (bench .program) (bench .entries) (bench .store))
+    → Ends (bench .program) (runProgram capacity (bench .program) (bench .entries) (bench .store) (bench .packet))
 sound = accepted-ends
 
 pub result-not-stuck : (bytes : List ℕ) → marked bytes ≡ 3 ∷ [] → ⊥
@@ -37,14 +37,14 @@ result-not-stuck = never-stuck
 
 -- Nor is it full: a store has at most 544 numbers, at most 16 calls are open at once, and each takes at most 16 slots.
 pub never-full : (bytes : List ℕ) (bench : Bench) → judged bytes ≡ accepted bench
-    → runProgram workingSlots (bench .program) (bench .entries) (bench .store) ≡ full → ⊥
+    → runProgram workingSlots (bench .program) (bench .entries) (bench .store) (bench .packet) ≡ full → ⊥
 never-full = accepted-not-full
 
 -- With these 800 slots (`mostSlots` of Limits) or more, how many there are makes no difference.
 pub same-with-room : (capacity another : ℕ) → mostSlots ≤ capacity → mostSlots ≤ another → (bytes : List ℕ)
     (bench : Bench) → judged bytes ≡ accepted bench
-    → runProgram capacity (bench .program) (bench .entries) (bench .store)
-    ≡ runProgram another (bench .program) (bench .entries) (bench .store)
+    → runProgram capacity (bench .program) (bench .entries) (bench .store) (bench .packet)
+    ≡ runProgram another (bench .program) (bench .entries) (bench .store) (bench .packet)
 same-with-room = accepted-same
 
 -- Stores that fit one program, as the first and the last of a run do, have as many numbers.

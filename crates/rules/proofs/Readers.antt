@@ -10,12 +10,12 @@ use lib.ListN.{length, getD, drop, drop-of-length-le}
 use lib.Seq.{drop-cons}
 use lib.Dec.{ltb, leb}
 use borrow.Author.Tests.{ltb-true, ltb-false, leb-true}
-use Rattle.rules.specs.Syntax.{Expr, Stmt, Place, HeaderTy, Global, Callable, Table}
+use Rattle.rules.specs.Syntax.{Expr, Stmt, Place, HeaderTy, Global, Callable, Table, ParserState}
 use Rattle.rules.specs.Reading.{Got, got, bad, Reader, andThen, _>>=_, pure, here, number, meaning, lookedUp, standsFor, between, within, repeat, listOf, tooDeep, deepest}
 use Rattle.rules.specs.Reading.{PlaceTag, tagLocal, tagParameter, tagGlobal, tagField, ExprTag, tagBool, tagBits, tagPlace, tagValid, tagNot, tagComplement, tagBinary, tagCast, tagSlice, tagConcatenation, tagCall}
-use Rattle.rules.specs.Reading.{StmtTag, tagEmpty, tagAssign, tagIf, tagBlock, tagCallStmt, tagApply, tagReturnValue, tagReturn, tagExit, tagSetValid, tagSetInvalid, CallableKind, kindAction, kindFunction}
+use Rattle.rules.specs.Reading.{StmtTag, tagEmpty, tagAssign, tagIf, tagBlock, tagCallStmt, tagApply, tagReturnValue, tagReturn, tagExit, tagSetValid, tagSetInvalid, tagExtract, tagVerify, CallableKind, kindAction, kindFunction, TransitionTag, tagNone, tagAccept, tagReject, tagLeadTo, tagSelect}
 use Rattle.rules.specs.Reading.{versionOf, readPlace, readExprAs, readExpr, readTarget, readStmtAs, readStmt}
-use Rattle.rules.specs.Reading.{readHeader, readGlobal, readParameter, readReturns, readCallable, readNumeral, readKey, readTable, readAfterVersion, readProgram}
+use Rattle.rules.specs.Reading.{readHeader, readGlobal, readParameter, readReturns, readCallable, readNumeral, readKey, readTable, hasParser, readPair, readTransitionAs, readTransition, readState, readStates, readAfterVersion, readProgram}
 
 -- a number at an index of the list, and beyond its end
 pub looked-in : {A : Type 0} (fault : ℕ) (what : ℕ → Option A) (nums : List ℕ) (at : ℕ) → at < length nums
@@ -187,6 +187,8 @@ module _ (version : ℕ) where
   keeps-stmt-as tagExit at k t i = keeps-pure _
   keeps-stmt-as tagSetValid at k t i = keeps-then keeps-number λ g. keeps-pure _
   keeps-stmt-as tagSetInvalid at k t i = keeps-then keeps-number λ g. keeps-pure _
+  keeps-stmt-as tagExtract at k t i = keeps-then keeps-number λ g. keeps-pure _
+  keeps-stmt-as tagVerify at k t i = keeps-then k λ c. keeps-then (keeps-between 0 255) λ e. keeps-pure _
 
   pub keeps-stmt : (depth : ℕ) → Keeps (readStmt version depth)
   unfolding readStmt
@@ -236,11 +238,44 @@ module _ (version : ℕ) where
       keeps-then keeps-numeral λ d. keeps-then keeps-here λ n. keeps-then (keeps-list 0 8 keeps-numeral)
       λ xs. keeps-pure _
 
+  pub keeps-pair : Keeps (readPair version)
+  unfolding readPair
+  keeps-pair = keeps-then keeps-numeral λ v. keeps-then keeps-numeral λ s. keeps-pure _
+
+  keeps-transition-as : (tag : TransitionTag) (at : ℕ) → Keeps (readTransitionAs version tag at)
+  unfolding readTransitionAs
+  keeps-transition-as tagNone at = keeps-pure _
+  keeps-transition-as tagAccept at = keeps-pure _
+  keeps-transition-as tagReject at = keeps-then (keeps-between 0 255) λ e. keeps-pure _
+  keeps-transition-as tagLeadTo at = keeps-then keeps-numeral λ s. keeps-pure _
+  keeps-transition-as tagSelect at = keeps-then (keeps-expr deepest) λ e. keeps-then (keeps-list 0 16 keeps-pair) λ ps.
+      keeps-pure _
+
+  pub keeps-transition : Keeps (readTransition version)
+  unfolding readTransition
+  keeps-transition = keeps-then keeps-here λ at. keeps-then (keeps-stands _) λ tag. keeps-transition-as tag at
+
+  pub keeps-state : Keeps (readState version)
+  unfolding readState
+  keeps-state = keeps-then keeps-here λ at. keeps-then (keeps-stmt deepest) λ body. keeps-then keeps-transition λ t.
+      keeps-pure _
+
+  pub keeps-states : Keeps (readStates version)
+  unfolding readStates
+  keeps-states = go (hasParser version)
+    where
+      go : (b : Bool) → Keeps {A = List ParserState} (elim b [
+        | true ↦ listOf 1 16 (readState version)
+        | false ↦ pure []
+      ])
+      go true = keeps-list 1 16 keeps-state
+      go false = keeps-pure []
+
   pub keeps-after-version : Keeps (readAfterVersion version)
   unfolding readAfterVersion
   keeps-after-version = keeps-then (keeps-list 0 8 keeps-header) λ hs. keeps-then (keeps-list 0 32 keeps-global) λ gs.
       keeps-then (keeps-list 0 16 keeps-callable) λ cs. keeps-then (keeps-list 0 8 keeps-table) λ ts.
-      keeps-then (keeps-stmt deepest) λ body. keeps-pure _
+      keeps-then keeps-states λ ss. keeps-then (keeps-stmt deepest) λ body. keeps-pure _
 
 pub keeps-program : Keeps readProgram
 unfolding readProgram
@@ -304,6 +339,10 @@ module _ (version : ℕ) where
   starts-table =
       starts-here λ at. gives-then _ λ ks. gives-then _ λ ns. gives-then _ λ d. gives-then _ λ n. gives-then _
       λ xs. gives-pure _ _ refl
+
+  pub starts-state : Starts (λ (s : ParserState). s .at) (readState version)
+  unfolding readState
+  starts-state = starts-here λ at. gives-then _ λ body. gives-then _ λ t. gives-pure _ _ refl
 
 pub gives-as : {A : Type 0} {P Q : A → Type 0} {read : Reader A} → ((a : A) → P a → Q a) → Gives P read → Gives Q read
 unfolding Given

@@ -1,4 +1,4 @@
--- The refusals of the judge's parts have numbers from 1 to 12, and places lie within the file.
+-- The refusals of the judge's parts have numbers from 1 to 12 or 16, and places lie within the file.
 use mathlib.Core.Path.{refl}
 use mathlib.Core.Bool.{Bool, true, false, _||_}
 use mathlib.Core.Option.{Option, none, some}
@@ -10,12 +10,12 @@ use lib.ListN.{getElem?, length}
 use Rattle.rules.specs.Numbers.{Stream, numbers, broken, Group, more, last, wrong, groupOf, withFirst, endAt, streamFrom, streamOf, mostBytes, placeOf}
 use Rattle.rules.specs.Syntax.{Ty, bool, bits, Operator, arithmetic, order, shift, equality, logic, Place, local, parameter, global, field}
 use Rattle.rules.specs.Syntax.{Expr, boolLiteral, bitsLiteral, readOf, validOf, negation, complement, binary, cast, slice, concatenation, callExpr, Args, noArgs, arg}
-use Rattle.rules.specs.Syntax.{Stmt, empty, assign, ifElse, block, callStmt, apply, returnValue, return, exit, setValid, setInvalid, Stmts, noStmts, stmt}
-use Rattle.rules.specs.Syntax.{Global, Parameter, Callable, Numeral, Key, Table, Program}
+use Rattle.rules.specs.Syntax.{Stmt, empty, assign, ifElse, block, callStmt, apply, returnValue, return, exit, setValid, setInvalid, extract, verify, Stmts, noStmts, stmt}
+use Rattle.rules.specs.Syntax.{Global, Parameter, Callable, Numeral, Key, Table, Pair, Transition, noTransition, accept, reject, leadTo, select, ParserState, Program}
 use Rattle.rules.specs.Reading.{Reader, PlaceTag, tagLocal, tagParameter, tagGlobal, tagField, ExprTag, tagBool, tagBits, tagPlace, tagValid, tagNot, tagComplement, tagBinary, tagCast, tagSlice, tagConcatenation, tagCall}
-use Rattle.rules.specs.Reading.{StmtTag, tagEmpty, tagAssign, tagIf, tagBlock, tagCallStmt, tagApply, tagReturnValue, tagReturn, tagExit, tagSetValid, tagSetInvalid, CallableKind, kindAction, kindFunction}
+use Rattle.rules.specs.Reading.{StmtTag, tagEmpty, tagAssign, tagIf, tagBlock, tagCallStmt, tagApply, tagReturnValue, tagReturn, tagExit, tagSetValid, tagSetInvalid, tagExtract, tagVerify, CallableKind, kindAction, kindFunction, TransitionTag, tagNone, tagAccept, tagReject, tagLeadTo, tagSelect}
 use Rattle.rules.specs.Reading as Reading
-use Rattle.rules.specs.Form.{Res, ok, fault, _>>=_, named, need, Shape, aVariable, aHeader, Body, inFunction, inAction, inApply, Scope, Given}
+use Rattle.rules.specs.Form.{Res, ok, fault, _>>=_, named, need, Shape, aVariable, aHeader, Body, inFunction, inAction, inApply, inState, Scope, Given}
 use Rattle.rules.specs.Form as Form
 use Rattle.rules.proofs.Predicates.{JudgeGives, gives, IfGot, isGot, isBad, if-any, Reads, reads-then, reads-pure, reads-looked-up}
 
@@ -123,6 +123,8 @@ module _ (version : ℕ) where
   stmt-as tagExit at e t s = pure-reads _
   stmt-as tagSetValid at e t s = then-reads number-reads λ g. pure-reads _
   stmt-as tagSetInvalid at e t s = then-reads number-reads λ g. pure-reads _
+  stmt-as tagExtract at e t s = then-reads number-reads λ g. pure-reads _
+  stmt-as tagVerify at e t s = then-reads e λ c. then-reads (between-reads 0 255) λ x. pure-reads _
 
   stmt-reads : (depth : ℕ) → Answers (Reading.readStmt version depth)
   unfolding Reading.readStmt
@@ -167,11 +169,41 @@ module _ (version : ℕ) where
       then-reads (list-reads 1 8 numeral-reads) λ ns. then-reads numeral-reads λ d.
       then-reads here-reads λ c. then-reads (list-reads 0 8 numeral-reads) λ xs. pure-reads _
 
+  pair-reads : Answers (Reading.readPair version)
+  unfolding Reading.readPair
+  pair-reads = then-reads numeral-reads λ v. then-reads numeral-reads λ s. pure-reads _
+
+  transition-as : (tag : TransitionTag) (at : ℕ) → Answers (Reading.readTransitionAs version tag at)
+  unfolding Reading.readTransitionAs
+  transition-as tagNone at = pure-reads _
+  transition-as tagAccept at = pure-reads _
+  transition-as tagReject at = then-reads (between-reads 0 255) λ e. pure-reads _
+  transition-as tagLeadTo at = then-reads numeral-reads λ s. pure-reads _
+  transition-as tagSelect at = then-reads (expr-reads 32) λ e. then-reads (list-reads 0 16 pair-reads) λ ps.
+      pure-reads _
+
+  state-reads : Answers (Reading.readState version)
+  unfolding Reading.readState Reading.readTransition
+  state-reads = then-reads here-reads λ at. then-reads (stmt-reads 32) λ body. then-reads (then-reads here-reads λ at.
+      then-reads (stands-for _) λ tag. transition-as tag at) λ t. pure-reads _
+
+  states-read : Answers (Reading.readStates version)
+  unfolding Reading.readStates
+  states-read = go (Reading.hasParser version)
+    where
+      go : (b : Bool) → Answers {A = List ParserState} (elim b [
+        | true ↦ Reading.listOf 1 16 (Reading.readState version)
+        | false ↦ Reading.pure []
+      ])
+      go true = list-reads 1 16 state-reads
+      go false = pure-reads []
+
   after-version : Answers (Reading.readAfterVersion version)
   unfolding Reading.readAfterVersion
   after-version = then-reads (list-reads 0 8 header-reads) λ hs. then-reads (list-reads 0 32 global-reads) λ gs.
       then-reads (list-reads 0 16 callable-reads) λ cs.
-      then-reads (list-reads 0 8 table-reads) λ ts. then-reads (stmt-reads 32) λ body. pure-reads _
+      then-reads (list-reads 0 8 table-reads) λ ts. then-reads states-read λ ss. then-reads (stmt-reads 32) λ body.
+      pure-reads _
 
 pub program-reads : Reads (λ _. Unit {0}) Reading.readProgram
 unfolding Reading.readProgram
@@ -222,6 +254,11 @@ unfolding Form.judgeHeader
 header-judged at (aVariable t) = faulty (gives 7 refl)
 header-judged at (aHeader ws) = fine
 
+extracted-judged : (at : ℕ) (shape : Shape) → Judging-ok (Form.judgeExtracted at shape)
+unfolding Form.judgeExtracted
+extracted-judged at (aVariable t) = faulty (gives 7 refl)
+extracted-judged at (aHeader ws) = needs 7 at (gives 7 refl) _
+
 module _ (Γ : Scope) where
   global-judged : {A : Type 0} (at g : ℕ) {asked : Shape → Res A} → ((shape : Shape) → Judging-ok (asked shape))
       → Judging-ok (Form.judgeGlobal Γ at g asked)
@@ -262,6 +299,7 @@ unfolding Form.judgeReturned
 returned-judged at (inFunction u) t = types at u t
 returned-judged at inAction t = faulty (gives 8 refl)
 returned-judged at inApply t = faulty (gives 8 refl)
+returned-judged at inState t = faulty (gives 8 refl)
 
 module _ (Γ : Scope) where
   mutual
@@ -283,7 +321,7 @@ module _ (Γ : Scope) where
         then-judges (widths at t) λ v.
         then-judges (widths at u) λ w. then-judges (needs 7 at (gives 7 refl) _) λ _. fine
     expr-judged (callExpr at f xs) = then-judges (names (suc at) _) λ c. then-judges (args-judged xs) λ gs.
-        then-judges (given-judged at (c .parameters) gs) λ _.
+        then-judges (given-judged at (c .parameters) gs) λ _. then-judges (needs 8 at (gives 8 refl) _) λ _.
         function-judged at (c .returns)
 
     args-judged : (xs : Args) → Judging-ok (Form.judgeArgs Γ xs)
@@ -308,6 +346,9 @@ module _ (Γ : Scope) where
     stmt-judged (exit at) = needs 8 at (gives 8 refl) _
     stmt-judged (setValid at g) = header-at-judged Γ at g
     stmt-judged (setInvalid at g) = header-at-judged Γ at g
+    stmt-judged (extract at g) = then-judges (global-judged Γ at g (extracted-judged at)) λ _. needs 8 at (gives 8 refl) _
+    stmt-judged (verify at c e) = then-judges (expr-judged c) λ t. then-judges (types at bool t) λ _.
+        needs 8 at (gives 8 refl) _
 
     stmts-judged : (ss : Stmts) → Judging-ok (Form.judgeStmts Γ ss)
     stmts-judged noStmts = fine
@@ -371,10 +412,39 @@ module _ (P : Program) where
   tables-judged [] = fine
   tables-judged (T ∷ Ts) = then-judges (table-judged T) λ _. tables-judged Ts
 
+  later-judged : (n : ℕ) (s : Numeral) → Judging-ok (Form.judgeLater P n s)
+  unfolding Form.judgeLater
+  later-judged n s = then-judges (names (s .at) _) λ _. fine
+
+  pairs-judged : (n : ℕ) (ps : List Pair) → Judging-ok (Form.judgePairs P n ps)
+  unfolding Form.judgePairs
+  pairs-judged n [] = fine
+  pairs-judged n (p ∷ ps) = then-judges (later-judged n (p .state)) λ _. pairs-judged n ps
+
+  values-judged : (width : ℕ) (ps : List Pair) → Judging-ok (Form.valuesFit width ps)
+  unfolding Form.valuesFit
+  values-judged width [] = fine
+  values-judged width (p ∷ ps) = then-judges (needs 7 (p .value .at) (gives 7 refl) _) λ _. values-judged width ps
+
+  transition-judged : (n : ℕ) (t : Transition) → Judging-ok (Form.judgeTransition P n t)
+  unfolding Form.judgeTransition
+  transition-judged n noTransition = fine
+  transition-judged n accept = fine
+  transition-judged n (reject e) = fine
+  transition-judged n (leadTo s) = later-judged n s
+  transition-judged n (select at e ps) = then-judges (pairs-judged n ps) λ _.
+      then-judges (expr-judged (Form.stateScope P) e) λ t. then-judges (widths _ t) λ w. values-judged w ps
+
+  states-judged : (n : ℕ) (ss : List ParserState) → Judging-ok (Form.judgeStates P n ss)
+  unfolding Form.judgeStates Form.judgeState
+  states-judged n [] = fine
+  states-judged n (s ∷ ss) = then-judges (then-judges (stmt-judged (Form.stateScope P) (s .body)) λ _.
+      transition-judged n (s .transition)) λ _. states-judged (suc n) ss
+
   pub program-judged : Judging-ok (Form.judgeProgram P)
   unfolding Form.judgeProgram
   program-judged = then-judges (globals-judged (P .globals)) λ _. then-judges (callables-judged 0 (P .callables)) λ _.
-      then-judges (tables-judged (P .tables)) λ _.
+      then-judges (tables-judged (P .tables)) λ _. then-judges (states-judged 0 (P .states)) λ _.
       stmt-judged (Form.applyScope P) (P .body)
 
 -- places lie within the file

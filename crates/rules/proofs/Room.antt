@@ -16,7 +16,7 @@ use Rattle.rules.specs.Answers.{Bench, judged, accepted, workingSlots}
 use Rattle.rules.proofs.Predicates.{look-all, IfSome, ifNone, ifSome}
 use Rattle.rules.proofs.Limits.{slotsOfCall, mostSlots, CallableLimited, Limited, store-limited}
 use Rattle.rules.proofs.Accepted.{judged-ok}
-use Rattle.rules.proofs.Alike.{Alike, bothDone, bothStuck, RunAlike, alike-same, alike-not-full, nowhere-alike, branch-alike, stmt-alike, table-alike}
+use Rattle.rules.proofs.Alike.{Alike, bothDone, bothStuck, RunAlike, alike-same, alike-not-full, next-alike, nowhere-alike, branch-alike, and-then-alike, stmt-alike, table-alike, parser-alike}
 
 -- a body's end, and the whole run's
 left-alike : (ns : List ℕ) (cells : List Cell) (seen : Seen) (e : Option Ending)
@@ -76,34 +76,38 @@ module _ (capacity another : ℕ) (P : Program) (limited : Limited P) where
       (calls-alike n used other (omega arith) (omega arith) f ns)
 
 program-alike : (capacity another : ℕ) (P : Program) → Limited P → (entries : List Entry) (store : List Cell)
+    (packet : List ℕ)
     → length (slotsOf store) + length (P .callables) * slotsOfCall ≤ capacity
     → length (slotsOf store) + length (P .callables) * slotsOfCall ≤ another
-    → Alike (runProgram capacity P entries store) (runProgram another P entries store)
+    → Alike (runProgram capacity P entries store packet) (runProgram another P entries store packet)
 unfolding runProgram
-program-alike capacity another P limited entries store h k =
+program-alike capacity another P limited entries store packet h k =
     let used = length (slotsOf store) in
     let calls = calls-alike capacity another P limited (length (P .callables)) used used h k in
-    finish-alike (stmt-alike used used _ _ calls _ _ _ (table-alike used used _ _ calls P entries) (P .body) .alike _)
+    finish-alike (next-alike (parser-alike used used _ _ calls P (P .states) .alike _) λ ending. and-then-alike ending
+    (stmt-alike used used _ _ calls _ _ _ (table-alike used used _ _ calls P entries) (P .body)))
 
 -- a file that is accepted
 accepted-alike : (capacity another : ℕ) → mostSlots ≤ capacity → mostSlots ≤ another → (bytes : List ℕ) (bench : Bench)
-    → judged bytes ≡ accepted bench → Alike (runProgram capacity (bench .program) (bench .entries) (bench .store))
-    (runProgram another (bench .program) (bench .entries) (bench .store))
+    → judged bytes ≡ accepted bench
+    → Alike (runProgram capacity (bench .program) (bench .entries) (bench .store) (bench .packet))
+    (runProgram another (bench .program) (bench .entries) (bench .store) (bench .packet))
 accepted-alike capacity another h k bytes bench e =
     let known = judged-ok bytes bench e in
     let P = bench .program in
     let taken = length (slotsOf (bench .store)) + length (P .callables) * slotsOfCall in
     let store = store-limited P (known .limited) (bench .store) (known .store-fits) in
     let most : taken ≤ mostSlots = omega (arith, store, known .limited .callables) in
-    program-alike capacity another P (known .limited) (bench .entries) (bench .store) (omega arith) (omega arith)
+    program-alike capacity another P (known .limited) (bench .entries) (bench .store) (bench .packet) (omega arith)
+    (omega arith)
 
 pub accepted-same : (capacity another : ℕ) → mostSlots ≤ capacity → mostSlots ≤ another → (bytes : List ℕ)
     (bench : Bench) → judged bytes ≡ accepted bench
-    → runProgram capacity (bench .program) (bench .entries) (bench .store)
-    ≡ runProgram another (bench .program) (bench .entries) (bench .store)
+    → runProgram capacity (bench .program) (bench .entries) (bench .store) (bench .packet)
+    ≡ runProgram another (bench .program) (bench .entries) (bench .store) (bench .packet)
 accepted-same capacity another h k bytes bench e = alike-same (accepted-alike capacity another h k bytes bench e)
 
 pub accepted-not-full : (bytes : List ℕ) (bench : Bench) → judged bytes ≡ accepted bench
-    → runProgram workingSlots (bench .program) (bench .entries) (bench .store) ≡ full → ⊥
+    → runProgram workingSlots (bench .program) (bench .entries) (bench .store) (bench .packet) ≡ full → ⊥
 accepted-not-full bytes bench e =
     alike-not-full (accepted-alike workingSlots workingSlots (omega arith) (omega arith) bytes bench e)

@@ -3,8 +3,7 @@ use mathlib.Core.Path.{_≡_, ap}
 use Prim.Native.Nat.{ℕ}
 use native.Mathlib.Omega.{arith}
 use Rattle.rules.specs.declared.Refusal.{Refusal}
-use Rattle.rules.specs.declared.Signal.{Signal}
-use Rattle.rules.specs.declared.Signal.the-variants.{Done, Exit}
+use Rattle.rules.specs.declared.Signal.the-variants.{Done, Exit, Reject}
 use Rattle.rules.specs.declared.ReadAnswer.{ReadAnswer}
 use Rattle.rules.specs.declared.ReadAnswer.the-variants.{Count, Unread}
 use Rattle.rules.specs.declared.WriteAnswer.{WriteAnswer}
@@ -43,16 +42,21 @@ judge-same (Accepted c l) (Refused b) e = let z : _≡_ {A = ℕ} 0 1 = cc in ab
 judge-same (Refused a) (Accepted d m) e = let z : _≡_ {A = ℕ} 0 1 = cc in absurd (omega arith)
 judge-same (Refused a) (Refused b) e = ap Refused (refusal-same a b e)
 
-signal-same : (s t : Signal) → ofSignal s ≡ ofSignal t → s ≡ t
-unfolding ofSignal
-signal-same Done Done e = cc
-signal-same Done Exit e = absurd (omega arith)
-signal-same Exit Done e = absurd (omega arith)
-signal-same Exit Exit e = cc
-
 pub run-same : (a b : RunAnswer) → ofRun a ≡ ofRun b → a ≡ b
-unfolding ofRun ofRefusal
-run-same (Ended s n c l) (Ended t m d k) e = let q : ofSignal s ≡ ofSignal t = cc in cc (signal-same s t q)
-run-same (Ended s n c l) (Unrun b) e = let z : _≡_ {A = ℕ} 0 1 = cc in absurd (omega arith)
-run-same (Unrun a) (Ended t m d k) e = let z : _≡_ {A = ℕ} 0 1 = cc in absurd (omega arith)
+unfolding ofRun ofSignal ofRefusal
+run-same (Ended Done n c l) (Ended Done m d k) e = cc
+run-same (Ended Done n c l) (Ended Exit m d k) e = let z : _≡_ {A = ℕ} 1 2 = cc in absurd (omega arith)
+run-same (Ended Done n c l) (Ended (Reject y) m d k) e = let z : _≡_ {A = ℕ} 1 4 = cc in absurd (omega arith)
+run-same (Ended Exit n c l) (Ended Done m d k) e = let z : _≡_ {A = ℕ} 2 1 = cc in absurd (omega arith)
+run-same (Ended Exit n c l) (Ended Exit m d k) e = cc
+run-same (Ended Exit n c l) (Ended (Reject y) m d k) e = let z : _≡_ {A = ℕ} 2 4 = cc in absurd (omega arith)
+run-same (Ended (Reject x) n c l) (Ended Done m d k) e = let z : _≡_ {A = ℕ} 4 1 = cc in absurd (omega arith)
+run-same (Ended (Reject x) n c l) (Ended Exit m d k) e = let z : _≡_ {A = ℕ} 4 2 = cc in absurd (omega arith)
+run-same (Ended (Reject x) n c l) (Ended (Reject y) m d k) e = cc
+run-same (Ended Done n c l) (Unrun b) e = let z : _≡_ {A = ℕ} 1 0 = cc in absurd (omega arith)
+run-same (Ended Exit n c l) (Unrun b) e = let z : _≡_ {A = ℕ} 2 0 = cc in absurd (omega arith)
+run-same (Ended (Reject x) n c l) (Unrun b) e = let z : _≡_ {A = ℕ} 4 0 = cc in absurd (omega arith)
+run-same (Unrun a) (Ended Done m d k) e = let z : _≡_ {A = ℕ} 0 1 = cc in absurd (omega arith)
+run-same (Unrun a) (Ended Exit m d k) e = let z : _≡_ {A = ℕ} 0 2 = cc in absurd (omega arith)
+run-same (Unrun a) (Ended (Reject y) m d k) e = let z : _≡_ {A = ℕ} 0 4 = cc in absurd (omega arith)
 run-same (Unrun a) (Unrun b) e = ap Unrun (refusal-same a b e)

@@ -10,18 +10,18 @@ use lib.ListN.{getElem?, length}
 use Rattle.rules.specs.Words.{sliceFits, joinFits}
 use Rattle.rules.specs.Syntax.{Ty, bool, bits, Value, value, Direction, byNone, byIn, byOut, byInout, Operator, arithmetic, order, shift, equality, logic, Logic, both, either, Place}
 use Rattle.rules.specs.Syntax.{Expr, boolLiteral, bitsLiteral, readOf, validOf, negation, complement, binary, cast, slice, concatenation, callExpr, Args, noArgs, arg}
-use Rattle.rules.specs.Syntax.{Stmt, empty, assign, ifElse, block, callStmt, apply, returnValue, return, exit, setValid, setInvalid, Stmts, noStmts, stmt}
+use Rattle.rules.specs.Syntax.{Stmt, empty, assign, ifElse, block, callStmt, apply, returnValue, return, exit, setValid, setInvalid, extract, verify, Stmts, noStmts, stmt}
 use Rattle.rules.specs.Syntax.{Parameter, Callable, Program, placeIn}
-use Rattle.rules.specs.Form.{Res, ok, _>>=_, named, need, onlyIf, sameTy, fits, aHeader, callableBelow, wantsPlace, goesIn, comesBack, Body, inFunction, inAction, inApply, Scope, writable, writableIn}
-use Rattle.rules.specs.Form.{judgePlace, judgeHeaderAt, judgeOperator, Given, typesAgree, placesAgree, judgeGiven, functionTy, mayCall, judgeExpr, judgeArgs, judgeReturned, isApply, isFunction, judgeStmt, judgeStmts, returnsOn, someReturns, bodyOf, scopeOf, judgeCallable}
+use Rattle.rules.specs.Form.{Res, ok, _>>=_, named, need, onlyIf, sameTy, fits, aHeader, globalAt, callableBelow, wantsPlace, goesIn, comesBack, Body, inFunction, inAction, inApply, inState, Scope, writable, writableIn}
+use Rattle.rules.specs.Form.{judgePlace, judgeHeaderAt, judgeOperator, Given, typesAgree, placesAgree, judgeGiven, functionTy, mayCall, judgeExpr, judgeArgs, judgeReturned, isApply, isFunction, isState, mayLeave, wholeBytes, judgeGlobal, judgeExtracted, judgeStmt, judgeStmts, returnsOn, someReturns, bodyOf, scopeOf, judgeCallable}
 use Rattle.rules.specs.Ceiling.{ceilingExpr, ceilingArgs, ceilingStmt, ceilingStmts, noTable}
 use Rattle.rules.specs.Lists.{Cell}
-use Rattle.rules.specs.Running.{State, Ending, onward, returned, returnedValue, exited, Seen, Out, full, M, tick, orStuck, must, nowhere, declared, readAt, writeAt, changeHeader, validAt, validIn, changeStore, makeValid, makeInvalid}
-use Rattle.rules.specs.Running.{choose, logicWith, binaryWith, andThenRun, valueOf, afterCall, bodyEnded, Calls, enter, onStore, declaredAs, outPlace, takeIn, goIn, writeBack, inTurn, comeBack, afterBody, runCall, runExpr, runArgs, returnedFrom, notInFunction, runStmt, runStmts, left, leave, fresh, runBody}
+use Rattle.rules.specs.Running.{State, Ending, onward, returned, returnedValue, exited, rejected, Seen, Out, full, M, tick, orStuck, must, nowhere, declared, readAt, writeAt, changeHeader, validAt, validIn, changeStore, makeValid, makeInvalid, shortPacket, fieldsFrom, bitsOfBytes, fillHeader, bytesIn, takeHeader, extractInto, extractAt}
+use Rattle.rules.specs.Running.{choose, logicWith, binaryWith, andThenRun, valueOf, afterCall, bodyEnded, Calls, enter, onStore, declaredAs, outPlace, takeIn, goIn, writeBack, inTurn, comeBack, afterBody, runCall, runExpr, runArgs, returnedFrom, leaveBy, runStmt, runStmts, left, leave, fresh, runBody}
 use Rattle.rules.specs.Running as Running
 use Rattle.rules.proofs.Predicates.{and-both, All2, nil, cons, IfOk, isOk, isFault, IfSome, ifNone, ifSome, SomeOf, isSome, ok-then, ok-map, ok-self, ok-and, ok-found, ok-need, from-ok, some-then, from-some}
 use Rattle.rules.proofs.Predicates.{at-most, Good, good, isFull, Runs, runs-then, runs-tick, runs-pure, runs-some, runs-must, runs-gets, runs-puts, runs-map, runs-le, runs-holds}
-use Rattle.rules.proofs.Fits.{Fit, HasTy, has, FitParameter, CellFits, validFits, invalidFits, StoreFits, StateFits, sameTy-true, sameTy-refl, ok-type, ok-bits, zero-fits, number-of, truth-has, make-valid, make-invalid, store-look, store-change, with-store, held-at, put-at, declared-ok, header-at}
+use Rattle.rules.proofs.Fits.{Fit, HasTy, has, FitParameter, CellFits, validFits, invalidFits, StoreFits, StateFits, sameTy-true, sameTy-refl, ok-type, ok-bits, zero-fits, number-of, truth-has, make-valid, make-invalid, fill-header, store-look, store-change, with-store, with-packet, held-at, put-at, declared-ok, header-at, whole-at}
 use Rattle.rules.proofs.Fits.{arithmetic-ok, order-ok, shift-ok, equality-ok, not-ok, complement-ok, cast-ok, slice-ok, concatenation-ok, bool-ok}
 
 -- how a body may end: `must` says that it has to return a value
@@ -29,15 +29,17 @@ pub data EndOk : Body → Bool → Ending → Type 0 where
   okOnward : {b : Body} → EndOk b false onward
   okValue : {t : Ty} {must : Bool} {v : Value} → HasTy t v → EndOk (inFunction t) must (returnedValue v)
   okEnd : {b : Body} {must : Bool} → isFunction b ≡ false → EndOk b must onward
-  okReturn : {b : Body} {must : Bool} → isFunction b ≡ false → EndOk b must returned
-  okExit : {b : Body} {must : Bool} → isFunction b ≡ false → EndOk b must exited
+  okReturn : {b : Body} {must : Bool} → mayLeave b ≡ true → EndOk b must returned
+  okExit : {b : Body} {must : Bool} → mayLeave b ≡ true → EndOk b must exited
+  okReject : {b : Body} {must : Bool} {e : ℕ} → isState b ≡ true → EndOk b must (rejected e)
 
-end-weak : {b : Body} {m : Bool} {e : Ending} → EndOk b m e → EndOk b false e
+pub end-weak : {b : Body} {m : Bool} {e : Ending} → EndOk b m e → EndOk b false e
 end-weak okOnward = okOnward
 end-weak (okValue h) = okValue h
 end-weak (okEnd q) = okEnd q
 end-weak (okReturn q) = okReturn q
 end-weak (okExit q) = okExit q
+end-weak (okReject q) = okReject q
 
 end-left : {b : Body} {m : Bool} (k : Bool) {e : Ending} → EndOk b m e → EndOk b (m && k) e
 end-left k okOnward = okOnward
@@ -45,6 +47,7 @@ end-left k (okValue h) = okValue h
 end-left k (okEnd q) = okEnd q
 end-left k (okReturn q) = okReturn q
 end-left k (okExit q) = okExit q
+end-left k (okReject q) = okReject q
 
 end-right : {b : Body} (m : Bool) {k : Bool} {e : Ending} → EndOk b k e → EndOk b (m && k) e
 end-right true h = h
@@ -57,6 +60,7 @@ end-any k q (okValue h) = okValue h
 end-any k q (okEnd p) = okEnd p
 end-any k q (okReturn p) = okReturn p
 end-any k q (okExit p) = okExit p
+end-any k q (okReject p) = okReject p
 
 module _ {S : Type 0} {F : S → Type 0} where
   choose-ok : {A : Type 0} {R : A → Type 0} {c d : ℕ} {m n : M S A} {v : Value} → HasTy bool v → Runs _≤_ F R c m
@@ -91,7 +95,7 @@ module _ {S : Type 0} {F : S → Type 0} where
       isOk (runs-le (omega arith) (runs-then at-most h λ v hv. logic-ok o (rw (← e) at hv) (runs-then at-most k λ x hx.
       runs-some at-most (bool-ok (rw (← q) at hx)))))
 
-  and-then-ok : {b : Body} {m k : Bool} {c : ℕ} {n : M S Ending} {e : Ending} → EndOk b m e
+  pub and-then-ok : {b : Body} {m k : Bool} {c : ℕ} {n : M S Ending} {e : Ending} → EndOk b m e
       → Runs _≤_ F (EndOk b k) c n → Runs _≤_ F (EndOk b (m || k)) c (andThenRun e n)
   unfolding andThenRun
   and-then-ok okOnward h = h
@@ -99,16 +103,13 @@ module _ {S : Type 0} {F : S → Type 0} where
   and-then-ok (okEnd q) h = runs-map h λ e. end-any _ q
   and-then-ok (okReturn q) h = runs-le (omega arith) (runs-pure at-most _ (okReturn q))
   and-then-ok (okExit q) h = runs-le (omega arith) (runs-pure at-most _ (okExit q))
+  and-then-ok (okReject q) h = runs-le (omega arith) (runs-pure at-most _ (okReject q))
 
-  not-in-function : (at : ℕ) (b : Body) (e : Ending) → (isFunction b ≡ false → EndOk b false e) → IfOk (λ _.
-      Runs _≤_ F (EndOk b false) 0 (notInFunction b e)) (need 8 at (not (isFunction b)))
-  unfolding notInFunction
-  not-in-function at b e h = ok-map (ok-need 8 at (not (isFunction b))) λ _ q.
-      runs-then at-most (runs-must at-most _ q) λ _ _. runs-pure at-most e (h (not-true (isFunction b) q))
-    where
-      not-true : (t : Bool) → not t ≡ true → t ≡ false
-      not-true true p = absurd (false≢true p)
-      not-true false p = refl
+  leave-ok : (at : ℕ) (b : Body) (e : Ending) → (mayLeave b ≡ true → EndOk b false e) → IfOk (λ _.
+      Runs _≤_ F (EndOk b false) 0 (leaveBy b e)) (need 8 at (mayLeave b))
+  unfolding leaveBy
+  leave-ok at b e h = ok-map (ok-need 8 at (mayLeave b)) λ _ q.
+      runs-then at-most (runs-must at-most _ q) λ _ _. runs-pure at-most e (h q)
 
 literal-ok : {F : State → Type 0} (at : ℕ) (t : Ty) (n : ℕ) → IfOk (λ u.
     Runs _≤_ F (HasTy u) 1 (tick (orStuck (onlyIf (fits t n) (some (value t n)))))) (need 7 at (fits t n) >>= λ _.
@@ -129,26 +130,39 @@ abbrev pub CallsOk : Program → ℕ → Calls → (ℕ → ℕ) → Type 0
 CallsOk P reach calls callee = (f : ℕ) → IfSome (CallOk P calls f (callee f)) (callableBelow P reach f)
 
 value-ok : {t : Ty} {e : Ending} → EndOk (inFunction t) true e → SomeOf (HasTy t) (valueOf e)
-unfolding valueOf isFunction
+unfolding valueOf isFunction isState mayLeave
 value-ok (okValue h) = isSome h
 value-ok (okEnd q) = absurd (false≢true (sym q))
-value-ok (okReturn q) = absurd (false≢true (sym q))
-value-ok (okExit q) = absurd (false≢true (sym q))
+value-ok (okReturn q) = absurd (false≢true q)
+value-ok (okExit q) = absurd (false≢true q)
+value-ok (okReject q) = absurd (false≢true q)
 
-may-call : (b : Body) (r : Option Ty) → mayCall b r ≡ true → isFunction (bodyOf r) ≡ false → isFunction b ≡ false
-unfolding mayCall bodyOf isFunction
+may-call : (b : Body) (r : Option Ty) → mayCall b r ≡ true → mayLeave (bodyOf r) ≡ true → mayLeave b ≡ true
+unfolding mayCall bodyOf isFunction isState mayLeave
 may-call (inFunction t) none e q = absurd (false≢true e)
-may-call (inFunction t) (some u) e q = absurd (false≢true (sym q))
+may-call (inFunction t) (some u) e q = absurd (false≢true q)
 may-call inAction r e q = refl
 may-call inApply r e q = refl
+may-call inState r e q = absurd (false≢true e)
 
-pub after-call : (b : Body) {called : Body} {e : Ending} → EndOk called true e → (isFunction called ≡ false
-    → isFunction b ≡ false) → EndOk b false (afterCall e)
+-- a callable's body is no state
+never-state : (r : Option Ty) → isState (bodyOf r) ≡ true → ⊥
+unfolding bodyOf isState
+never-state none e = false≢true e
+never-state (some t) e = false≢true e
+
+pub after-call : (b : Body) (r : Option Ty) {e : Ending} → EndOk (bodyOf r) true e → (mayLeave (bodyOf r) ≡ true
+    → mayLeave b ≡ true) → EndOk b false (afterCall e)
 unfolding afterCall
-after-call b (okValue h) k = okOnward
-after-call b (okEnd q) k = okOnward
-after-call b (okReturn q) k = okOnward
-after-call b (okExit q) k = okExit (k q)
+after-call b r h k = go h k (never-state r)
+  where
+    go : {called : Body} {e : Ending} → EndOk called true e → (mayLeave called ≡ true → mayLeave b ≡ true)
+        → (isState called ≡ true → ⊥) → EndOk b false (afterCall e)
+    go (okValue h) k n = okOnward
+    go (okEnd q) k n = okOnward
+    go (okReturn q) k n = okOnward
+    go (okExit q) k n = okExit (k q)
+    go (okReject q) k n = absurd (n q)
 
 function-body : {r : Option Ty} {t : Ty} {e : Ending} → r ≡ some t → EndOk (bodyOf r) true e
     → EndOk (inFunction t) true e
@@ -167,6 +181,7 @@ returned-ok at (inFunction t) u = ok-map (ok-type at t u) λ _ e v hv. some-then
     isSome (okValue (has hn))
 returned-ok at inAction u = isFault
 returned-ok at inApply u = isFault
+returned-ok at inState u = isFault
 
 mark-in : {widths : List ℕ} {c : Cell} → CellFits (aHeader widths) c → SomeOf (λ _. Unit {0}) (validIn c)
 unfolding validIn
@@ -222,6 +237,33 @@ module _ (Γ : Scope) where
   header-changes at g f k = ok-map (header-at Γ at g) λ _ h. runs-then at-most (runs-some at-most h) λ widths e.
       runs-puts at-most λ s fine. some-then ((from-some (rw e at (store-change (fine .store-fits) g))) f
       (k widths)) λ cells hc. isSome (with-store Γ fine hc)
+
+  -- extract: a packet that is long enough fills the header, a short one rejects
+  take-ok : (g : ℕ) (widths : List ℕ) → globalAt (Γ .program) g ≡ some (aHeader widths) → (s : State) → Fine s
+      → SomeOf Fine (takeHeader g widths s)
+  unfolding takeHeader changeStore
+  take-ok g widths e s fine = some-then (some-then ((from-some (rw e at (store-change (fine .store-fits) g)))
+      (fillHeader (fieldsFrom widths (bitsOfBytes (s .packet)))) λ c hc. fill-header (s .packet) hc) λ cells hc.
+      isSome (with-store Γ fine hc)) λ t ht. isSome (with-packet Γ _ ht)
+
+  extract-into : (g : ℕ) (widths : List ℕ) → globalAt (Γ .program) g ≡ some (aHeader widths)
+      → isState (Γ .body) ≡ true → Runs _≤_ Fine (EndOk (Γ .body) false) 0 (extractInto g widths)
+  unfolding extractInto Running.next Running._>>=_
+  extract-into g widths e q = record { run = λ s f. go s f (leb (bytesIn widths) (length (s .packet))) }
+    where
+      go : (s : State) → Fine s → (b : Bool) → Good _≤_ Fine (EndOk (Γ .body) false) 0 (elim b [
+        | true ↦ Running.next (Running.puts (takeHeader g widths) s) (λ _. Running.pure onward)
+        | false ↦ Running.pure (rejected shortPacket) s
+      ])
+      go s f true = (runs-then at-most (runs-puts at-most (take-ok g widths e)) λ _ _.
+          runs-pure at-most onward okOnward) .run s f
+      go s f false = runs-pure at-most (rejected shortPacket) (okReject q) .run s f
+
+  extract-ok : (at g : ℕ) → IfOk (λ _. isState (Γ .body) ≡ true → Runs _≤_ Fine (EndOk (Γ .body) false) 0 (extractAt Γ g))
+      (judgeGlobal Γ at g (judgeExtracted at))
+  unfolding extractAt
+  extract-ok at g = ok-map (whole-at Γ at g) λ _ h q. runs-then at-most (runs-some at-most h) λ widths e.
+      extract-into g widths e q
 
   -- what the judge says of an expression that names a place is the place's declared type
   named-place : (e : Expr) (t : Ty) → judgeExpr Γ e ≡ ok t → (p : Place) → placeIn e ≡ some p → declared Γ p ≡ some t
@@ -340,6 +382,7 @@ after-body Γ (okValue v) h = runs-then at-most h λ _ _. runs-pure at-most _ (o
 after-body Γ (okEnd q) h = runs-then at-most h λ _ _. runs-pure at-most _ (okEnd q)
 after-body Γ (okReturn q) h = runs-then at-most h λ _ _. runs-pure at-most _ (okReturn q)
 after-body Γ (okExit q) h = runs-pure at-most _ (okExit q)
+after-body Γ (okReject q) h = runs-pure at-most _ (okReject q)
 
 -- a name that the judge and the run look up alike
 look-ok : {S A B C : Type 0} {F : S → Type 0} {P : A → Type 0} {R : B → C → Type 0} {c : ℕ} {k : A → Res B} {l : A
@@ -437,10 +480,11 @@ module _ (Γ : Scope) (used : ℕ) (calls : Calls) (callee : ℕ
         isOk (runs-le (omega arith) (runs-tick at-most (runs-then at-most h λ v hv. runs-then at-most k λ x hx.
         runs-some at-most (concatenation-ok l (rw e at hv) (rw q at hx)))))
     sound-expr (callExpr at f xs) = ok-map (look-ok (suc at) (calls-ok f) λ c hc. ok-then (sound-args xs) λ gs ha.
-        ok-then (given-ok at (c .parameters) gs) λ _ q. ok-map (function-ok at (c .returns)) λ t e.
-        runs-then at-most (runs-some at-most {R = λ _. Unit {0}} (rw e (isSome tt))) λ _ _.
+        ok-then (given-ok at (c .parameters) gs) λ _ q.
+        ok-then (ok-need 8 at (mayCall (Γ .body) (c .returns))) λ _ m. ok-map (function-ok at (c .returns)) λ t e.
+        runs-then at-most (runs-some at-most {R = λ _. Unit {0}} (rw e (isSome tt))) λ _ _. runs-holds _ m (
         call-runs f xs c (ha (c .parameters) (q .0) (q .1)) hc λ w hw.
-        runs-some at-most (value-ok (function-body e hw))) λ t h. runs-le (omega arith) (runs-tick at-most h)
+        runs-some at-most (value-ok (function-body e hw)))) λ t h. runs-le (omega arith) (runs-tick at-most h)
 
     pub sound-args : (xs : Args) → SafeArgs xs
     sound-args noArgs = isOk args-nil
@@ -488,18 +532,24 @@ module _ (Γ : Scope) (used : ℕ) (calls : Calls) (callee : ℕ
         ok-then (given-ok Γ used calls callee calls-ok at (c .parameters) gs) λ _ q.
         ok-map (ok-need 8 at (mayCall (Γ .body) (c .returns))) λ _ e. runs-then at-most (runs-must at-most _ e) λ _ _.
         call-runs Γ used calls callee calls-ok f xs c (ha (c .parameters) (q .0) (q .1)) hc λ w hw.
-        runs-pure at-most _ (after-call (Γ .body) hw (may-call (Γ .body) (c .returns) e))) λ _ h.
+        runs-pure at-most _ (after-call (Γ .body) (c .returns) hw (may-call (Γ .body) (c .returns) e))) λ _ h.
         runs-le (omega arith) (runs-tick at-most h)
     sound-stmt (apply at t) = ok-map (apply-ok at t) λ _ h. runs-tick at-most h
     sound-stmt (returnValue at e) = ok-then (sound-expr Γ used calls callee calls-ok e) λ u h.
         ok-map (returned-ok at (Γ .body) u) λ _ k.
         runs-le (omega arith) (runs-tick at-most (runs-then at-most h λ v hv. runs-some at-most (k v hv)))
-    sound-stmt (return at) = ok-map (not-in-function at (Γ .body) returned okReturn) λ _ h. runs-tick at-most h
-    sound-stmt (exit at) = ok-map (not-in-function at (Γ .body) exited okExit) λ _ h. runs-tick at-most h
+    sound-stmt (return at) = ok-map (leave-ok at (Γ .body) returned okReturn) λ _ h. runs-tick at-most h
+    sound-stmt (exit at) = ok-map (leave-ok at (Γ .body) exited okExit) λ _ h. runs-tick at-most h
     sound-stmt (setValid at g) = ok-map (header-changes Γ at g makeValid λ widths c h. make-valid h) λ _ h.
         runs-le (omega arith) (runs-tick at-most (runs-then at-most h λ _ _. runs-pure at-most _ okOnward))
     sound-stmt (setInvalid at g) = ok-map (header-changes Γ at g makeInvalid λ widths c h. make-invalid h) λ _ h.
         runs-le (omega arith) (runs-tick at-most (runs-then at-most h λ _ _. runs-pure at-most _ okOnward))
+    sound-stmt (extract at g) = ok-then (extract-ok Γ at g) λ _ h. ok-map (ok-need 8 at (isState (Γ .body))) λ _ q.
+        runs-tick at-most (runs-holds _ q (h q))
+    sound-stmt (verify at c e) = ok-then (sound-expr Γ used calls callee calls-ok c) λ t h.
+        ok-then (ok-type at bool t) λ _ w. ok-map (ok-need 8 at (isState (Γ .body))) λ _ q.
+        runs-le (omega arith) (runs-tick at-most (runs-holds _ q (runs-then at-most h λ v hv.
+        choose-ok (rw (← w) at hv) (runs-pure at-most _ okOnward) (runs-pure at-most _ (okReject q)))))
 
     pub sound-stmts : (ss : Stmts) → SafeStmts ss
     sound-stmts noStmts = isOk (runs-pure at-most _ okOnward)

@@ -9,7 +9,7 @@ use lib.Dec.{eqb}
 use lib.ListN.{getElem?, length}
 use borrow.Author.Tests.{eqb-true, lt-ltb}
 use Rattle.rules.specs.Syntax.{Ty, bool, bits, Value, Parameter, Callable, Numeral, Key, Table, Program}
-use Rattle.rules.specs.Form.{Res, ok, fault, _>>=_, andLook, onlyIf, fits, callableBelow, inApply, isFunction, applyScope, widthAt, judgeExpr, judgeActions, judgeKeys, keysAreBits, literalsFit, oneLpm, listable, judgeListed, judgeTable}
+use Rattle.rules.specs.Form.{Res, ok, fault, _>>=_, andLook, onlyIf, fits, callableBelow, inApply, isFunction, isState, mayLeave, applyScope, widthAt, judgeExpr, judgeActions, judgeKeys, keysAreBits, literalsFit, oneLpm, listable, judgeListed, judgeTable}
 use Rattle.rules.specs.Ceiling.{ceilingKeys, largestOf, ceilingTable}
 use Rattle.rules.specs.Lists.{Entry, widthOf, keyWidth, actionAt}
 use Rattle.rules.specs.Running.{State, Calls, argumentsFit, patternsFit, argumentsGiven, matchesAll, Found, found, nothing, beats, better, lookUp, longestWins, entriesOf, Worked, worked, isFine, entriesFit, runKeys, runAction, runFound, runTable, afterCall, must}
@@ -133,12 +133,12 @@ reached : (P : Program) (f : ℕ) (c : Callable) → getElem? (P .callables) f �
 unfolding callableBelow onlyIf
 reached P f c e = rw (lt-ltb f (length (P .callables)) (from-some (rw e at (below-length (P .callables) f)))) e
 
-fine-ok : {A : Type 0} (r : Res A) → IfOk (λ _. isFine r ≡ true) r
+pub fine-ok : {A : Type 0} (r : Res A) → IfOk (λ _. isFine r ≡ true) r
 unfolding isFine
 fine-ok (ok a) = isOk refl
 fine-ok (fault n at) = isFault
 
-worked-ok : {w : ℕ} {v : Value} → HasTy (bits w) v → SomeOf (λ k. k .width ≡ w) (worked v)
+pub worked-ok : {w : ℕ} {v : Value} → HasTy (bits w) v → SomeOf (λ k. k .width ≡ w) (worked v)
 unfolding worked
 worked-ok (has h) = isSome refl
 
@@ -209,10 +209,10 @@ module _ (P : Program) (used : ℕ) (calls : Calls) (callee : ℕ
       → Runs _≤_ Fine (EndOk inApply false) (callee f) (Running._>>=_ (must (listable c && argumentsFit
       (c .parameters) ns)) λ _. Running._>>=_ (Running.onStore (calls used f ns)) λ r.
       Running.pure (afterCall (r .0)))
-  unfolding applyScope isFunction
+  unfolding applyScope isFunction isState mayLeave
   action-runs f c e l ns a = runs-le (omega arith) (runs-then at-most (runs-must at-most _ (both-true _ _ l a)) λ _ _.
       runs-then at-most (on-store (applyScope P) ((from-some (rw (reached P f c e) at (calls-ok f))) used ns
-      (arguments-fit (c .parameters) ns a))) λ r hr. runs-pure at-most _ (after-call inApply (hr .0) λ _. refl))
+      (arguments-fit (c .parameters) ns a))) λ r hr. runs-pure at-most _ (after-call inApply (c .returns) (hr .0) λ _. refl))
 
   action-ok : (T : Table) {cs : List Callable} → All2 (Listed P) (T .actions) cs → (position : ℕ) (ns : List ℕ)
       → argumentsGiven (actionAt P T position) ns ≡ true

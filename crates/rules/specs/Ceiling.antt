@@ -100,7 +100,7 @@ unfoldable pub ceilingFrom : (ℕ → ℕ) → ℕ → List ParserState → ℕ 
 ceilingFrom callee n [] m = 0
 ceilingFrom callee n (s ∷ ss) m = elim (eqb m n) [
   | true ↦ 1 + (ceilingStmt callee noTable (s .body)
-    + ceilingTransition callee (ceilingFrom callee (suc n) ss) (s .transition))
+      + ceilingTransition callee (ceilingFrom callee (suc n) ss) (s .transition))
   | false ↦ ceilingFrom callee (suc n) ss m
 ]
 

@@ -23,7 +23,8 @@ seenIn stuck = []
 seenIn full = []
 
 unfoldable pub seenBy : Judged → List ℕ
-seenBy (accepted bench) = seenIn (runProgram workingSlots (bench .program) (bench .entries) (bench .store))
+seenBy (accepted bench) =
+    seenIn (runProgram workingSlots (bench .program) (bench .entries) (bench .store) (bench .packet))
 seenBy (refused number place) = []
 
 pub data Origin : Type 0 where

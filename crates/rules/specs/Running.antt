@@ -451,6 +451,7 @@ module _ (Γ : Scope) (used : ℕ) (calls : Calls) where
     runExpr (callExpr at f xs) = tick (do
       c ← orStuck (callableBelow (Γ .program) (Γ .reach) f)
       t ← orStuck (c .returns)
+      allowed ← must (mayCall (Γ .body) (c .returns))
       ns ← runArgs xs (c .parameters)
       ending ← runCall f xs (c .parameters) ns
       orStuck (valueOf ending))
@@ -660,11 +661,7 @@ module _ (P : Program) (used : ℕ) (calls : Calls) where
     asked ← must (isFine (oneLpm false (T .keys)) && entriesFit P T (map (λ k. k .width) ks) (entriesOf t entries))
     runFound T (lookUp (longestWins (T .keys)) ks nothing (entriesOf t entries))
 
--- the parser block: a state entered is a step; nothing covers a call or an apply in it
-abbrev pub noCalls : Calls
-noCalls used f ns = nowhere
-
--- the first equal value wins; `later` is what a later state does
+-- the parser block. Of a select's values the first equal one wins; `later` is what a later state does
 unfoldable pub selected : (ℕ → M State Ending) → ℕ → List Pair → M State Ending
 selected later n [] = pure (rejected noMatch)
 selected later n (p ∷ ps) = elim (eqb n (p .value .number)) [
@@ -672,21 +669,22 @@ selected later n (p ∷ ps) = elim (eqb n (p .value .number)) [
   | false ↦ selected later n ps
 ]
 
-module _ (P : Program) (used : ℕ) where
+module _ (P : Program) (used : ℕ) (calls : Calls) where
   unfoldable pub runTransition : (ℕ → M State Ending) → Transition → M State Ending
   runTransition later noTransition = pure (rejected noWayOn)
   runTransition later accept = pure onward
   runTransition later (reject e) = pure (rejected e)
   runTransition later (leadTo s) = later (s .number)
   runTransition later (select at e ps) = do
-    v ← runExpr (stateScope P) used noCalls e
+    v ← runExpr (stateScope P) used calls e
     k ← orStuck (worked v)
     asked ← must (isFine (valuesFit (k .width) ps))
     selected later (k .number) ps
 
+  -- a state entered is a step
   unfoldable pub runState : (ℕ → M State Ending) → ParserState → M State Ending
   runState later s = tick (do
-    ending ← runStmt (stateScope P) used noCalls (λ t. nowhere) (s .body)
+    ending ← runStmt (stateScope P) used calls (λ t. nowhere) (s .body)
     andThenRun ending (runTransition later (s .transition)))
 
   -- state m, of a list whose first has number n; it leads to the states behind it
@@ -719,13 +717,9 @@ finish full = full
 unfoldable pub started : List Cell → List ℕ → State
 started cells packet = record { store = cells; parameters = []; locals = []; packet = packet }
 
-unfoldable pub runApply : ℕ → Program → List Entry → ℕ → M State Ending
-runApply capacity P entries used =
-    let calls = callsBelow capacity P (length (P .callables)) in
-    runStmt (applyScope P) used calls (runTable P used calls entries) (P .body)
-
 unfoldable pub runProgram : ℕ → Program → List Entry → List Cell → List ℕ → Out (List Cell) Signal
 runProgram capacity P entries store packet =
     let used = length (slotsOf store) in
-    finish (next (runParser P used (P .states) (started store packet)) (λ ending.
-    andThenRun ending (runApply capacity P entries used)))
+    let calls = callsBelow capacity P (length (P .callables)) in
+    finish (next (runParser P used calls (P .states) (started store packet)) (λ ending.
+    andThenRun ending (runStmt (applyScope P) used calls (runTable P used calls entries) (P .body))))
