@@ -2,12 +2,12 @@
 -- a program is laid, every slot of a construct in it holds that construct's end.
 use mathlib.Core.Path.{_≡_, refl, _∙_}
 use mathlib.Core.List.{List}
-use Prim.Native.Nat.{ℕ, _≤_, _<_}
+use Prim.Native.Nat.{ℕ, _-_, _≤_, _<_}
 use native.Mathlib.Omega.{arith}
 use lib.ListN.{length, getD, set, length-set}
 use lib.Seq.{getD-set-same, getD-set-other}
 use Rattle.rules.specs.Syntax.{Expr, boolLiteral, bitsLiteral, readOf, validOf, negation, complement, binary, cast, slice, concatenation, callExpr, Args, noArgs, arg}
-use Rattle.rules.specs.Syntax.{Stmt, empty, assign, ifElse, block, callStmt, apply, returnValue, return, exit, setValid, setInvalid, Stmts, noStmts, stmt}
+use Rattle.rules.specs.Syntax.{Stmt, empty, assign, ifElse, block, callStmt, apply, returnValue, return, exit, setValid, setInvalid, extract, verify, Stmts, noStmts, stmt}
 use Rattle.shape.specs.Directory.{stmtAt}
 use Rattle.shape.specs.Ends.{exprAt, argsAt, stmtsAt, layExpr, layArgs, layStmt, layStmts}
 use Rattle.shape.specs.Ends.{EndedExpr, EndedArgs, EndedStmt, EndedStmts}
@@ -97,6 +97,16 @@ layer-wide {from} {end} {lay} at h a = record {
   ended = λ slots last l e. a .ended slots last l (λ k m n. e k (omega arith) n);
 }
 
+pub layer-long : {from mid : ℕ} {lay : List ℕ → List ℕ} {E : List ℕ → Type 0} (end : ℕ) → mid ≤ end
+    → Layer from mid lay E
+    → Layer from end lay E
+layer-long {from} {mid} {lay} end h a = record {
+  order = omega (arith, a .order);
+  long = a .long;
+  others = λ slots k o. a .others slots k (narrow-first k from mid end (a .order) h o);
+  ended = λ slots last l e. a .ended slots last (omega arith) (λ k m n. e k m (omega arith));
+}
+
 -- constructs stand in order: each begins behind the tag of the one around it, and where the one before it ends
 unfoldable mutual
   pub OrderedExpr : Expr → ℕ → Type 0
@@ -131,6 +141,8 @@ unfoldable mutual
   OrderedStmt (exit at) end = at < end
   OrderedStmt (setValid at g) end = at < end
   OrderedStmt (setInvalid at g) end = at < end
+  OrderedStmt (extract at g) end = at < end
+  OrderedStmt (verify at c e) end = (at < exprAt c) × OrderedExpr c (end - 1)
 
   pub OrderedStmts : Stmts → ℕ → Type 0
   OrderedStmts noStmts end = Unit
@@ -177,6 +189,9 @@ mutual
   layer-stmt (exit at) end h = layer-slot at end h
   layer-stmt (setValid at g) end h = layer-slot at end h
   layer-stmt (setInvalid at g) end h = layer-slot at end h
+  layer-stmt (extract at g) end h = layer-slot at end h
+  layer-stmt (verify at c e) end h =
+      layer-own at (h .0) (layer-long end (omega arith) (layer-expr c (end - 1) (h .1)))
 
   pub layer-stmts : (ss : Stmts) (end : ℕ) → OrderedStmts ss end
       → Layer (stmtsAt ss end) end (layStmts ss end) (EndedStmts ss end)
@@ -211,3 +226,5 @@ own-stmt (return at) end slots h = h
 own-stmt (exit at) end slots h = h
 own-stmt (setValid at g) end slots h = h
 own-stmt (setInvalid at g) end slots h = h
+own-stmt (extract at g) end slots h = h
+own-stmt (verify at c e) end slots h = h .0

@@ -1,5 +1,6 @@
 -- What each slot of the directory holds, for whoever reads it: the counts and the beginnings that the tree carries.
-use mathlib.Core.Path.{_≡_, refl, _∙_}
+use mathlib.Core.Bool.{Bool, true, false}
+use mathlib.Core.Path.{_≡_, refl, sym, _∙_}
 use mathlib.Core.List.{List, [], _∷_, map}
 use Prim.Native.Nat.{ℕ, zero, suc, _+_, _≤_, _<_}
 use native.Mathlib.Omega.{arith}
@@ -7,14 +8,19 @@ use native.Mathlib.Nat.{add-zero, add-suc, suc-add}
 use lib.ListN.{length, getD, set, length-set, length-map}
 use lib.Seq.{sets, length-sets, getD-set-same, getD-set-other}
 use Rattle.rules.specs.Syntax.{Program}
-use Rattle.rules.specs.Reading.{got, readProgram, readAfterVersion, mostHeaders, mostGlobals, mostCallables, mostTables}
+use Rattle.rules.specs.Reading.{got, readProgram, readAfterVersion, mostHeaders, mostGlobals, mostCallables, mostTables, mostStates, hasParser, readState, readStates}
 use Rattle.rules.proofs.Readers.{Given, Gives, gives-then, gives-with, gives-pure, gives-list}
-use Rattle.shape.specs.Directory.{stmtAt, listed, declared, defined, directoryOf, headersSlot, globalsSlot, callablesSlot, tablesSlot, bodySlot, endSlot, slotCount}
+use Rattle.shape.specs.Directory.{stmtAt, listed, declared, defined, stated, directoryOf, headersSlot, globalsSlot, callablesSlot, tablesSlot, bodySlot, endSlot, statesSlot, slotCount}
+use Rattle.shape.proofs.Transitions.{states-read}
 
--- stores one after the other leave what is below them, and put each value in its slot
+-- stores one after the other leave what is below and above them, and put each value in its slot
 sets-below : (vs l : List ℕ) (i j : ℕ) → j < i → getD (sets l i vs) j 0 ≡ getD l j 0
 sets-below [] l i j h = refl
 sets-below (v ∷ vs) l i j h = sets-below vs (set l i v) (suc i) j (omega arith) ∙ getD-set-other l i j v 0 (omega arith)
+
+sets-above : (vs l : List ℕ) (i j : ℕ) → i + length vs ≤ j → getD (sets l i vs) j 0 ≡ getD l j 0
+sets-above [] l i j h = refl
+sets-above (v ∷ vs) l i j h = sets-above vs (set l i v) (suc i) j (omega arith) ∙ getD-set-other l i j v 0 (omega arith)
 
 sets-in : (vs l : List ℕ) (i k : ℕ) → k < length vs → i + length vs ≤ length l
     → getD (sets l i vs) (i + k) 0 ≡ getD vs k 0
@@ -50,13 +56,21 @@ record Bounded (p : Program) : Type 0 where
   pub globals : length (p .globals) ≤ mostGlobals
   pub callables : length (p .callables) ≤ mostCallables
   pub tables : length (p .tables) ≤ mostTables
+  pub states : length (p .states) ≤ mostStates
+
+gives-states : (version : ℕ) → Gives (λ ss. length ss ≤ mostStates) (readStates version)
+gives-states version = go (hasParser version) refl
+  where
+    go : (b : Bool) → hasParser version ≡ b → Gives (λ ss. length ss ≤ mostStates) (readStates version)
+    go true e = rw (states-read version true (sym e)) (gives-list 1 mostStates (readState version))
+    go false e = rw (states-read version false (sym e)) (gives-pure _ [] (omega arith))
 
 gives-bounded : Gives Bounded readProgram
 unfolding readProgram readAfterVersion
 gives-bounded = gives-then _ λ version. gives-with (gives-list 0 mostHeaders _) λ hs h.
     gives-with (gives-list 0 mostGlobals _) λ gs g. gives-with (gives-list 0 mostCallables _) λ cs c.
-    gives-with (gives-list 0 mostTables _) λ ts t. gives-then _ λ body.
-    gives-pure _ _ (record { headers = h; globals = g; callables = c; tables = t })
+    gives-with (gives-list 0 mostTables _) λ ts t. gives-with (gives-states version) λ ss s. gives-then _ λ body.
+    gives-pure _ _ (record { headers = h; globals = g; callables = c; tables = t; states = s })
 
 -- the directory of a program
 pub record Entries (p : Program) (end : ℕ) (slots : List ℕ) : Type 0 where
@@ -72,10 +86,13 @@ pub record Entries (p : Program) (end : ℕ) (slots : List ℕ) : Type 0 where
   pub tables : getD slots tablesSlot 0 ≡ length (p .tables)
   pub table : (i : ℕ) → i < length (p .tables)
       → getD slots (tablesSlot + 1 + i) 0 ≡ getD (map (λ t. t .at) (p .tables)) i 0
+  pub states : getD slots statesSlot 0 ≡ length (p .states)
+  pub state : (i : ℕ) → i < length (p .states)
+      → getD slots (statesSlot + 1 + i) 0 ≡ getD (map (λ s. s .at) (p .states)) i 0
   pub body : getD slots bodySlot 0 ≡ stmtAt (p .body)
   pub ending : getD slots endSlot 0 ≡ end
 
--- list by list: each is left alone by those laid after it, in higher slots
+-- list by list: each is left alone by those laid after it, in higher slots, and the states by the body below them
 module _ (p : Program) (end : ℕ) (slots : List ℕ) (room : length slots ≡ slotCount) (few : Bounded p) where
   abbrev hs : List ℕ
   hs = map (λ h. h .at) (p .headers)
@@ -89,6 +106,9 @@ module _ (p : Program) (end : ℕ) (slots : List ℕ) (room : length slots ≡ s
   abbrev ts : List ℕ
   ts = map (λ t. t .at) (p .tables)
 
+  abbrev ss : List ℕ
+  ss = map (λ s. s .at) (p .states)
+
   h : length hs ≤ mostHeaders
   h = rw (length-map (p .headers) (λ h. h .at)) (few .headers)
 
@@ -100,6 +120,9 @@ module _ (p : Program) (end : ℕ) (slots : List ℕ) (room : length slots ≡ s
 
   t : length ts ≤ mostTables
   t = rw (length-map (p .tables) (λ t. t .at)) (few .tables)
+
+  s : length ss ≤ mostStates
+  s = rw (length-map (p .states) (λ s. s .at)) (few .states)
 
   abbrev s₁ : List ℕ
   s₁ = listed slots headersSlot hs
@@ -113,8 +136,11 @@ module _ (p : Program) (end : ℕ) (slots : List ℕ) (room : length slots ≡ s
   abbrev s₄ : List ℕ
   s₄ = listed s₃ tablesSlot ts
 
+  abbrev s₅ : List ℕ
+  s₅ = listed s₄ statesSlot ss
+
   abbrev all : List ℕ
-  all = sets s₄ bodySlot (stmtAt (p .body) ∷ end ∷ [])
+  all = sets s₅ bodySlot (stmtAt (p .body) ∷ end ∷ [])
 
   room₁ : length s₁ ≡ slotCount
   room₁ = listed-length slots headersSlot hs ∙ room
@@ -128,8 +154,15 @@ module _ (p : Program) (end : ℕ) (slots : List ℕ) (room : length slots ≡ s
   room₄ : length s₄ ≡ slotCount
   room₄ = listed-length s₃ tablesSlot ts ∙ room₃
 
+  room₅ : length s₅ ≡ slotCount
+  room₅ = listed-length s₄ statesSlot ss ∙ room₄
+
+  kept₅ : (j : ℕ) → statesSlot ≤ j → getD all j 0 ≡ getD s₅ j 0
+  kept₅ j l = sets-above (stmtAt (p .body) ∷ end ∷ []) s₅ bodySlot j (omega arith)
+
   kept₄ : (j : ℕ) → j < bodySlot → getD all j 0 ≡ getD s₄ j 0
-  kept₄ j l = sets-below (stmtAt (p .body) ∷ end ∷ []) s₄ bodySlot j l
+  kept₄ j l =
+      sets-below (stmtAt (p .body) ∷ end ∷ []) s₅ bodySlot j l ∙ listed-below s₄ statesSlot ss j (omega arith)
 
   kept₃ : (j : ℕ) → j < tablesSlot → getD all j 0 ≡ getD s₃ j 0
   kept₃ j l = kept₄ j (omega arith) ∙ listed-below s₃ tablesSlot ts j l
@@ -172,11 +205,19 @@ module _ (p : Program) (end : ℕ) (slots : List ℕ) (room : length slots ≡ s
       kept₄ (tablesSlot + 1 + i) (omega (arith, t))
       ∙ rw e (listed-member s₃ tablesSlot ts i (rw room₃ (omega (arith, t))) l)
 
+  states-count : getD all statesSlot 0 ≡ length ss
+  states-count = kept₅ statesSlot (omega arith) ∙ listed-count s₄ statesSlot ss (rw room₄ (omega (arith, s)))
+
+  state-at : (i : ℕ) → i < length ss → getD all (statesSlot + 1 + i) 0 ≡ getD ss i 0
+  state-at i l = let e : statesSlot + 1 + i ≡ statesSlot + suc i = omega arith in
+      kept₅ (statesSlot + 1 + i) (omega arith)
+      ∙ rw e (listed-member s₄ statesSlot ss i (rw room₄ (omega (arith, s))) l)
+
   body-is : getD all bodySlot 0 ≡ stmtAt (p .body)
-  body-is = sets-in (stmtAt (p .body) ∷ end ∷ []) s₄ bodySlot 0 (omega arith) (rw room₄ (omega arith))
+  body-is = sets-in (stmtAt (p .body) ∷ end ∷ []) s₅ bodySlot 0 (omega arith) (rw room₅ (omega arith))
 
   end-is : getD all endSlot 0 ≡ end
-  end-is = sets-in (stmtAt (p .body) ∷ end ∷ []) s₄ bodySlot 1 (omega arith) (rw room₄ (omega arith))
+  end-is = sets-in (stmtAt (p .body) ∷ end ∷ []) s₅ bodySlot 1 (omega arith) (rw room₅ (omega arith))
 
   laid-entries : Entries p end all
   laid-entries = record {
@@ -188,6 +229,8 @@ module _ (p : Program) (end : ℕ) (slots : List ℕ) (room : length slots ≡ s
     callable = λ i l. callable-at i (rw (length-map (p .callables) (λ c. c .at)) l);
     tables = tables-count ∙ length-map (p .tables) (λ t. t .at);
     table = λ i l. table-at i (rw (length-map (p .tables) (λ t. t .at)) l);
+    states = states-count ∙ length-map (p .states) (λ s. s .at);
+    state = λ i l. state-at i (rw (length-map (p .states) (λ s. s .at)) l);
     body = body-is;
     ending = end-is;
   }
@@ -196,19 +239,31 @@ module _ (p : Program) (end : ℕ) (slots : List ℕ) (room : length slots ≡ s
 pub entries : (nums left slots : List ℕ) (p : Program) (end : ℕ) → readProgram nums 0 ≡ got p left end
     → length slots ≡ slotCount
     → Entries p end (directoryOf p end slots)
-unfolding Given directoryOf declared defined
+unfolding Given directoryOf declared defined stated
 entries nums left slots p end e room = laid-entries p end slots room (rw e at (gives-bounded .given nums 0))
 
 -- which has as many slots as it had
-pub directory-long : (p : Program) (end : ℕ) (slots : List ℕ) → length (directoryOf p end slots) ≡ length slots
-unfolding directoryOf declared defined
-directory-long p end slots =
-    let h : List ℕ = listed slots headersSlot (map (λ h. h .at) (p .headers)) in
-    let g : List ℕ = listed h globalsSlot (map (λ g. g .at) (p .globals)) in
-    let c : List ℕ = listed g callablesSlot (map (λ c. c .at) (p .callables)) in
-    let t : List ℕ = listed c tablesSlot (map (λ t. t .at) (p .tables)) in
-    length-sets t bodySlot (stmtAt (p .body) ∷ end ∷ [])
-    ∙ listed-length c tablesSlot (map (λ t. t .at) (p .tables))
-    ∙ listed-length g callablesSlot (map (λ c. c .at) (p .callables))
-    ∙ listed-length h globalsSlot (map (λ g. g .at) (p .globals))
+declared-long : (p : Program) (slots : List ℕ) → length (declared (p .headers) (p .globals) slots) ≡ length slots
+unfolding declared
+declared-long p slots =
+    listed-length (listed slots headersSlot (map (λ h. h .at) (p .headers))) globalsSlot (map (λ g. g .at) (p .globals))
     ∙ listed-length slots headersSlot (map (λ h. h .at) (p .headers))
+
+defined-long : (p : Program) (slots : List ℕ) → length (defined (p .callables) (p .tables) slots) ≡ length slots
+unfolding defined
+defined-long p slots =
+    listed-length (listed slots callablesSlot (map (λ c. c .at) (p .callables))) tablesSlot
+    (map (λ t. t .at) (p .tables))
+    ∙ listed-length slots callablesSlot (map (λ c. c .at) (p .callables))
+
+stated-long : (p : Program) (slots : List ℕ) → length (stated (p .states) slots) ≡ length slots
+unfolding stated
+stated-long p slots = listed-length slots statesSlot (map (λ s. s .at) (p .states))
+
+pub directory-long : (p : Program) (end : ℕ) (slots : List ℕ) → length (directoryOf p end slots) ≡ length slots
+unfolding directoryOf
+directory-long p end slots =
+    length-sets (stated (p .states) (defined (p .callables) (p .tables) (declared (p .headers) (p .globals) slots)))
+    bodySlot (stmtAt (p .body) ∷ end ∷ [])
+    ∙ stated-long p (defined (p .callables) (p .tables) (declared (p .headers) (p .globals) slots))
+    ∙ defined-long p (declared (p .headers) (p .globals) slots) ∙ declared-long p slots

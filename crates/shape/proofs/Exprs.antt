@@ -16,7 +16,7 @@ use Rattle.rules.proofs.Readers.{Keeps, keeps-number, keeps-stands, keeps-betwe
 use Rattle.shape.specs.Scans.{forget, scanOf}
 use Rattle.shape.specs.Ends.{mostNumbers, exprAt, argsAt, layExpr, layArgs, firstAt, layAll}
 use Rattle.shape.specs.Walks.{Laid, Lays}
-use Rattle.shape.specs.Leads.{onScan, valueOf, onValue, leadBy, onLead, argumentsLead, callLead, formOf, exprForm, exprLead, LeadsExpr, Agree, AgreeOn, Made, layExprs, readOperands, Tagged}
+use Rattle.shape.specs.Leads.{onScan, valueOf, onValue, leadBy, onLead, argumentsLead, callLead, formOf, exprForm, exprLead, LeadsExpr, Agree, AgreeOn, nextOf, Made, layExprs, readOperands, Tagged}
 use Rattle.shape.specs.declared.Scan.{Scan}
 use Rattle.shape.specs.declared.Scan.the-variants.{Past, Fault}
 use Rattle.shape.specs.declared.looks.Value.{Value}
@@ -27,7 +27,7 @@ use Rattle.shape.specs.declared.expressions.ExprForm.{ExprForm}
 use Rattle.shape.proofs.Laws.{Scans, scans-self, scans-then, scans-pure, scans-last, scans-as, scan-here, stands-is, stands-none, stands-out}
 use Rattle.shape.proofs.Laws.{scans-none, scans-one, scans-two, list-scan}
 use Rattle.shape.proofs.Agrees.{alike-one, alike-two, alike-all, agree-lead, agree-two, agree-none, agree-call, behind-tag, tag-in}
-use Rattle.shape.proofs.Lays.{Done, lays-done, lays-none, lays-deep, pendings}
+use Rattle.shape.proofs.Lays.{Done, lays-done, lays-none, lays-deep, BegunAt, Begins, begins-repeat, pendings}
 use Rattle.shape.proofs.Tags.{scans-literal, unlisted}
 
 -- a lead, and what follows by its counts
@@ -43,7 +43,7 @@ pub lead-scan : {A B : Type 0} {read : Reader A} {k : A → Reader B} {nums : Li
 lead-scan {s = s} K n m h f g = record { scan = λ at. scans-then h f g .scan at ∙ lead-after K n m (s at) }
 
 -- two readers in the lead
-lead-two : {A B C : Type 0} {first : Reader A} {second : A → Reader B} {k : A → B → Reader C} {nums : List ℕ}
+pub lead-two : {A B C : Type 0} {first : Reader A} {second : A → Reader B} {k : A → B → Reader C} {nums : List ℕ}
     {s t : ℕ → Scan}
     (K : ℕ → ℕ → ℕ → Scan) (n m : ℕ) → Keeps first → ((a : A) → Keeps (second a)) → Scans first nums s
     → ((a : A) → Scans (second a) nums t)
@@ -273,20 +273,21 @@ module _ (version depth : ℕ) (nums : List ℕ) (at : ℕ) (P : Expr → List E
         go none = tt
         go (some tag) = rw (← add-one at) (tree-as tag)
 
-made-nodes : (version at : ℕ) (slots : List ℕ) → ExprNodes version at (Made layExpr layExprs at slots slots)
+made-nodes : (version at next : ℕ) (slots : List ℕ)
+    → ExprNodes version at (Made (firstAt exprAt) layExpr layExprs at next slots slots)
 unfolding layExpr layAll firstAt
-made-nodes version at slots = record {
-  bool-node = λ n. record { made = λ end. refl };
-  bits-node = λ w n. record { made = λ end. refl };
-  read-node = λ p. record { made = λ end. refl };
-  valid-node = λ g. record { made = λ end. refl };
-  not-node = λ a. record { made = λ end. refl };
-  complement-node = λ a. record { made = λ end. refl };
-  binary-node = λ o a b. record { made = λ end. refl };
-  cast-node = λ w a. record { made = λ end. refl };
-  slice-node = λ h l a. record { made = λ end. refl };
-  concatenation-node = λ a b. record { made = λ end. refl };
-  call-node = λ f xs. record { made = λ end. rw (args-laid version xs end slots) };
+made-nodes version at next slots = record {
+  bool-node = λ n. record { made = λ end q. refl };
+  bits-node = λ w n. record { made = λ end q. refl };
+  read-node = λ p. record { made = λ end q. refl };
+  valid-node = λ g. record { made = λ end q. refl };
+  not-node = λ a. record { made = λ end q. refl };
+  complement-node = λ a. record { made = λ end q. refl };
+  binary-node = λ o a b. record { made = λ end q. refl };
+  cast-node = λ w a. record { made = λ end q. refl };
+  slice-node = λ h l a. record { made = λ end q. refl };
+  concatenation-node = λ a b. record { made = λ end q. refl };
+  call-node = λ f xs. record { made = λ end q. rw (args-laid version xs end slots) };
 }
 
 pub leads-is : (version : ℕ) (nums : List ℕ) (at : ℕ) (f : ExprForm) (r : Lead) → at < length nums
@@ -296,7 +297,7 @@ unfolding operands-of
 leads-is version nums at f r h e q =
     record {
       expr = λ depth. rw (q, e) (expr-scan version depth nums at h);
-      tree = λ depth slots. rw (q, e) (expr-agrees version depth nums at _ (made-nodes version at slots) h);
+      tree = λ depth slots. rw (q, e) (expr-agrees version depth nums at _ (made-nodes version at _ slots) h);
       tag = rw q (tag-in nums at (exprLead version f nums at) h);
     }
 
@@ -336,23 +337,25 @@ starts-expr version (suc depth) = starts-here λ at. gives-then _ λ tag. gives-
 
 -- what stands in a construct is laid, and then its own slot
 pub construct : {A B : Type 0} {lay : A → ℕ → List ℕ → List ℕ} {layParts : B → ℕ → List ℕ → List ℕ} {read : Reader A}
-    {parts : Reader B} {nums : List ℕ} {at next end : ℕ} {found first mid : List ℕ} {a : Scan}
-    → Keeps parts
-    → Agree (Made lay layParts at found first) (read (drop at nums) at) (parts (drop next nums) next)
+    {parts : Reader B} {start : B → ℕ → ℕ} {nums : List ℕ} {at next end : ℕ} {found first mid : List ℕ} {a : Scan}
+    → Keeps parts → Begins start parts
+    → Agree (Made start lay layParts at next found first) (read (drop at nums) at) (parts (drop next nums) next)
     → Past end ≡ scanOf read nums at → Lays parts layParts nums next first mid a → a ≡ Past end
     → Lays read lay nums at found (set mid at end) (Past end)
-unfolding scanOf forget Laid Agree
-construct {A} {B} {lay} {layParts} {read} {parts} {nums} {at} {next} {end} {found} {first} {mid} {a} h t e w p =
+unfolding scanOf forget Laid Agree BegunAt
+construct {A} {B} {lay} {layParts} {read} {parts} {start} {nums} {at} {next} {end} {found} {first} {mid} {a} h s t e w
+    p =
     let d : (b : B) × Done parts layParts nums next first mid end b = lays-done h w end p in
-    record { scan = e; laid = go (d .0) (read (drop at nums) at) e (rw (d .1 .gave) at t) (d .1 .laid) }
+    let b : start (d .0) end ≡ next = rw (d .1 .gave) at (s .begun (drop next nums) next) in
+    record { scan = e; laid = go (d .0) (read (drop at nums) at) e b (rw (d .1 .gave) at t) (d .1 .laid) }
   where
-    go : (b : B) (x : Got A) → Past end ≡ forget x
-        → Agree (Made lay layParts at found first) x (got b (drop end nums) end)
+    go : (b : B) (x : Got A) → Past end ≡ forget x → start b end ≡ next
+        → Agree (Made start lay layParts at next found first) x (got b (drop end nums) end)
         → mid ≡ layParts b end first → Laid x lay found (set mid at end)
-    go b (got c left m) q u l =
+    go b (got c left m) q n u l =
         let same : m ≡ end = cc in
-        rw (same, l) (sym (u .made end))
-    go b (bad fault index) q u l = tt
+        rw (same, l) (sym (u .made end n))
+    go b (bad fault index) q n u l = tt
 
 module _ (version depth : ℕ) (nums : List ℕ) (at : ℕ) (found : List ℕ) where
   pub expr-deep : (r : Scan) → depth ≡ 0 → r ≡ scanOf (tooDeep {A = ℕ}) nums at
@@ -362,9 +365,9 @@ module _ (version depth : ℕ) (nums : List ℕ) (at : ℕ) (found : List ℕ) w
 
   expr-tree-on : (lead : Lead) (next operands statements : ℕ) → (depth ≡ 0 → ⊥) → LeadsExpr version nums at lead
       → lead ≡ On next operands statements
-      → Agree (Made layExpr layExprs at found found) (readExpr version depth (drop at nums) at)
+      → Agree (Made (firstAt exprAt) layExpr layExprs at next found found) (readExpr version depth (drop at nums) at)
       (repeat operands (readExpr version (depth - 1)) (drop next nums) next)
-  unfolding AgreeOn readOperands
+  unfolding AgreeOn readOperands nextOf
   expr-tree-on lead next operands statements x l p = rw (one-less depth x, p) at (l .tree (depth - 1) found)
 
   expr-scan-on : (lead : Lead) (next operands statements : ℕ) (r : Scan) → (depth ≡ 0 → ⊥)
@@ -381,6 +384,7 @@ module _ (version depth : ℕ) (nums : List ℕ) (at : ℕ) (found : List ℕ) w
       → Lays (readExpr version depth) layExpr nums at found (set mid at end) (Past end)
   expr-on lead next operands statements end mid a x l p w q =
       construct (keeps-repeat operands (keeps-expr version (depth - 1)))
+      (begins-repeat operands (starts-expr version (depth - 1)))
       (expr-tree-on lead next operands statements x l p)
       (sym q ∙ expr-scan-on lead next operands statements a x l p (w .scan)) w q
 

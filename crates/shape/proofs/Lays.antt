@@ -84,9 +84,10 @@ pub lays-fault : {A C : Type 0} {first : Reader A} (k : A → Reader C) {layFirs
 unfolding scanOf forget Laid _>>=_ andThen
 lays-fault k lay {f = f} {i = i} mid w p = record { scan = rw (lays-bad w f i p); laid = rw (lays-bad w f i p) tt }
 
-pub lays-as : {A : Type 0} {read other : Reader A} {lay : A → ℕ → List ℕ → List ℕ} {nums : List ℕ} {at : ℕ}
+-- what reads the same, perhaps from an index on
+pub lays-as : {A : Type 0} {read other : Reader A} {lay : A → ℕ → List ℕ → List ℕ} {nums : List ℕ} {at next : ℕ}
     {found filled : List ℕ} {r : Scan}
-    → read (drop at nums) at ≡ other (drop at nums) at → Lays other lay nums at found filled r
+    → read (drop at nums) at ≡ other (drop next nums) next → Lays other lay nums next found filled r
     → Lays read lay nums at found filled r
 unfolding scanOf
 lays-as e w = record { scan = rw e (w .scan); laid = rw e (w .laid) }
@@ -308,6 +309,39 @@ begins-list {A} {start} {one} least most s = record { begun = go }
     go : (left : List ℕ) (at : ℕ) → BegunAt (λ xs end. firstAt start xs end - 1) at (listOf least most one left at)
     go [] at = tt
     go (n ∷ left) at = begins-meaning (within least most n) left at s
+
+-- a number by itself begins just before its end
+pub begins-stands : {A : Type 0} (what : ℕ → Option A) → Begins (λ a end. end - 1) (standsFor what)
+unfolding BegunAt standsFor lookedUp meaning
+begins-stands {A} what = record { begun = go }
+  where
+    go : (left : List ℕ) (at : ℕ) → BegunAt (λ a end. end - 1) at (standsFor what left at)
+    go [] at = tt
+    go (n ∷ left) at = inner (what n)
+      where
+        inner : (x : Option A) → BegunAt (λ a end. end - 1) at (meaning 4 x left at)
+        inner none = tt
+        inner (some a) = sub-one (suc at)
+
+-- a tree made of what was read
+pub lays-made : {A C : Type 0} {read : Reader A} (make : A → C) {layFirst : A → ℕ → List ℕ → List ℕ}
+    (lay : C → ℕ → List ℕ → List ℕ)
+    → ((a : A) (next : ℕ) (slots : List ℕ) → layFirst a next slots ≡ lay (make a) next slots)
+    → {nums : List ℕ} {at : ℕ} {found filled : List ℕ} {r : Scan} → Lays read layFirst nums at found filled r
+    → Lays (read >>= λ a. pure (make a)) lay nums at found filled r
+unfolding scanOf forget Laid _>>=_ andThen pure
+lays-made {A} {C} {read} make {layFirst} lay same {nums} {at} {found} {filled} w = record {
+  scan = w .scan ∙ scanned (read (drop at nums) at);
+  laid = go (read (drop at nums) at) (w .laid);
+}
+  where
+    scanned : (x : Got A) → forget x ≡ forget (andThen x (λ a. pure (make a)))
+    scanned (got a left next) = refl
+    scanned (bad fault index) = refl
+
+    go : (x : Got A) → Laid x layFirst found filled → Laid (andThen x (λ a. pure (make a))) lay found filled
+    go (got a left next) l = l ∙ same a next found
+    go (bad fault index) l = tt
 
 -- brackets moved around two readers
 pub pair-then : {A B C : Type 0} (first : Reader A) (second : Reader B) (k : A → B → Reader C) (left : List ℕ) (at : ℕ)

@@ -10,6 +10,7 @@ mod Holders
 mod Listings
 mod Walking
 mod Starts
+mod Transitions
 mod Programs
 pub mod Ended
 mod Orders

@@ -1,28 +1,34 @@
 -- From the promise for a whole program to each construct in it: where a program is read, the slots that its scan leaves
 -- hold the end of each expression and each statement of the tree (EndedProgram), and so they do for each part of it.
-use mathlib.Core.Path.{_≡_, refl}
+use mathlib.Core.Bool.{Bool, true, false}
+use mathlib.Core.Option.{Option, none, some}
+use mathlib.Core.Path.{_≡_, refl, sym}
 use mathlib.Core.List.{List, [], _∷_}
 use Prim.Native.Nat.{ℕ, zero, suc, _-_, _≤_}
 use native.Mathlib.Omega.{arith}
-use lib.ListN.{length, drop, getElem?}
-use Rattle.rules.specs.Syntax.{Expr, Stmt, Callable, Key, Numeral, Table, Program}
-use Rattle.rules.specs.Reading.{mostCallables, mostTables, mostActions, mostArguments}
-use Rattle.rules.specs.Reading.{Got, got, bad, Reader, andThen, _>>=_, pure, here, between, standsFor, repeat, listOf, deepest, keyKinds, versionOf}
+use lib.ListN.{length, getD, drop, getElem?}
+use lib.Dec.{ltb}
+use borrow.Author.Tests.{ltb-true, ltb-false}
+use Rattle.rules.specs.Syntax.{Expr, Stmt, Callable, Key, Numeral, Table, select, ParserState, Program}
+use Rattle.rules.specs.Reading.{mostCallables, mostTables, mostActions, mostArguments, mostError, mostPairs, mostStates}
+use Rattle.rules.specs.Reading.{Got, got, bad, Reader, andThen, _>>=_, pure, here, meaning, lookedUp, between, standsFor, repeat, listOf, deepest, keyKinds, versionOf}
+use Rattle.rules.specs.Reading.{TransitionTag, tagNone, tagAccept, tagReject, tagLeadTo, tagSelect, transitionTags, hasParser, readTransitionAs, readTransition, readState, readStates}
 use Rattle.rules.specs.Reading.{readExpr, readStmt, readKey, readTable, readCallable, readAfterVersion, readProgram}
-use Rattle.rules.proofs.Readers.{Kept, Keeps, keeps-stands, keeps-between, keeps-list, keeps-key, keeps-numeral, keeps-callable, keeps-table, keeps-program, keeps-then, keeps-pure, keeps-here, Given, Starts, starts-callable}
+use Rattle.rules.proofs.Readers.{Kept, Keeps, keeps-stands, keeps-between, keeps-list, keeps-key, keeps-numeral, keeps-callable, keeps-table, keeps-program, keeps-pair, keeps-expr, keeps-stmt, keeps-state, keeps-states, keeps-then, keeps-pure, keeps-here, looked-in, looked-out, Given, Gives, gives-then, gives-pure, Starts, starts-callable}
 use Rattle.shape.specs.Directory.{stmtAt}
-use Rattle.shape.specs.Ends.{exprAt, layExpr, layStmt, firstAt, layAll, keyAt, layKey, callableAt, layCallable, numeralAt, layTable, tableAt, endsOf}
-use Rattle.shape.specs.Ends.{EndedExpr, EndedStmt, EndedAll, EndedKey, EndedCallable, EndedTable, EndedProgram, endsLeft, ScansProgram}
+use Rattle.shape.specs.Ends.{exprAt, layExpr, layStmt, firstAt, layAll, keyAt, layKey, callableAt, layCallable, numeralAt, layTable, tableAt, pairAt, layTransition, transitionAt, stateAt, layState, statesAt, blocksAt, endsOf}
+use Rattle.shape.specs.Ends.{EndedExpr, EndedStmt, EndedAll, EndedKey, EndedCallable, EndedTable, EndedTransition, EndedState, EndedProgram, endsLeft, ScansProgram}
 use Rattle.shape.specs.declared.Scan.{Scan}
 use Rattle.shape.specs.Parts.{readChoices, layKeys, layChoices, readDefault}
-use Rattle.shape.specs.Walks.{noEnds, readDefined, endsDefined}
+use Rattle.shape.specs.Walks.{noEnds, readDefined, endsDefined, readBlocks, endsBlocks}
 use Rattle.shape.proofs.Lays.{BegunAt, Begins, begins-repeat, begins-list}
 use Rattle.shape.proofs.Exprs.{starts-expr}
 use Rattle.shape.proofs.Stmts.{starts-stmt}
 use Rattle.shape.proofs.Parts.{keeps-returning, keeps-frame}
 use Rattle.shape.proofs.Holders.{starts-key, starts-numeral, keeps-choices, begins-default, makeTable, in-two, Frame, makeCallable, readFramed, in-three}
-use Rattle.shape.proofs.Starts.{starts-tables, begins-body}
-use Rattle.shape.proofs.Programs.{Defined, tree, readRest, endsRest, inThree, three, keeps-declared, keeps-defined}
+use Rattle.shape.proofs.Starts.{starts-tables, starts-states, begins-body}
+use Rattle.shape.proofs.Transitions.{starts-pair, begins-transition, states-read, begins-blocks}
+use Rattle.shape.proofs.Programs.{Defined, Blocks, tree, readRest, endsRest, inThree, three, keeps-declared, keeps-defined}
 use Rattle.shape.proofs.Ended.{OrderedExpr, OrderedStmt, Layer, layer-none, layer-both, layer-wide, layer-expr, layer-stmt}
 use Rattle.shape.proofs.Orders.{OrderedGot, orders-expr, orders-stmt}
 
@@ -158,6 +164,29 @@ module _ {A : Type 0} (start : A → ℕ) (lay : A → ℕ → List ℕ → List
           rw (k .rest) (inner at next (repeat n one (drop next nums) next) (k .later) (lines-all n .lined nums next))
       go nums at (bad fault index) k = tt
 
+-- what begins later, or lays nothing
+lined-behind : {A : Type 0} (lay : A → ℕ → List ℕ → List ℕ) (E : A → ℕ → List ℕ → Type 0) (at : ℕ) (x : Got A)
+    → LinedAt lay E (suc at) x → LinedAt lay E at x
+unfolding LinedAt
+lined-behind lay E at (got a left next) l = layer-wide at (omega arith) l
+lined-behind lay E at (bad fault index) l = tt
+
+record LaysNothing {A : Type 0} (lay : A → ℕ → List ℕ → List ℕ) (E : A → ℕ → List ℕ → Type 0) (a : A) : Type 0 where
+  pub same : (next : ℕ) (slots : List ℕ) → slots ≡ lay a next slots
+  pub told : (next : ℕ) (slots : List ℕ) → E a next slots
+
+lined-nothing : {A : Type 0} {lay : A → ℕ → List ℕ → List ℕ} {E : A → ℕ → List ℕ → Type 0} {read : Reader A}
+    → Keeps read → Gives (LaysNothing lay E) read
+    → (nums : List ℕ) (at : ℕ) → LinedAt lay E at (read (drop at nums) at)
+unfolding LinedAt Given Kept
+lined-nothing {A} {lay} {E} {read} h g nums at =
+    go (read (drop at nums) at) (h .kept nums at) (g .given (drop at nums) at)
+  where
+    go : (x : Got A) → Kept nums at x → Given (LaysNothing lay E) x → LinedAt lay E at x
+    go (got a left next) k n =
+        layer-as (n .same next) (λ slots u. n .told next slots) (layer-wide at (k .later) (layer-none next))
+    go (bad fault index) k n = tt
+
 -- tables
 unfoldable EndedKeys : List Key → ℕ → List ℕ → Type 0
 EndedKeys ks end slots = EndedAll keyAt EndedKey ks end slots
@@ -222,6 +251,55 @@ module _ (version : ℕ) where
             (λ f s next slots. refl) (λ f s next slots p. p) (lines-stmt version deepest);
       }
 
+  -- states
+  lined-as : (nums : List ℕ) (at : ℕ) (tag : TransitionTag)
+      → LinedAt layTransition EndedTransition (suc at)
+      (readTransitionAs version tag at (drop (suc at) nums) (suc at))
+  unfolding readTransitionAs layTransition EndedTransition noEnds
+  lined-as nums at tagNone = lined-nothing (keeps-pure _) (gives-pure _ _ (record { same = λ next slots. refl; told = λ next slots. tt })) nums (suc at)
+  lined-as nums at tagAccept = lined-nothing (keeps-pure _) (gives-pure _ _ (record { same = λ next slots. refl; told = λ next slots. tt })) nums (suc at)
+  lined-as nums at tagReject =
+      lined-nothing (keeps-then (keeps-between 0 mostError) λ e. keeps-pure _)
+      (gives-then _ λ e. gives-pure _ _ (record { same = λ next slots. refl; told = λ next slots. tt })) nums (suc at)
+  lined-as nums at tagLeadTo =
+      lined-nothing (keeps-then (keeps-numeral version) λ s. keeps-pure _)
+      (gives-then _ λ s. gives-pure _ _ (record { same = λ next slots. refl; told = λ next slots. tt })) nums (suc at)
+  lined-as nums at tagSelect =
+      lined-next (select at) layTransition EndedTransition (keeps-expr version deepest) nums (suc at)
+      (λ ps end. firstAt pairAt ps end - 1) (λ e ps next slots. refl) (λ e ps next slots p. p .0)
+      (begins-list 0 mostPairs (starts-pair version)) (lines-expr version deepest)
+      (lines-none (keeps-list 0 mostPairs (keeps-pair version)))
+
+  lines-transition : Lines layTransition EndedTransition (readTransition version)
+  unfolding LinedAt readTransition here _>>=_ andThen standsFor meaning
+  lines-transition = record { lined = λ nums at. go nums at (ltb at (length nums)) refl }
+    where
+      inner : (nums : List ℕ) (at : ℕ) (x : Option TransitionTag)
+          → LinedAt layTransition EndedTransition at
+          (andThen (meaning 4 x (drop (suc at) nums) at) (λ tag. readTransitionAs version tag at))
+      inner nums at none = tt
+      inner nums at (some tag) =
+          lined-behind layTransition EndedTransition at
+          (readTransitionAs version tag at (drop (suc at) nums) (suc at)) (lined-as nums at tag)
+
+      go : (nums : List ℕ) (at : ℕ) (b : Bool) → ltb at (length nums) ≡ b
+          → LinedAt layTransition EndedTransition at
+          (andThen (lookedUp 4 (getElem? (transitionTags version)) (drop at nums) at)
+          (λ tag. readTransitionAs version tag at))
+      go nums at true e =
+          rw (looked-in 4 (getElem? (transitionTags version)) nums at (ltb-true at (length nums) e))
+          (inner nums at (getElem? (transitionTags version) (getD nums at 0)))
+      go nums at false e =
+          rw (looked-out 4 (getElem? (transitionTags version)) nums at (ltb-false at (length nums) e)) tt
+
+  lines-state : Lines layState EndedState (readState version)
+  unfolding readState here _>>=_ andThen layState EndedState
+  lines-state = record {
+    lined = λ nums at. lined-next (λ body t. record { at = at; body = body; transition = t }) layState EndedState
+        (keeps-stmt version deepest) nums at transitionAt (λ body t next slots. refl) (λ body t next slots p. p)
+        (begins-transition version) (lines-stmt version deepest) lines-transition;
+  }
+
   -- the program
   unfoldable pub EndedDefined : List Callable × List Table → ℕ → List ℕ → Type 0
   EndedDefined p end slots =
@@ -243,23 +321,45 @@ module _ (version : ℕ) where
         (lines-list tableAt layTable EndedTable (keeps-table version) (starts-tables version) lines-table 0 mostTables);
   }
 
-  unfoldable pub EndedRest : Defined version × Stmt → ℕ → List ℕ → Type 0
-  EndedRest q end slots = EndedDefined (q .0) (stmtAt (q .1)) slots × EndedStmt (q .1) end slots
+  unfoldable pub EndedBlocks : List ParserState × Stmt → ℕ → List ℕ → Type 0
+  EndedBlocks p end slots = EndedAll stateAt EndedState (p .0) (stmtAt (p .1)) slots × EndedStmt (p .1) end slots
+
+  lines-states : Lines (layAll stateAt layState) (EndedAll stateAt EndedState) (readStates version)
+  unfolding LinedAt pure layAll EndedAll
+  lines-states = go (hasParser version) refl
+    where
+      go : (b : Bool) → hasParser version ≡ b
+          → Lines (layAll stateAt layState) (EndedAll stateAt EndedState) (readStates version)
+      go true e = rw (states-read version true (sym e))
+          (lines-list stateAt layState EndedState (keeps-state version) (starts-states version) lines-state 1 mostStates)
+      go false e = rw (states-read version false (sym e)) (record { lined = λ nums at. layer-none at })
+
+  lines-blocks : Lines endsBlocks EndedBlocks (readBlocks version)
+  unfolding readBlocks endsBlocks EndedBlocks
+  lines-blocks = record {
+    lined = λ nums at. lined-next (λ ss s. (ss, s)) endsBlocks EndedBlocks (keeps-states version) nums at
+        (λ s end. stmtAt s) (λ ss s next slots. refl) (λ ss s next slots p. p) (begins-body version deepest)
+        lines-states (lines-stmt version deepest);
+  }
+
+  unfoldable pub EndedRest : Defined version × Blocks version → ℕ → List ℕ → Type 0
+  EndedRest q end slots =
+      EndedDefined (q .0) (statesAt (q .1 .0) (stmtAt (q .1 .1))) slots × EndedBlocks (q .1) end slots
 
   lines-rest : Lines (endsRest version) EndedRest (readRest version)
   unfolding readRest endsRest EndedRest
   lines-rest = record {
-    lined = λ nums at. lined-next (λ d s. (d, s)) (endsRest version) EndedRest (keeps-defined version) nums at
-        (λ s end. stmtAt s) (λ d s next slots. refl) (λ d s next slots p. p) (begins-body version deepest)
-        lines-defined (lines-stmt version deepest);
+    lined = λ nums at. lined-next (λ d b. (d, b)) (endsRest version) EndedRest (keeps-defined version) nums at
+        (λ b end. statesAt (b .0) (stmtAt (b .1))) (λ d b next slots. refl) (λ d b next slots p. p)
+        (begins-blocks version) lines-defined lines-blocks;
   }
 
   lines-after : Lines endsOf EndedProgram (readAfterVersion version)
-  unfolding inThree endsRest endsDefined endsOf tree EndedRest EndedDefined
+  unfolding inThree endsRest endsDefined endsBlocks endsOf blocksAt tree EndedRest EndedDefined EndedBlocks
   lines-after = record {
     lined = λ nums at. rw (three version (drop at nums) at)
         (lined-skip (tree version) endsOf EndedProgram (keeps-declared version) nums at (λ d q next slots. refl)
-        (λ d q next slots p. record { callables = p .0 .0; tables = p .0 .1; body = p .1 }) lines-rest);
+        (λ d q next slots p. record { callables = p .0 .0; tables = p .0 .1; states = p .1 .0; body = p .1 .1 }) lines-rest);
   }
 
 lines-program : Lines endsOf EndedProgram readProgram

@@ -6,11 +6,11 @@ use native.Mathlib.Numerals.{sub-one}
 use Rattle.rules.specs.Words.{widest}
 use Rattle.rules.specs.Reading.{between, standsFor}
 use Rattle.rules.specs.Reading.{typeOf}
-use Rattle.rules.specs.Reading.{readHeader, readGlobal, readParameter, readCallable, readNumeral, readTable}
+use Rattle.rules.specs.Reading.{readHeader, readGlobal, readParameter, readCallable, readNumeral, readTable, readPair, readState}
 use Rattle.shape.specs.Scans.{scanOf}
 use Rattle.shape.specs.Leads.{onScan, valueOf, onValue}
 use Rattle.shape.specs.Parts.{repeatScan, listScan, itemScan, partScan}
-use Rattle.shape.specs.Ends.{layCallable, layTable}
+use Rattle.shape.specs.Ends.{layCallable, layTable, layState}
 use Rattle.shape.specs.Walks.{Lays, partEnds, LaysPart}
 use Rattle.shape.proofs.Lays.{lays-scan}
 use Rattle.shape.specs.declared.Scan.{Scan}
@@ -18,9 +18,9 @@ use Rattle.shape.specs.declared.Scan.the-variants.{Past, Fault}
 use Rattle.shape.specs.declared.looks.Value.{Value}
 use Rattle.shape.specs.declared.looks.Value.the-variants.{Of, Unread}
 use Rattle.shape.specs.declared.items.Item.{Item}
-use Rattle.shape.specs.declared.items.Item.the-variants.{WidthItem, TypeItem, ParameterItem, NumeralItem}
+use Rattle.shape.specs.declared.items.Item.the-variants.{WidthItem, TypeItem, ParameterItem, NumeralItem, PairItem}
 use Rattle.shape.specs.declared.program.Part.{Part}
-use Rattle.shape.specs.declared.program.Part.the-variants.{HeaderPart, GlobalPart, CallablePart, TablePart}
+use Rattle.shape.specs.declared.program.Part.the-variants.{HeaderPart, GlobalPart, CallablePart, TablePart, StatePart}
 use Rattle.shape.proofs.Laws.{seq-past, seq-fault}
 
 -- items and parts by their kind, and lists of items
@@ -44,6 +44,10 @@ module _ (version : ℕ) (nums : List ℕ) (at : ℕ) (r : Scan) where
     unfolding itemScan
     numeral-item e q = rw e q
 
+    pub pair-item : item ≡ PairItem → r ≡ scanOf (readPair version) nums at → r ≡ itemScan version item nums at
+    unfolding itemScan
+    pair-item e q = rw e q
+
 module _ (version : ℕ) (nums : List ℕ) (at : ℕ) (r : Scan) (part : Part) (found : List ℕ) where
   pub header-part : part ≡ HeaderPart → r ≡ scanOf (readHeader version) nums at
       → LaysPart version part nums at found found r
@@ -66,15 +70,22 @@ module _ (version : ℕ) (nums : List ℕ) (at : ℕ) (r : Scan) (part : Part) (
   unfolding partScan partEnds
   table-part filled e w = record { scan = rw e (w .scan); laid = rw e (w .laid) }
 
+  pub state-part : (filled : List ℕ) → part ≡ StatePart → Lays (readState version) layState nums at found filled r
+      → LaysPart version part nums at found filled r
+  unfolding partScan partEnds
+  state-part filled e w = record { scan = rw e (w .scan); laid = rw e (w .laid) }
+
 pub ruleset kinds = (
   width-item,
   type-item,
   parameter-item,
   numeral-item,
+  pair-item,
   header-part,
   global-part,
   callable-part,
   table-part,
+  state-part,
 )
 
 module _ (one : ℕ → Scan) (count at : ℕ) where

@@ -2,7 +2,7 @@
 use mathlib.Core.Bool.{Bool, true, false}
 use mathlib.Core.Path.{_≡_, refl, sym, _∙_}
 use mathlib.Core.List.{List, [], _∷_}
-use Prim.Native.Nat.{ℕ, zero, suc, _+_, _<_}
+use Prim.Native.Nat.{ℕ, zero, suc, _+_, _-_, _<_}
 use native.Mathlib.Omega.{arith}
 use lib.ListN.{length, getD, drop}
 use lib.Dec.{ltb}
@@ -11,24 +11,25 @@ use Rattle.rules.specs.Words.{widest}
 use Rattle.rules.specs.Syntax.{Expr, Stmt}
 use Rattle.rules.specs.Reading.{mostArguments, mostMembers, highestBound}
 use Rattle.rules.specs.Reading.{Got, got, bad, Reader, andThen, _>>=_, pure, number, between, repeat, tooDeep, toArgs, toStmts, readExpr, readStmt}
-use Rattle.rules.proofs.Readers.{Kept, Keeps, keeps-number, keeps-between, keeps-stands, keeps-repeat, keeps-then, keeps-expr, keeps-target, keeps-stmt, Starts}
+use Rattle.rules.proofs.Readers.{Kept, Keeps, keeps-number, keeps-between, keeps-stands, keeps-repeat, keeps-then, keeps-expr, keeps-target, keeps-stmt, Given, Starts}
 use Rattle.shape.specs.Scans.{forget, scanOf}
 use Rattle.shape.specs.Directory.{stmtAt}
 use Rattle.shape.specs.Ends.{exprAt, firstAt}
 use Rattle.shape.specs.Leads.{onScan, onLead, valued, valueOf, leadBy, argumentsLead, callLead, blockLead, exprForm, exprLead, stmtForm, stmtLead, stmtLaid, readLiteral}
-use Rattle.shape.specs.Leads.{Agree, AgreeOn, readOperands, readParts, LeadsExpr, LeadsStmt}
+use Rattle.shape.specs.Leads.{Agree, AgreeOn, nextOf, readOperands, readParts, partsAt, LeadsExpr, LeadsStmt}
 use Rattle.shape.specs.declared.Scan.the-variants.{Past, Fault}
 use Rattle.shape.specs.declared.expressions.Lead.{Lead}
 use Rattle.shape.specs.declared.expressions.Lead.the-variants.{On, Off}
 use Rattle.shape.specs.declared.expressions.ExprForm.{ExprForm}
 use Rattle.shape.specs.declared.expressions.ExprForm.the-variants.{Number, Field, Literal, Operand, Binary, Cast, Slice, Operands, Call, Unlisted}
 use Rattle.shape.specs.declared.statements.StmtForm.{StmtForm}
-use Rattle.shape.specs.declared.statements.StmtForm.the-variants.{Bare, Assign, If, Block, CallStmt, Named, Returned, NoStmt}
+use Rattle.shape.specs.declared.statements.StmtForm.the-variants.{Bare, Assign, If, Block, CallStmt, Named, Returned, Verified, NoStmt}
 use Rattle.shape.proofs.Laws.{scans-self, scans-then, scans-last, scans-pure}
-use Rattle.shape.proofs.Lays.{BegunAt, Begins, begins-repeat}
+use Rattle.shape.proofs.Lays.{BegunAt, begins-repeat}
+use Rattle.shape.proofs.Targets.{keeps-verify, laid-on}
 use Rattle.shape.proofs.Exprs.{ExprNodes, expr-agrees, args-at, starts-expr}
 use Rattle.shape.proofs.Exprs as exprs
-use Rattle.shape.proofs.Stmts.{StmtNodes, stmt-agrees, stmts-at, starts-stmt}
+use Rattle.shape.proofs.Stmts.{StmtNodes, stmt-agrees, stmts-at, starts-stmt, parts-begin}
 use Rattle.shape.proofs.Stmts as stmts
 use Rattle.shape.proofs.Ended.{OrderedExpr, OrderedArgs, OrderedStmt, OrderedStmts}
 
@@ -70,14 +71,14 @@ orders-repeat {A} {start} {R} {one} (suc n) h s o =
         (ih next))
     go nums (bad fault index) at k r ih = tt
 
--- a construct with its parts
-pub record Orderly {A B : Type 0} (start : B → ℕ → ℕ) (R : A → ℕ → Type 0) (S : B → ℕ → Type 0) (at : ℕ) (a : A) (b : B)
-    : Type 0 where
-  pub order : (end : ℕ) → at < start b end → S b end → R a end
+-- a construct with its parts, which begin at an index
+pub record Orderly {A B : Type 0} (start : B → ℕ → ℕ) (R : A → ℕ → Type 0) (S : B → ℕ → Type 0) (at next : ℕ) (a : A)
+    (b : B) : Type 0 where
+  pub order : (end : ℕ) → start b end ≡ next → at < start b end → S b end → R a end
 
 orders-construct : {A B : Type 0} (start : B → ℕ → ℕ) (R : A → ℕ → Type 0) (S : B → ℕ → Type 0) (at next : ℕ)
     (x : Got A) (y : Got B)
-    → at < next → Agree (Orderly start R S at) x y → forget x ≡ forget y → BegunAt start next y → OrderedGot S y
+    → at < next → Agree (Orderly start R S at next) x y → forget x ≡ forget y → BegunAt start next y → OrderedGot S y
     → OrderedGot R x
 unfolding Agree OrderedGot BegunAt forget
 orders-construct start R S at next (bad fault index) y h p e b s = tt
@@ -85,7 +86,7 @@ orders-construct start R S at next (got a left m) (bad fault index) h p e b s =
     let z : _≡_ {A = ℕ} 0 1 = cc in absurd (omega arith)
 orders-construct start R S at next (got a left m) (got c rest end) h p e b s =
     let same : m ≡ end = cc in
-    rw same (p .order end (rw b h) s)
+    rw same (p .order end b (rw b h) s)
 
 fault-orders : {A : Type 0} (R : A → ℕ → Type 0) (x : Got A) (f i : ℕ) → forget x ≡ Fault f i → OrderedGot R x
 unfolding OrderedGot forget
@@ -160,6 +161,7 @@ after-stmt version depth Block nums at = after-block nums at
 after-stmt version depth CallStmt nums at = after-call nums at
 after-stmt version depth Named nums at = after-by _ nums at 0 0 keeps-number
 after-stmt version depth Returned nums at = after-here at 1 0
+after-stmt version depth Verified nums at = after-by _ nums at 0 0 (keeps-verify version depth)
 after-stmt version depth NoStmt nums at = tt
 
 -- expressions
@@ -171,28 +173,29 @@ unfolding OrderedAll OrderedArgs toArgs
 args-ordered version [] end o = tt
 args-ordered version (x ∷ xs) end o = (rw (args-at version xs end) (o .0), args-ordered version xs end (o .1))
 
-expr-nodes : (version at : ℕ) → ExprNodes version at (Orderly (firstAt exprAt) OrderedExpr OrderedExprs at)
+expr-nodes : (version at next : ℕ)
+    → ExprNodes version at (Orderly (firstAt exprAt) OrderedExpr OrderedExprs at next)
 unfolding OrderedExpr OrderedAll firstAt
-expr-nodes version at = record {
-  bool-node = λ n. record { order = λ end h o. h };
-  bits-node = λ w n. record { order = λ end h o. h };
-  read-node = λ p. record { order = λ end h o. h };
-  valid-node = λ g. record { order = λ end h o. h };
-  not-node = λ a. record { order = λ end h o. (h, o .0) };
-  complement-node = λ a. record { order = λ end h o. (h, o .0) };
-  binary-node = λ p a b. record { order = λ end h o. (h, (o .0, o .1 .0)) };
-  cast-node = λ w a. record { order = λ end h o. (h, o .0) };
-  slice-node = λ u l a. record { order = λ end h o. (h, o .0) };
-  concatenation-node = λ a b. record { order = λ end h o. (h, (o .0, o .1 .0)) };
-  call-node = λ f xs. record { order = λ end h o. (rw (args-at version xs end) h, args-ordered version xs end o) };
+expr-nodes version at next = record {
+  bool-node = λ n. record { order = λ end b h o. h };
+  bits-node = λ w n. record { order = λ end b h o. h };
+  read-node = λ p. record { order = λ end b h o. h };
+  valid-node = λ g. record { order = λ end b h o. h };
+  not-node = λ a. record { order = λ end b h o. (h, o .0) };
+  complement-node = λ a. record { order = λ end b h o. (h, o .0) };
+  binary-node = λ p a b. record { order = λ end s h o. (h, (o .0, o .1 .0)) };
+  cast-node = λ w a. record { order = λ end b h o. (h, o .0) };
+  slice-node = λ u l a. record { order = λ end b h o. (h, o .0) };
+  concatenation-node = λ a b. record { order = λ end s h o. (h, (o .0, o .1 .0)) };
+  call-node = λ f xs. record { order = λ end b h o. (rw (args-at version xs end) h, args-ordered version xs end o) };
 }
 
 module _ (version depth : ℕ) (o : Orders OrderedExpr (readExpr version depth)) where
   expr-by-lead : (nums : List ℕ) (at : ℕ) (lead : Lead) → AfterTag at lead → LeadsExpr version nums at lead
-      → AgreeOn (Orderly (firstAt exprAt) OrderedExpr OrderedExprs at)
+      → AgreeOn (Orderly (firstAt exprAt) OrderedExpr OrderedExprs at (nextOf lead))
       (readExpr version (suc depth) (drop at nums) at) (readOperands version depth) nums lead
       → OrderedGot OrderedExpr (readExpr version (suc depth) (drop at nums) at)
-  unfolding AfterTag AgreeOn readOperands onLead scanOf
+  unfolding AfterTag AgreeOn nextOf readOperands onLead scanOf
   expr-by-lead nums at (Off f i) h l p = fault-orders OrderedExpr _ f i (l .expr depth)
   expr-by-lead nums at (On next operands statements) h l p =
       orders-construct (firstAt exprAt) OrderedExpr OrderedExprs at next _
@@ -211,7 +214,7 @@ module _ (version depth : ℕ) (o : Orders OrderedExpr (readExpr version depth))
           expr-by-lead nums at (exprLead version (exprForm version (getD nums at 0)) nums at)
           (after-expr version (exprForm version (getD nums at 0)) nums at)
           (exprs.leads-is version nums at (exprForm version (getD nums at 0)) _ h refl refl)
-          (expr-agrees version depth nums at _ (expr-nodes version at) h)
+          (expr-agrees version depth nums at _ (expr-nodes version at _) h)
       go nums at false t =
           expr-by-lead nums at (Off 4 at) tt
           (exprs.leads-missing version nums at (ltb-false at (length nums) t)) tt
@@ -242,51 +245,40 @@ unfolding OrderedAll OrderedStmts toStmts
 stmts-ordered version [] end o = tt
 stmts-ordered version (s ∷ ss) end o = (rw (stmts-at version ss end) (o .0), stmts-ordered version ss end (o .1))
 
-partsAt : List Expr × List Stmt → ℕ → ℕ
-partsAt p end = firstAt exprAt (p .0) (firstAt stmtAt (p .1) end)
-
 OrderedParts : List Expr × List Stmt → ℕ → Type 0
 OrderedParts p end = OrderedExprs (p .0) (firstAt stmtAt (p .1) end) × OrderedStmtList (p .1) end
 
-stmt-nodes : (version at : ℕ) (found : List ℕ)
-    → StmtNodes version at found (λ mid. Orderly partsAt OrderedStmt OrderedParts at)
+-- the condition of a verify
+condition-ordered : (version depth : ℕ) (nums : List ℕ) (at end : ℕ) (c : Expr) (left : List ℕ)
+    → readExpr version depth (drop (at + 1) nums) (at + 1) ≡ got c left end → (at < exprAt c) × OrderedExpr c end
+unfolding OrderedGot Given
+condition-ordered version depth nums at end c left q =
+    let s : exprAt c ≡ at + 1 = rw q at (starts-expr version depth .started (drop (at + 1) nums) (at + 1)) in
+    (omega arith, rw q at (orders-expr version depth .ordered nums (at + 1)))
+
+stmt-nodes : (version depth : ℕ) (nums : List ℕ) (at next : ℕ) (found : List ℕ)
+    → StmtNodes version depth nums at next found (λ mid. Orderly partsAt OrderedStmt OrderedParts at next)
 unfolding partsAt OrderedParts OrderedStmt OrderedAll firstAt
-stmt-nodes version at found = record {
-  empty-node = record { order = λ end h o. h };
-  assign-node = λ next p e q l. record { order = λ end h o. (omega arith, (rw q l, o .0 .0)) };
-  if-node = λ c a b. record { order = λ end h o. (h, (o .0 .0, (o .1 .0, o .1 .1 .0))) };
+stmt-nodes version depth nums at next found = record {
+  empty-node = record { order = λ end b h o. h };
+  assign-node = λ value p e q l. record { order = λ end b h o. (omega arith, (rw q l, o .0 .0)) };
+  if-node = λ c a b. record { order = λ end s h o. (h, (o .0 .0, (o .1 .0, o .1 .1 .0))) };
   block-node = λ ss.
-      record { order = λ end h o. (rw (stmts-at version ss end) h, stmts-ordered version ss end (o .1)) };
-  call-node = λ f xs. record { order = λ end h o. (rw (args-at version xs end) h, args-ordered version xs end (o .0)) };
-  apply-node = λ t. record { order = λ end h o. h };
-  value-node = λ e. record { order = λ end h o. (h, o .0 .0) };
-  return-node = record { order = λ end h o. h };
-  exit-node = record { order = λ end h o. h };
-  valid-node = λ g. record { order = λ end h o. h };
-  invalid-node = λ g. record { order = λ end h o. h };
+      record { order = λ end b h o. (rw (stmts-at version ss end) h, stmts-ordered version ss end (o .1)) };
+  call-node = λ f xs. record { order = λ end b h o. (rw (args-at version xs end) h, args-ordered version xs end (o .0)) };
+  apply-node = λ t. record { order = λ end b h o. h };
+  value-node = λ e. record { order = λ end b h o. (h, o .0 .0) };
+  return-node = record { order = λ end b h o. h };
+  exit-node = record { order = λ end b h o. h };
+  valid-node = λ g. record { order = λ end b h o. h };
+  invalid-node = λ g. record { order = λ end b h o. h };
+  extract-node = λ g. record { order = λ end b h o. h };
+  verify-node = λ c e left q. record {
+    order = λ end b h o. rw b (condition-ordered version depth nums at (next - 1) c left q);
+  };
 }
 
 module _ (version depth operands statements : ℕ) where
-  parts-begin : Begins partsAt (readParts version depth operands statements)
-  unfolding partsAt readParts BegunAt _>>=_ andThen pure
-  parts-begin = record {
-    begun = λ left at. go at (repeat operands (readExpr version depth) left at)
-        (begins-repeat operands (starts-expr version depth) .begun left at);
-  }
-    where
-      inner : (at n : ℕ) (xs : List Expr) (y : Got (List Stmt)) → firstAt exprAt xs n ≡ at
-          → BegunAt (firstAt stmtAt) n y
-          → BegunAt partsAt at (andThen y (λ ss. pure (xs, ss)))
-      inner at n xs (got ss left end) e b = rw b e
-      inner at n xs (bad fault index) e b = tt
-
-      go : (at : ℕ) (x : Got (List Expr)) → BegunAt (firstAt exprAt) at x
-          → BegunAt partsAt at (andThen x (λ xs. repeat statements (readStmt version depth) >>= λ ss. pure (xs, ss)))
-      go at (got xs left n) e =
-          inner at n xs (repeat statements (readStmt version depth) left n) e
-          (begins-repeat statements (starts-stmt version depth) .begun left n)
-      go at (bad fault index) e = tt
-
   parts-ordered : Orders OrderedStmt (readStmt version depth) → Orders OrderedParts
       (readParts version depth operands statements)
   unfolding OrderedParts readParts OrderedGot BegunAt Kept _>>=_ andThen pure
@@ -324,10 +316,10 @@ module _ (version depth operands statements : ℕ) where
 module _ (version depth : ℕ) (o : Orders OrderedStmt (readStmt version depth)) where
   stmt-by-lead : (nums : List ℕ) (at : ℕ) (lead : Lead) (mid : List ℕ) → AfterTag at lead
       → LeadsStmt version depth nums at [] mid lead
-      → AgreeOn (Orderly partsAt OrderedStmt OrderedParts at)
+      → AgreeOn (Orderly partsAt OrderedStmt OrderedParts at (nextOf lead))
       (readStmt version (suc depth) (drop at nums) at) (readParts version depth) nums lead
       → OrderedGot OrderedStmt (readStmt version (suc depth) (drop at nums) at)
-  unfolding AfterTag AgreeOn onLead scanOf
+  unfolding AfterTag AgreeOn nextOf onLead scanOf
   stmt-by-lead nums at (Off f i) mid h l p = fault-orders OrderedStmt _ f i (l .stmt)
   stmt-by-lead nums at (On next operands statements) mid h l p =
       orders-construct partsAt OrderedStmt OrderedParts at next _
@@ -348,8 +340,8 @@ module _ (version depth : ℕ) (o : Orders OrderedStmt (readStmt version depth))
           (stmtLaid version depth (stmtForm version (getD nums at 0)) nums at [])
           (after-stmt version depth (stmtForm version (getD nums at 0)) nums at)
           (stmts.leads-is version depth nums at (stmtForm version (getD nums at 0)) [] _ _ h refl
-          (record { lead = refl; laid = refl }))
-          (stmt-agrees version depth nums at [] _ (stmt-nodes version at []) h)
+          (record { lead = refl; laid = laid-on _ _ _ refl }))
+          (stmt-agrees version depth nums at _ [] _ (stmt-nodes version depth nums at _ []) h refl)
       go nums at false t =
           stmt-by-lead nums at (Off 4 at) [] tt
           (stmts.leads-missing version depth nums at [] (ltb-false at (length nums) t)) tt

@@ -13,8 +13,8 @@ use borrow.Author.Tests.{le-leb}
 use Rattle.rules.specs.Reading.{mostFields, mostParameters, mostLocals, mostArguments}
 use Rattle.rules.specs.Reading.{Reader, _>>=_, pure, number, within, between, standsFor, repeat, listOf, deepest}
 use Rattle.rules.specs.Reading.{kindAction, kindFunction, directions, keyKinds, callableKinds, bitsOf, typeOf, orHeader, globalTypeOf}
-use Rattle.rules.specs.Reading.{readExpr, readStmt, readHeader, readGlobal, readParameter, readReturns, readNumeral, readKey}
-use Rattle.rules.proofs.Readers.{Keeps, keeps-then, keeps-number, keeps-stands, keeps-between, keeps-list, keeps-expr, keeps-parameter, keeps-returns, keeps-numeral, keeps-pure}
+use Rattle.rules.specs.Reading.{readExpr, readStmt, readHeader, readGlobal, readParameter, readReturns, readNumeral, readKey, readPair}
+use Rattle.rules.proofs.Readers.{Keeps, keeps-then, keeps-number, keeps-stands, keeps-between, keeps-list, keeps-expr, keeps-parameter, keeps-returns, keeps-numeral, keeps-pair, keeps-pure}
 use Rattle.shape.specs.Scans.{scanOf}
 use Rattle.shape.specs.Leads.{onScan, valueOf, onValue}
 use Rattle.shape.specs.Parts.{repeatScan, listScan, itemScan, readReturning, readFrame, readDefault}
@@ -22,8 +22,8 @@ use Rattle.shape.specs.declared.Scan.{Scan}
 use Rattle.shape.specs.declared.Scan.the-variants.{Past, Fault}
 use Rattle.shape.specs.declared.looks.Value.{Value}
 use Rattle.shape.specs.declared.looks.Value.the-variants.{Of, Unread}
-use Rattle.shape.specs.declared.items.Item.the-variants.{WidthItem, TypeItem, ParameterItem, NumeralItem}
-use Rattle.shape.proofs.Laws.{on-same, Scans, scans-self, scans-then, scans-pure, scans-here, scans-last, stands-is, seq-past, seq-fault}
+use Rattle.shape.specs.declared.items.Item.the-variants.{WidthItem, TypeItem, ParameterItem, NumeralItem, PairItem}
+use Rattle.shape.proofs.Laws.{on-same, Scans, scans-self, scans-then, scans-pure, scans-here, scans-last, scans-as, scans-two, stands-is, seq-past, seq-fault}
 use Rattle.shape.proofs.Laws.{isSome, Spans, some-within, scan-like, spans-scan, spans-list, list-scan, repeat-none, scans-repeat, IsValue, value-inv, between-fault, scan-fault, stands-some, stands-lacks}
 
 -- lists, with the members' own scan
@@ -81,6 +81,15 @@ module _ (version : ℕ) (nums : List ℕ) where
   pub numeral-is : (at : ℕ) (r : Scan) → r ≡ scanOf number nums at → r ≡ scanOf (readNumeral version) nums at
   numeral-is at r e = e ∙ sym (scans-numeral .scan at)
 
+  scans-pair : Scans (readPair version) nums (scanOf (repeat 2 number) nums)
+  unfolding readPair
+  scans-pair =
+      scans-as (scans-then (keeps-numeral version) scans-numeral λ v. scans-last (keeps-numeral version) scans-numeral
+      λ s. scans-pure _) (scans-two keeps-number)
+
+  pub pair-is : (at : ℕ) (r : Scan) → r ≡ scanOf (repeat 2 number) nums at → r ≡ scanOf (readPair version) nums at
+  pair-is at r e = e ∙ sym (scans-pair .scan at)
+
   scans-parameter : Scans (readParameter version) nums
       (λ at. onScan (scanOf (standsFor (getElem? (directions version))) nums at)
       (scanOf (standsFor (typeOf version)) nums))
@@ -120,6 +129,12 @@ module _ (version : ℕ) (nums : List ℕ) where
       (listScan (itemScan version NumeralItem nums) least most nums)
   unfolding itemScan
   scans-numerals least most = scans-items least most (keeps-numeral version) (scans-self _ nums)
+
+  pub scans-pairs : (least most : ℕ)
+      → Scans (listOf least most (readPair version)) nums
+      (listScan (itemScan version PairItem nums) least most nums)
+  unfolding itemScan
+  scans-pairs least most = scans-items least most (keeps-pair version) (scans-self _ nums)
 
   frame-keeps : Keeps (listOf 0 mostLocals (standsFor (typeOf version)))
   frame-keeps = keeps-list 0 mostLocals (keeps-stands _)
@@ -273,6 +288,7 @@ module _ (version : ℕ) (nums : List ℕ) (at n f i : ℕ) (a r : Scan) where
 
 pub ruleset parts = (
   numeral-is,
+  pair-is,
   direction-is,
   key-kind-is,
   type-is,

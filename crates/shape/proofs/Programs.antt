@@ -4,22 +4,22 @@ use mathlib.Core.List.{List}
 use Prim.Native.Nat.{ℕ}
 use native.Mathlib.Omega.{arith}
 use lib.ListN.{drop, replicate}
-use Rattle.rules.specs.Syntax.{Stmt, HeaderTy, Global, Callable, Table, Program}
+use Rattle.rules.specs.Syntax.{Stmt, HeaderTy, Global, Callable, Table, ParserState, Program}
 use Rattle.rules.specs.Reading.{Got, got, bad, Reader, andThen, _>>=_, pure, between, listOf, deepest, mostHeaders, mostGlobals, mostCallables, mostTables}
-use Rattle.rules.specs.Reading.{readStmt, readHeader, readGlobal, readCallable, readTable, readAfterVersion, versionOf, readProgram}
+use Rattle.rules.specs.Reading.{readStmt, readHeader, readGlobal, readCallable, readTable, readStates, readAfterVersion, versionOf, readProgram}
 use Rattle.rules.proofs.Readers.{Kept, Keeps, keeps-then, keeps-pure, keeps-between, keeps-list, keeps-header, keeps-global, keeps-callable, keeps-table}
 use Rattle.shape.specs.Scans.{forget, scanOf}
 use Rattle.shape.specs.Leads.{valued, valueOf}
 use Rattle.shape.specs.Directory.{stmtAt, directoryOf, directoryLeft}
-use Rattle.shape.specs.Ends.{mostNumbers, layStmt, endsOf, endsLeft, ScansProgram}
-use Rattle.shape.specs.Walks.{Laid, Lays, noEnds, endsDefined}
-use Rattle.shape.specs.Walks.{readDeclared, layDeclared, readDefined, layDefined, layBody}
+use Rattle.shape.specs.Ends.{mostNumbers, statesAt, blocksAt, endsOf, endsLeft, ScansProgram}
+use Rattle.shape.specs.Walks.{Laid, Lays, noEnds, endsDefined, endsBlocks}
+use Rattle.shape.specs.Walks.{readDeclared, layDeclared, readDefined, layDefined, layStates, layBody, readBlocks, layBlocks}
 use Rattle.shape.specs.declared.Scan.{Scan}
 use Rattle.shape.specs.declared.Scan.the-variants.{Past, Fault}
 use Rattle.shape.specs.declared.looks.Value.{Value}
 use Rattle.shape.specs.declared.looks.Value.the-variants.{Of, Unread}
 use Rattle.shape.proofs.Lays.{lays-then, lays-fault, lays-as, lays-next, pair-then, then-same}
-use Rattle.shape.proofs.Starts.{begins-body}
+use Rattle.shape.proofs.Transitions.{begins-blocks}
 
 -- what follows the version, in three parts
 module _ (version : ℕ) where
@@ -29,40 +29,53 @@ module _ (version : ℕ) where
   abbrev pub Defined : Type 0
   Defined = List Callable × List Table
 
-  unfoldable pub tree : Declared → Defined × Stmt → Program
-  tree d q =
-      record { version = version; headers = d .0; globals = d .1; callables = q .0 .0; tables = q .0 .1; body = q .1 }
+  abbrev pub Blocks : Type 0
+  Blocks = List ParserState × Stmt
 
-  unfoldable pub readRest : Reader (Defined × Stmt)
-  readRest = readDefined version >>= λ f. readStmt version deepest >>= λ body. pure (f, body)
+  unfoldable pub tree : Declared → Defined × Blocks → Program
+  tree d q = record {
+    version = version;
+    headers = d .0;
+    globals = d .1;
+    callables = q .0 .0;
+    tables = q .0 .1;
+    states = q .1 .0;
+    body = q .1 .1;
+  }
 
-  layRest : Defined × Stmt → ℕ → List ℕ → List ℕ
-  layRest q end slots = layBody (q .1) end (layDefined (q .0) 0 slots)
+  unfoldable pub readRest : Reader (Defined × Blocks)
+  readRest = readDefined version >>= λ f. readBlocks version >>= λ b. pure (f, b)
 
-  unfoldable pub endsRest : Defined × Stmt → ℕ → List ℕ → List ℕ
-  endsRest q end slots = layStmt (q .1) end (endsDefined (q .0) (stmtAt (q .1)) slots)
+  layRest : Defined × Blocks → ℕ → List ℕ → List ℕ
+  layRest q end slots = layBlocks (q .1) end (layDefined (q .0) 0 slots)
+
+  unfoldable pub endsRest : Defined × Blocks → ℕ → List ℕ → List ℕ
+  endsRest q end slots =
+      endsBlocks (q .1) end (endsDefined (q .0) (statesAt (q .1 .0) (stmtAt (q .1 .1))) slots)
 
   unfoldable pub inThree : Reader Program
   inThree = readDeclared version >>= λ d. readRest >>= λ q. pure (tree d q)
 
-  inTwo : Declared → Reader Program
-  inTwo d = readDefined version >>= λ f. readStmt version deepest >>= λ body. pure (tree d (f, body))
+  inBlocks : Declared → Defined → Reader Program
+  inBlocks d f = readStates version >>= λ states. readStmt version deepest >>= λ body. pure (tree d (f, (states, body)))
 
   inOne : Declared → Reader Program
   inOne d = listOf 0 mostCallables (readCallable version) >>= λ callables.
-      listOf 0 mostTables (readTable version) >>= λ tables.
-      readStmt version deepest >>= λ body. pure (tree d ((callables, tables), body))
+      listOf 0 mostTables (readTable version) >>= λ tables. inBlocks d (callables, tables)
 
   one-two-three : (d : Declared) (left : List ℕ) (at : ℕ)
       → inOne d left at ≡ (readRest >>= λ q. pure (tree d q)) left at
-  unfolding inOne inTwo readRest readDefined
+  unfolding inOne inBlocks readRest readDefined readBlocks
   one-two-three d left at =
       pair-then (listOf 0 mostCallables (readCallable version)) (listOf 0 mostTables (readTable version))
-      (λ callables tables. readStmt version deepest >>= λ body. pure (tree d ((callables, tables), body))) left at
-      ∙ pair-then (readDefined version) (readStmt version deepest) (λ f body. pure (tree d (f, body))) left at
+      (λ callables tables. inBlocks d (callables, tables)) left at
+      ∙ then-same (readDefined version) left at (inBlocks d) (λ f. readBlocks version >>= λ b. pure (tree d (f, b)))
+      (λ f rest i. pair-then (readStates version) (readStmt version deepest)
+      (λ states body. pure (tree d (f, (states, body)))) rest i)
+      ∙ pair-then (readDefined version) (readBlocks version) (λ f b. pure (tree d (f, b))) left at
 
   pub three : (left : List ℕ) (at : ℕ) → readAfterVersion version left at ≡ inThree left at
-  unfolding inThree inOne tree readAfterVersion readDeclared
+  unfolding inThree inOne inBlocks tree readAfterVersion readDeclared
   three left at =
       pair-then (listOf 0 mostHeaders (readHeader version)) (listOf 0 mostGlobals (readGlobal version))
       (λ headers globals. inOne (headers, globals)) left at
@@ -84,33 +97,33 @@ module _ (version : ℕ) where
 
 module _ (version : ℕ) (nums : List ℕ) (at n m f i : ℕ) (found mid third filled : List ℕ) (a b r : Scan) where
   rest-lays : Lays (readDefined version) layDefined nums n mid third b → b ≡ Past m
-      → Lays (readStmt version deepest) layBody nums m third filled r
+      → Lays (readBlocks version) layBlocks nums m third filled r
       → Lays (readRest version) (layRest version) nums n mid filled r
   unfolding readRest layRest layDefined
-  rest-lays w p v = lays-then (λ d s. (d, s)) (layRest version) (λ d s k next slots. refl) (keeps-defined version) w p v
+  rest-lays w p v = lays-then (λ d b. (d, b)) (layRest version) (λ d b k next slots. refl) (keeps-defined version) w p v
 
   all-lays : Lays (readDeclared version) layDeclared nums at found mid a → a ≡ Past n
       → Lays (readRest version) (layRest version) nums n mid filled r
       → Lays (readAfterVersion version) directoryOf nums at found filled r
-  unfolding inThree layRest layDeclared layDefined layBody directoryOf tree
+  unfolding inThree layRest layDeclared layDefined layBlocks layStates layBody directoryOf tree
   all-lays w p v = lays-as (three version (drop at nums) at)
       (lays-then (tree version) directoryOf (λ d q k next slots. refl) (keeps-declared version) w p v)
 
   -- and the ends
   pub after-ends : Lays (readDeclared version) noEnds nums at found mid a → a ≡ Past n
       → Lays (readDefined version) endsDefined nums n mid third b
-      → b ≡ Past m → Lays (readStmt version deepest) layStmt nums m third filled r
+      → b ≡ Past m → Lays (readBlocks version) endsBlocks nums m third filled r
       → Lays (readAfterVersion version) endsOf nums at found filled r
-  unfolding inThree readRest endsRest endsDefined endsOf tree noEnds
+  unfolding inThree readRest endsRest endsDefined endsBlocks endsOf blocksAt tree noEnds
   after-ends w p v q u = lays-as (three version (drop at nums) at)
       (lays-then (tree version) endsOf (λ d q k next slots. refl) (keeps-declared version) w p
-      (lays-next (λ d s. (d, s)) (endsRest version) (λ s end. stmtAt s) (λ d s next slots. refl) (keeps-defined version)
-      (begins-body version deepest) v q u))
+      (lays-next (λ d b. (d, b)) (endsRest version) (λ b end. statesAt (b .0) (stmtAt (b .1)))
+      (λ d b next slots. refl) (keeps-defined version) (begins-blocks version) v q u))
 
   pub after-defined-ends : Lays (readDeclared version) noEnds nums at found mid a → a ≡ Past n
       → Lays (readDefined version) endsDefined nums n mid filled b
       → b ≡ Fault f i → Lays (readAfterVersion version) endsOf nums at found filled (Fault f i)
-  unfolding inThree readRest endsRest endsDefined endsOf tree noEnds
+  unfolding inThree readRest endsRest endsDefined endsBlocks endsOf blocksAt tree noEnds
   after-defined-ends w p v q = lays-as (three version (drop at nums) at)
       (lays-then (tree version) endsOf (λ d q k next slots. refl) (keeps-declared version) w p
       (lays-fault _ (endsRest version) mid v q))
@@ -122,14 +135,14 @@ module _ (version : ℕ) (nums : List ℕ) (at n m f i : ℕ) (found mid third f
 
   pub after-past : Lays (readDeclared version) layDeclared nums at found mid a → a ≡ Past n
       → Lays (readDefined version) layDefined nums n mid third b
-      → b ≡ Past m → Lays (readStmt version deepest) layBody nums m third filled r
+      → b ≡ Past m → Lays (readBlocks version) layBlocks nums m third filled r
       → Lays (readAfterVersion version) directoryOf nums at found filled r
   after-past w p v q u = all-lays w p (rest-lays v q u)
 
   pub after-defined : Lays (readDeclared version) layDeclared nums at found mid a → a ≡ Past n
       → Lays (readDefined version) layDefined nums n mid filled b
       → b ≡ Fault f i → Lays (readAfterVersion version) directoryOf nums at found filled (Fault f i)
-  unfolding inThree readRest layRest layDeclared layDefined layBody directoryOf tree
+  unfolding inThree readRest layRest layDeclared layDefined layBlocks layStates layBody directoryOf tree
   after-defined w p v q = lays-as (three version (drop at nums) at)
       (lays-then (tree version) directoryOf (λ d q k next slots. refl) (keeps-declared version) w p
       (lays-fault _ (layRest version) mid v q))

@@ -143,36 +143,36 @@ pub ruleset walks = (
 )
 
 -- a list of parts
-module _ (one : ℕ → Scan) (most : ℕ) (nums : List ℕ) (at slot : ℕ) (found : List ℕ) (v : Value)
-    (q : v ≡ valueOf 0 most nums at) where
+module _ (one : ℕ → Scan) (least most : ℕ) (nums : List ℕ) (at slot : ℕ) (found : List ℕ) (v : Value)
+    (q : v ≡ valueOf least most nums at) where
   pub list-walked : (n next : ℕ) (r : Scan) (filled : List ℕ) → v ≡ Of n next
       → Walked one n next (slot + 1) (set found slot n) filled r
-      → WalkedList one most nums at slot found filled r
+      → WalkedList one least most nums at slot found filled r
   unfolding laidList
   list-walked n next r filled p w = record
-      { scan = list-of one 0 most nums at v q n next r p (w .scan); laid = w .laid ∙ rw (← q, p, add-one slot) }
+      { scan = list-of one least most nums at v q n next r p (w .scan); laid = w .laid ∙ rw (← q, p, add-one slot) }
 
-  pub list-unwalked : (f i : ℕ) → v ≡ Unread f i → WalkedList one most nums at slot found found (Fault f i)
+  pub list-unwalked : (f i : ℕ) → v ≡ Unread f i → WalkedList one least most nums at slot found found (Fault f i)
   unfolding laidList
-  list-unwalked f i p = record { scan = list-fault one 0 most nums at v q f i p; laid = rw (← q, p) }
+  list-unwalked f i p = record { scan = list-fault one least most nums at v q f i p; laid = rw (← q, p) }
 
-module _ (version : ℕ) (part : Part) (most : ℕ) (nums : List ℕ) (at : ℕ) (found : List ℕ) (v : Value)
-    (q : v ≡ valueOf 0 most nums at) where
+module _ (version : ℕ) (part : Part) (least most : ℕ) (nums : List ℕ) (at : ℕ) (found : List ℕ) (v : Value)
+    (q : v ≡ valueOf least most nums at) where
   pub list-ends : (n next : ℕ) (filled : List ℕ) (r : Scan) → v ≡ Of n next
       → LaysParts version part n nums next found filled r
-      → LaysList version part most nums at found filled r
+      → LaysList version part least most nums at found filled r
   unfolding listEnds
   list-ends n next filled r p w = record { laid = rw (← q, p) (w .laid) }
 
-  pub list-no-ends : (f i : ℕ) → v ≡ Unread f i → LaysList version part most nums at found found (Fault f i)
+  pub list-no-ends : (f i : ℕ) → v ≡ Unread f i → LaysList version part least most nums at found found (Fault f i)
   unfolding listEnds
   list-no-ends f i p = record { laid = rw (← q, p) tt }
 
-pub list-room : (most : ℕ) (nums : List ℕ) (at slot n next : ℕ) (v : Value) → v ≡ valueOf 0 most nums at
+pub list-room : (least most : ℕ) (nums : List ℕ) (at slot n next : ℕ) (v : Value) → v ≡ valueOf least most nums at
     → v ≡ Of n next → slot + most < slotCount
     → slot + 1 + n ≤ slotCount
 unfolding AtMost
-list-room most nums at slot n next v q p h = omega (arith, rw (← q, p) at (value-most 0 most nums at))
+list-room least most nums at slot n next v q p h = omega (arith, rw (← q, p) at (value-most least most nums at))
 
 pub ruleset listWalks = (list-walked, list-unwalked, list-ends, list-no-ends, list-room)
 

@@ -1,14 +1,15 @@
 -- The directory: where the parts of a program begin, for the passes that come after. A list has a slot for its count
 -- and one for each member it may have; the apply body and the program's end have a slot each. Slots of members that a
--- list has not are left as found. The slots behind these are for what a run looks up besides: where each global stands in
--- the store, where each entry begins, the widths of the tables' keys.
+-- list has not are left as found; a version without a parser has no states, and their count is 0. The slots behind these
+-- are for what a run looks up besides: where each global stands in the store, where each entry begins, the widths of the
+-- tables' keys.
 use mathlib.Core.List.{List, [], _∷_, map}
 use Prim.Native.Nat.{ℕ, _+_, _*_}
 use lib.ListN.{length}
 use lib.Seq.{sets}
-use Rattle.rules.specs.Syntax.{Program, HeaderTy, Global, Callable, Table}
-use Rattle.rules.specs.Syntax.{Stmt, empty, assign, ifElse, block, callStmt, apply, returnValue, return, exit, setValid, setInvalid}
-use Rattle.rules.specs.Reading.{Got, got, bad, mostHeaders, mostGlobals, mostCallables, mostTables, mostKeys}
+use Rattle.rules.specs.Syntax.{Program, HeaderTy, Global, Callable, Table, ParserState}
+use Rattle.rules.specs.Syntax.{Stmt, empty, assign, ifElse, block, callStmt, apply, returnValue, return, exit, setValid, setInvalid, extract, verify}
+use Rattle.rules.specs.Reading.{Got, got, bad, mostHeaders, mostGlobals, mostCallables, mostTables, mostStates, mostKeys}
 use Rattle.rules.specs.Lists.{mostEntries}
 
 -- a statement's own tag
@@ -24,8 +25,11 @@ stmtAt (return at) = at
 stmtAt (exit at) = at
 stmtAt (setValid at global) = at
 stmtAt (setInvalid at global) = at
+stmtAt (extract at global) = at
+stmtAt (verify at condition error) = at
 
--- the slots: those of the lists' counts, the body's, the end's; the first of those for a run; and how many there are
+-- the slots: those of the lists' counts, the body's, the end's, the states' count; the first of those for a run; and how
+-- many there are
 abbrev pub headersSlot : ℕ
 headersSlot = 0
 
@@ -44,8 +48,11 @@ bodySlot = tablesSlot + 1 + mostTables
 abbrev pub endSlot : ℕ
 endSlot = bodySlot + 1
 
+abbrev pub statesSlot : ℕ
+statesSlot = endSlot + 1
+
 abbrev pub offsetsSlot : ℕ
-offsetsSlot = endSlot + 1
+offsetsSlot = statesSlot + 1 + mostStates
 
 abbrev pub entriesSlot : ℕ
 entriesSlot = offsetsSlot + mostGlobals + 1
@@ -69,9 +76,12 @@ unfoldable pub defined : List Callable → List Table → List ℕ → List ℕ
 defined callables tables slots = listed (listed slots callablesSlot (map (λ c. c .at) callables)) tablesSlot
     (map (λ t. t .at) tables)
 
+unfoldable pub stated : List ParserState → List ℕ → List ℕ
+stated states slots = listed slots statesSlot (map (λ s. s .at) states)
+
 unfoldable pub directoryOf : Program → ℕ → List ℕ → List ℕ
 directoryOf p end slots =
-    sets (defined (p .callables) (p .tables) (declared (p .headers) (p .globals) slots)) bodySlot
+    sets (stated (p .states) (defined (p .callables) (p .tables) (declared (p .headers) (p .globals) slots))) bodySlot
     (stmtAt (p .body) ∷ end ∷ [])
 
 -- and what they are left with: a fault leaves them as found

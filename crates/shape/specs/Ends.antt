@@ -1,14 +1,15 @@
 -- The ends: for each expression and each statement of a program the slot with its tag's index holds the index after it,
 -- so that later passes step over what they do not look at. A target is one such too. A construct ends where the next
--- one begins; the last of those inside another ends where that one does. Slots of other numbers are left as found.
+-- one begins; the last of those inside another ends where that one does, a verify's condition one number before. Slots
+-- of other numbers are left as found.
 use mathlib.Core.Path.{_≡_}
 use mathlib.Core.List.{List, [], _∷_}
 use Prim.Native.Nat.{ℕ, _-_}
 use lib.ListN.{getD, set, replicate}
 use Rattle.rules.specs.Numbers.{mostBytes}
 use Rattle.rules.specs.Syntax.{Expr, boolLiteral, bitsLiteral, readOf, validOf, negation, complement, binary, cast, slice, concatenation, callExpr, Args, noArgs, arg}
-use Rattle.rules.specs.Syntax.{Stmt, empty, assign, ifElse, block, callStmt, apply, returnValue, return, exit, setValid, setInvalid, Stmts, noStmts, stmt}
-use Rattle.rules.specs.Syntax.{Callable, Key, Numeral, Table, Program}
+use Rattle.rules.specs.Syntax.{Stmt, empty, assign, ifElse, block, callStmt, apply, returnValue, return, exit, setValid, setInvalid, extract, verify, Stmts, noStmts, stmt}
+use Rattle.rules.specs.Syntax.{Callable, Key, Numeral, Table, Pair, Transition, noTransition, accept, reject, leadTo, select, ParserState, Program}
 use Rattle.rules.specs.Reading.{Got, got, bad, readProgram}
 use Rattle.shape.specs.Directory.{stmtAt, directoryLeft}
 use Rattle.shape.specs.Scans.{scanOf}
@@ -76,6 +77,8 @@ unfoldable mutual
   layStmt (exit at) end slots = set slots at end
   layStmt (setValid at g) end slots = set slots at end
   layStmt (setInvalid at g) end slots = set slots at end
+  layStmt (extract at g) end slots = set slots at end
+  layStmt (verify at c e) end slots = set (layExpr c (end - 1) slots) at end
 
   pub layStmts : Stmts → ℕ → List ℕ → List ℕ
   layStmts noStmts end slots = slots
@@ -113,12 +116,48 @@ layTable t end slots = layAll keyAt layKey (t .keys) (firstAt numeralAt (t .acti
 unfoldable pub tableAt : Table → ℕ
 tableAt t = t .at
 
--- the callables end at the count of the tables, which stands before the first table, or before the body
+-- a select's expression ends at the count of the pairs
+unfoldable pub pairAt : Pair → ℕ
+pairAt p = p .value .at
+
+unfoldable pub layTransition : Transition → ℕ → List ℕ → List ℕ
+layTransition noTransition end slots = slots
+layTransition accept end slots = slots
+layTransition (reject e) end slots = slots
+layTransition (leadTo s) end slots = slots
+layTransition (select at e ps) end slots = layExpr e (firstAt pairAt ps end - 1) slots
+
+-- where a transition that ends at an index begins: there the state's statement ends
+unfoldable pub transitionAt : Transition → ℕ → ℕ
+transitionAt noTransition end = end - 1
+transitionAt accept end = end - 1
+transitionAt (reject e) end = end - 2
+transitionAt (leadTo s) end = s .at - 1
+transitionAt (select at e ps) end = at
+
+unfoldable pub stateAt : ParserState → ℕ
+stateAt s = s .at
+
+unfoldable pub layState : ParserState → ℕ → List ℕ → List ℕ
+layState s end slots =
+    layTransition (s .transition) end (layStmt (s .body) (transitionAt (s .transition) end) slots)
+
+-- where the states that end at an index begin: at their count, where there are any
+unfoldable pub statesAt : List ParserState → ℕ → ℕ
+statesAt [] end = end
+statesAt (s ∷ ss) end = stateAt s - 1
+
+-- where the states and the body begin
+unfoldable pub blocksAt : Program → ℕ
+blocksAt p = statesAt (p .states) (stmtAt (p .body))
+
+-- the callables end at the count of the tables, which stands before the first table, or before what follows the tables
 unfoldable pub endsOf : Program → ℕ → List ℕ → List ℕ
 endsOf p end slots =
     layStmt (p .body) end
-    (layAll tableAt layTable (p .tables) (stmtAt (p .body))
-    (layAll callableAt layCallable (p .callables) (firstAt tableAt (p .tables) (stmtAt (p .body)) - 1) slots))
+    (layAll stateAt layState (p .states) (stmtAt (p .body))
+    (layAll tableAt layTable (p .tables) (blocksAt p)
+    (layAll callableAt layCallable (p .callables) (firstAt tableAt (p .tables) (blocksAt p) - 1) slots)))
 
 -- and what they are left with: a fault leaves zeros
 unfoldable pub endsLeft : Got Program → List ℕ → List ℕ
@@ -168,6 +207,8 @@ unfoldable mutual
   EndedStmt (exit at) end slots = getD slots at 0 ≡ end
   EndedStmt (setValid at g) end slots = getD slots at 0 ≡ end
   EndedStmt (setInvalid at g) end slots = getD slots at 0 ≡ end
+  EndedStmt (extract at g) end slots = getD slots at 0 ≡ end
+  EndedStmt (verify at c e) end slots = (getD slots at 0 ≡ end) × EndedExpr c (end - 1) slots
 
   pub EndedStmts : Stmts → ℕ → List ℕ → Type 0
   EndedStmts noStmts end slots = Unit
@@ -186,8 +227,19 @@ EndedCallable c end slots = EndedStmt (c .body) end slots
 unfoldable pub EndedTable : Table → ℕ → List ℕ → Type 0
 EndedTable t end slots = EndedAll keyAt EndedKey (t .keys) (firstAt numeralAt (t .actions) (t .default .at) - 1) slots
 
+unfoldable pub EndedTransition : Transition → ℕ → List ℕ → Type 0
+EndedTransition noTransition end slots = Unit
+EndedTransition accept end slots = Unit
+EndedTransition (reject e) end slots = Unit
+EndedTransition (leadTo s) end slots = Unit
+EndedTransition (select at e ps) end slots = EndedExpr e (firstAt pairAt ps end - 1) slots
+
+unfoldable pub EndedState : ParserState → ℕ → List ℕ → Type 0
+EndedState s end slots =
+    EndedStmt (s .body) (transitionAt (s .transition) end) slots × EndedTransition (s .transition) end slots
+
 pub record EndedProgram (p : Program) (end : ℕ) (slots : List ℕ) : Type 0 where
-  pub callables : EndedAll callableAt EndedCallable (p .callables)
-      (firstAt tableAt (p .tables) (stmtAt (p .body)) - 1) slots
-  pub tables : EndedAll tableAt EndedTable (p .tables) (stmtAt (p .body)) slots
+  pub callables : EndedAll callableAt EndedCallable (p .callables) (firstAt tableAt (p .tables) (blocksAt p) - 1) slots
+  pub tables : EndedAll tableAt EndedTable (p .tables) (blocksAt p) slots
+  pub states : EndedAll stateAt EndedState (p .states) (stmtAt (p .body)) slots
   pub body : EndedStmt (p .body) end slots

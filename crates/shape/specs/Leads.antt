@@ -1,16 +1,17 @@
 -- How an expression or a statement is scanned: its lead, which is its tag and the numbers behind it, then its operands,
 -- then its statements. What the functions below the public ones promise one another.
+use mathlib.Core.Bool.{true, false}
 use mathlib.Core.Option.{Option, none, some}
 use mathlib.Core.List.{List}
-use Prim.Native.Nat.{ℕ, suc, _+_, _<_}
+use Prim.Native.Nat.{ℕ, suc, _+_, _-_, _<_}
 use mathlib.Core.Path.{_≡_}
 use lib.ListN.{length, drop, set, getElem?}
 use Rattle.rules.specs.Words.{widest}
 use Rattle.rules.specs.Syntax.{Expr, Stmt}
-use Rattle.rules.specs.Reading.{Got, got, bad, Reader, _>>=_, pure, number, between, standsFor, repeat, mostArguments, mostMembers, highestBound}
+use Rattle.rules.specs.Reading.{Got, got, bad, Reader, _>>=_, pure, number, between, standsFor, repeat, mostArguments, mostMembers, mostError, highestBound}
 use Rattle.rules.specs.Reading.{PlaceTag, tagLocal, tagParameter, tagGlobal, tagField, ExprTag, tagBool, tagBits, tagPlace, tagValid, tagNot, tagComplement, tagBinary, tagCast, tagSlice, tagConcatenation, tagCall}
-use Rattle.rules.specs.Reading.{StmtTag, tagEmpty, tagAssign, tagIf, tagBlock, tagCallStmt, tagApply, tagReturnValue, tagReturn, tagExit, tagSetValid, tagSetInvalid}
-use Rattle.rules.specs.Reading.{operators, exprTags, placeTagOf, stmtTags, readExpr, readTarget, readStmt}
+use Rattle.rules.specs.Reading.{StmtTag, tagEmpty, tagAssign, tagIf, tagBlock, tagCallStmt, tagApply, tagReturnValue, tagReturn, tagExit, tagSetValid, tagSetInvalid, tagExtract, tagVerify}
+use Rattle.rules.specs.Reading.{operators, exprTags, placeTagOf, hasParser, stmtTags, readExpr, readTarget, readStmt}
 use Rattle.shape.specs.declared.Scan.{Scan}
 use Rattle.shape.specs.declared.Scan.the-variants.{Past, Fault}
 use Rattle.shape.specs.declared.looks.Value.{Value}
@@ -20,7 +21,7 @@ use Rattle.shape.specs.declared.expressions.Lead.the-variants.{On, Off}
 use Rattle.shape.specs.declared.statements.PlaceForm.{PlaceForm}
 use Rattle.shape.specs.declared.statements.PlaceForm.the-variants.{OneNumber, TwoNumbers, NoPlace}
 use Rattle.shape.specs.declared.statements.StmtForm.{StmtForm}
-use Rattle.shape.specs.declared.statements.StmtForm.the-variants.{Bare, Assign, If, Block, CallStmt, Named, Returned, NoStmt}
+use Rattle.shape.specs.declared.statements.StmtForm.the-variants.{Bare, Assign, If, Block, CallStmt, Named, Returned, Verified, NoStmt}
 use Rattle.shape.specs.declared.expressions.ExprForm.{ExprForm}
 use Rattle.shape.specs.declared.expressions.ExprForm.the-variants.{Number, Field, Literal, Operand, Binary, Cast, Slice, Operands, Call, Unlisted}
 use Rattle.shape.specs.Scans.{scanOf}
@@ -109,10 +110,15 @@ unfoldable pub AgreeOn : {A B : Type 0} → (A → B → Type 0) → Got A → (
 AgreeOn P x parts nums (On next operands statements) = Agree P x (parts operands statements (drop next nums) next)
 AgreeOn P x parts nums (Off number index) = Unit
 
--- the slots of a construct are those of its parts and its own tag's
-pub record Made {A B : Type 0} (lay : A → ℕ → List ℕ → List ℕ) (layParts : B → ℕ → List ℕ → List ℕ) (at : ℕ)
-    (found mid : List ℕ) (a : A) (b : B) : Type 0 where
-  pub made : (end : ℕ) → lay a end found ≡ set (layParts b end mid) at end
+-- where the parts begin
+unfoldable pub nextOf : Lead → ℕ
+nextOf (On next operands statements) = next
+nextOf (Off number index) = 0
+
+-- the slots of a construct, whose parts begin at an index, are those of its parts and its own tag's
+pub record Made {A B : Type 0} (start : B → ℕ → ℕ) (lay : A → ℕ → List ℕ → List ℕ)
+    (layParts : B → ℕ → List ℕ → List ℕ) (at next : ℕ) (found mid : List ℕ) (a : A) (b : B) : Type 0 where
+  pub made : (end : ℕ) → start b end ≡ next → lay a end found ≡ set (layParts b end mid) at end
 
 abbrev pub layExprs : List Expr → ℕ → List ℕ → List ℕ
 layExprs = layAll exprAt layExpr
@@ -128,6 +134,9 @@ readParts version depth operands statements =
     repeat operands (readExpr version depth) >>= λ xs. repeat statements (readStmt version depth) >>= λ ss.
     pure (xs, ss)
 
+unfoldable pub partsAt : List Expr × List Stmt → ℕ → ℕ
+partsAt p end = firstAt exprAt (p .0) (firstAt stmtAt (p .1) end)
+
 unfoldable pub layParts : List Expr × List Stmt → ℕ → List ℕ → List ℕ
 layParts p end slots = layMembers (p .1) end (layExprs (p .0) (firstAt stmtAt (p .1) end) slots)
 
@@ -140,7 +149,8 @@ Tagged nums at (Off number index) = Unit
 pub record LeadsExpr (version : ℕ) (nums : List ℕ) (at : ℕ) (lead : Lead) : Type 0 where
   pub expr : (depth : ℕ) → scanOf (readExpr version (suc depth)) nums at
       ≡ onLead lead (λ next operands statements. scanOf (repeat operands (readExpr version depth)) nums next)
-  pub tree : (depth : ℕ) (slots : List ℕ) → AgreeOn (Made layExpr layExprs at slots slots)
+  pub tree : (depth : ℕ) (slots : List ℕ)
+      → AgreeOn (Made (firstAt exprAt) layExpr layExprs at (nextOf lead) slots slots)
       (readExpr version (suc depth) (drop at nums) at) (readOperands version depth) nums lead
   pub tag : Tagged nums at lead
 
@@ -174,14 +184,24 @@ stmtFormOf (some tagReturn) = Bare
 stmtFormOf (some tagExit) = Bare
 stmtFormOf (some tagSetValid) = Named
 stmtFormOf (some tagSetInvalid) = Named
+stmtFormOf (some tagExtract) = Named
+stmtFormOf (some tagVerify) = Verified
 
 unfoldable pub stmtForm : ℕ → ℕ → StmtForm
 stmtForm version n = stmtFormOf (getElem? (stmtTags version) n)
+
+-- a form that only versions with a parser have
+unfoldable pub parserForm : ℕ → StmtForm → StmtForm
+parserForm version form = elim (hasParser version) [ true ↦ form | false ↦ NoStmt ]
 
 -- a block up to its members
 unfoldable pub blockLead : Value → Lead
 blockLead (Of count next) = On next 0 count
 blockLead (Unread number index) = Off number index
+
+-- a verify's condition and error: nothing follows them, so they belong to the lead
+unfoldable pub readVerify : ℕ → ℕ → Reader (Expr × ℕ)
+readVerify version depth = readExpr version depth >>= λ c. between 0 mostError >>= λ e. pure (c, e)
 
 unfoldable pub stmtLead : ℕ → ℕ → StmtForm → List ℕ → ℕ → Lead
 stmtLead version depth Bare nums at = leadBy (Past (at + 1)) 0 0
@@ -191,6 +211,7 @@ stmtLead version depth Block nums at = blockLead (valueOf 0 mostMembers nums (at
 stmtLead version depth CallStmt nums at = callLead nums (scanOf number nums (at + 1))
 stmtLead version depth Named nums at = leadBy (scanOf number nums (at + 1)) 0 0
 stmtLead version depth Returned nums at = leadBy (Past (at + 1)) 1 0
+stmtLead version depth Verified nums at = leadBy (scanOf (readVerify version depth) nums (at + 1)) 0 0
 stmtLead version depth NoStmt nums at = Off 4 at
 
 -- the lead of an assignment, and the end of its target
@@ -202,6 +223,19 @@ pub record LeadsTarget (version depth : ℕ) (nums : List ℕ) (at : ℕ) (found
   pub lead : r ≡ leadBy (scanOf (readTarget version depth) nums at) 1 0
   pub laid : mid ≡ laidTarget (scanOf (readTarget version depth) nums at) at found
 
+-- and of a verify, with the end of its condition; a lead that is off tells nothing of the slots
+unfoldable pub laidVerify : Got (Expr × ℕ) → List ℕ → List ℕ
+laidVerify (got v left next) slots = layExpr (v .0) (next - 1) slots
+laidVerify (bad number index) slots = slots
+
+unfoldable pub LaidOn : Lead → List ℕ → List ℕ → Type 0
+LaidOn (On next operands statements) mid slots = mid ≡ slots
+LaidOn (Off number index) mid slots = Unit
+
+pub record LeadsVerify (version depth : ℕ) (nums : List ℕ) (at : ℕ) (found mid : List ℕ) (r : Lead) : Type 0 where
+  pub lead : r ≡ leadBy (scanOf (readVerify version depth) nums at) 0 0
+  pub laid : LaidOn r mid (laidVerify (readVerify version depth (drop at nums) at) found)
+
 unfoldable pub stmtLaid : ℕ → ℕ → StmtForm → List ℕ → ℕ → List ℕ → List ℕ
 stmtLaid version depth Bare nums at slots = slots
 stmtLaid version depth Assign nums at slots =
@@ -211,18 +245,20 @@ stmtLaid version depth Block nums at slots = slots
 stmtLaid version depth CallStmt nums at slots = slots
 stmtLaid version depth Named nums at slots = slots
 stmtLaid version depth Returned nums at slots = slots
+stmtLaid version depth Verified nums at slots =
+    laidVerify (readVerify version depth (drop (at + 1) nums) (at + 1)) slots
 stmtLaid version depth NoStmt nums at slots = slots
 
 pub record LeadsForm (version depth : ℕ) (form : StmtForm) (nums : List ℕ) (at : ℕ) (found mid : List ℕ)
     (r : Lead) : Type 0 where
   pub lead : r ≡ stmtLead version depth form nums at
-  pub laid : mid ≡ stmtLaid version depth form nums at found
+  pub laid : LaidOn r mid (stmtLaid version depth form nums at found)
 
 -- the lead of a statement at an index, with so many levels allowed below it: with what follows it is the statement
 pub record LeadsStmt (version depth : ℕ) (nums : List ℕ) (at : ℕ) (found mid : List ℕ) (lead : Lead) : Type 0 where
   pub stmt : scanOf (readStmt version (suc depth)) nums at ≡ onLead lead (λ next operands statements.
       onScan (scanOf (repeat operands (readExpr version depth)) nums next)
       (scanOf (repeat statements (readStmt version depth)) nums))
-  pub tree : AgreeOn (Made layStmt layParts at found mid) (readStmt version (suc depth) (drop at nums) at)
-      (readParts version depth) nums lead
+  pub tree : AgreeOn (Made partsAt layStmt layParts at (nextOf lead) found mid)
+      (readStmt version (suc depth) (drop at nums) at) (readParts version depth) nums lead
   pub tag : Tagged nums at lead

@@ -4,19 +4,19 @@ use mathlib.Core.List.{List}
 use Prim.Native.Nat.{ℕ, zero, suc, _-_}
 use lib.ListN.{getElem?}
 use Rattle.rules.specs.Words.{widest}
-use Rattle.rules.specs.Syntax.{Ty, Parameter, Key, Numeral}
-use Rattle.rules.specs.Reading.{mostParameters, mostLocals, mostKeys, mostActions, mostArguments}
+use Rattle.rules.specs.Syntax.{Ty, Parameter, Key, Numeral, Pair, Expr}
+use Rattle.rules.specs.Reading.{mostParameters, mostLocals, mostKeys, mostActions, mostArguments, mostPairs, deepest}
 use Rattle.rules.specs.Reading.{Reader, _>>=_, pure, here, between, standsFor, listOf, callableKinds, typeOf}
-use Rattle.rules.specs.Reading.{readHeader, readGlobal, readParameter, readReturns, readCallable, readNumeral, readKey, readTable}
+use Rattle.rules.specs.Reading.{readExpr, readHeader, readGlobal, readParameter, readReturns, readCallable, readNumeral, readKey, readTable, readPair, readState}
 use Rattle.shape.specs.Scans.{scanOf}
-use Rattle.shape.specs.Ends.{firstAt, layAll, keyAt, layKey, numeralAt}
+use Rattle.shape.specs.Ends.{layExpr, firstAt, layAll, keyAt, layKey, numeralAt, pairAt}
 use Rattle.shape.specs.Leads.{onScan, valueOf, onValue}
 use Rattle.shape.specs.declared.Scan.{Scan}
 use Rattle.shape.specs.declared.Scan.the-variants.{Past}
 use Rattle.shape.specs.declared.items.Item.{Item}
-use Rattle.shape.specs.declared.items.Item.the-variants.{WidthItem, TypeItem, ParameterItem, NumeralItem}
+use Rattle.shape.specs.declared.items.Item.the-variants.{WidthItem, TypeItem, ParameterItem, NumeralItem, PairItem}
 use Rattle.shape.specs.declared.program.Part.{Part}
-use Rattle.shape.specs.declared.program.Part.the-variants.{HeaderPart, GlobalPart, CallablePart, TablePart}
+use Rattle.shape.specs.declared.program.Part.the-variants.{HeaderPart, GlobalPart, CallablePart, TablePart, StatePart}
 
 -- so many of a kind, and a list of them
 unfoldable pub repeatScan : (ℕ → Scan) → ℕ → ℕ → Scan
@@ -32,6 +32,7 @@ itemScan version WidthItem = scanOf (between 1 widest)
 itemScan version TypeItem = scanOf (standsFor (typeOf version))
 itemScan version ParameterItem = scanOf (readParameter version)
 itemScan version NumeralItem = scanOf (readNumeral version)
+itemScan version PairItem = scanOf (readPair version)
 
 -- a callable up to its parameters: its kind and, of a function, its return type
 unfoldable pub readReturning : ℕ → Reader (Option Ty)
@@ -62,9 +63,18 @@ readDefault version =
     listOf 0 mostArguments (readNumeral version) >>= λ arguments.
     pure (position, (countAt, arguments))
 
+-- a select's expression and pairs
+unfoldable pub readSelect : ℕ → Reader (Expr × List Pair)
+readSelect version =
+    readExpr version deepest >>= λ e. listOf 0 mostPairs (readPair version) >>= λ ps. pure (e, ps)
+
+unfoldable pub laySelect : Expr × List Pair → ℕ → List ℕ → List ℕ
+laySelect p end slots = layExpr (p .0) (firstAt pairAt (p .1) end - 1) slots
+
 -- what the directory tells the beginnings of
 unfoldable pub partScan : ℕ → Part → List ℕ → ℕ → Scan
 partScan version HeaderPart = scanOf (readHeader version)
 partScan version GlobalPart = scanOf (readGlobal version)
 partScan version CallablePart = scanOf (readCallable version)
 partScan version TablePart = scanOf (readTable version)
+partScan version StatePart = scanOf (readState version)

@@ -1,7 +1,7 @@
-// What stands in lists inside a part of a program: widths, types, parameters, numerals.
+// What stands in lists inside a part of a program: widths, types, parameters, numerals, pairs.
 ghost use mathlib.Core.Path.{_≡_};
 ghost use lib.ListN.{getElem?};
-ghost use Rattle.rules.specs.Reading.{standsFor, directions, readParameter, readNumeral};
+ghost use Rattle.rules.specs.Reading.{standsFor, directions, readParameter, readNumeral, readPair};
 ghost use Rattle.shape.specs.Parts.{itemScan, repeatScan, listScan};
 ghost use Rattle.shape.specs.Scans.{scanOf};
 use super::Scan;
@@ -9,6 +9,7 @@ use super::limits::LAST_DIRECTION;
 use super::looks::Value;
 use super::looks::any_number;
 use super::looks::number_in;
+use super::looks::two_numbers;
 use super::looks::type_at;
 use super::looks::value_in;
 use super::looks::width_at;
@@ -19,6 +20,7 @@ pub(crate) enum Item {
     TypeItem,
     ParameterItem,
     NumeralItem,
+    PairItem,
 }
 
 // A parameter's direction.
@@ -46,6 +48,13 @@ pub(crate) fn numeral_at(nums: &[u64], version: u64, at: usize) -> Scan
     any_number(nums, at)
 }
 
+// A pair of a select: a value and a state's number.
+fn pair_at(nums: &[u64], version: u64, at: usize) -> Scan
+    ensures { λ r. ⌜ r ≡ scanOf (readPair version) (now (nums .entry)) at ⌝ }
+{
+    two_numbers(nums, at)
+}
+
 // The end of the item at `at`.
 fn item_at(nums: &[u64], version: u64, item: Item, at: usize) -> Scan
     ensures { λ r. ⌜ r ≡ itemScan version item (now (nums .entry)) at ⌝ }
@@ -55,6 +64,7 @@ fn item_at(nums: &[u64], version: u64, item: Item, at: usize) -> Scan
         Item::TypeItem => type_at(nums, version, at),
         Item::ParameterItem => parameter_at(nums, version, at),
         Item::NumeralItem => numeral_at(nums, version, at),
+        Item::PairItem => pair_at(nums, version, at),
     }
 }
 

@@ -8,6 +8,7 @@ pub mod limits;
 mod looks;
 mod program;
 mod statements;
+mod states;
 mod tables;
 
 ghost use Prim.Native.Nat.{_≤_};
@@ -27,15 +28,17 @@ pub const TABLES: usize = 59;
 pub const BODY: usize = 68;
 // The slot for the end of the program.
 pub const END: usize = 69;
+// The slot for the count of parser states, which is 0 where the version has no parser; each one's beginning follows.
+pub const STATES: usize = 70;
 // The first of the slots for where each global stands in the store, and where the store ends. A scan leaves them, and
 // those behind them, as found.
-pub const OFFSETS: usize = 70;
+pub const OFFSETS: usize = 87;
 // The slot for the count of entries; each one's beginning follows.
-pub const ENTRIES: usize = 103;
+pub const ENTRIES: usize = 120;
 // The first of the slots for the widths of the tables' keys.
-pub const WIDTHS: usize = 168;
+pub const WIDTHS: usize = 185;
 // How many slots the directory has.
-pub const SLOTS: usize = 200;
+pub const SLOTS: usize = 217;
 // How many slots the ends have: one for each number that a file may have.
 pub const NUMBERS: usize = 4096;
 

@@ -1,7 +1,11 @@
 // What the rules allow at most: versions, levels, widths, the members of each list.
+ghost use mathlib.Core.Path.{_≡_};
+ghost use Rattle.rules.specs.Reading.{hasParser};
 
 // The latest version, which is also the first.
 pub(crate) const LATEST: u64 = 1;
+// The first version whose files have a parser block.
+const FIRST_WITH_PARSER: u64 = 2;
 // The deepest level; bodies and keys are level 1.
 pub const DEEPEST: usize = 32;
 // The widest bit string.
@@ -14,6 +18,10 @@ pub(crate) const LAST_OPERATOR: u64 = 13;
 pub(crate) const LAST_DIRECTION: u64 = 3;
 // The last kind of callable.
 pub(crate) const LAST_CALLABLE_KIND: u64 = 1;
+// The last transition of a state.
+pub(crate) const LAST_TRANSITION: u64 = 4;
+// The largest error.
+pub(crate) const MOST_ERROR: u64 = 255;
 // The last kind of key.
 pub(crate) const LAST_KEY_KIND: u64 = 2;
 // The first header type among the types of globals.
@@ -42,3 +50,14 @@ pub(crate) const MOST_ACTIONS: u64 = 8;
 pub(crate) const MOST_ARGUMENTS: u64 = 8;
 // The most members of a block.
 pub(crate) const MOST_MEMBERS: u64 = 64;
+// The most states of a parser block.
+pub(crate) const MOST_STATES: u64 = 16;
+// The most pairs of a select.
+pub(crate) const MOST_PAIRS: u64 = 16;
+
+// Whether the files of a version have a parser block.
+pub fn has_parser(version: u64) -> bool
+    ensures { λ r. ⌜ r ≡ hasParser version ⌝ }
+{
+    FIRST_WITH_PARSER <= version
+}

@@ -1,11 +1,11 @@
 // A program: its version, its parts one after the other, and where each of them begins.
 ghost use Prim.Native.Nat.{_+_, _<_, _≤_};
 ghost use lib.ListN.{length};
-ghost use Rattle.rules.specs.Reading.{deepest, readStmt, readAfterVersion, readProgram};
-ghost use Rattle.shape.specs.Walks.{Walked, WalkedList, Lays, readDeclared, layDeclared, readDefined, layDefined, layBody, LaysPart, LaysParts, LaysList, noEnds, endsDefined};
+ghost use Rattle.rules.specs.Reading.{deepest, readStmt, readStates, readAfterVersion, readProgram};
+ghost use Rattle.shape.specs.Walks.{Walked, WalkedList, Lays, readDeclared, layDeclared, readDefined, layDefined, layStates, layBody, readBlocks, layBlocks, LaysPart, LaysParts, LaysList, noEnds, endsDefined, endsBlocks};
 ghost use Rattle.shape.specs.Directory.{directoryOf, slotCount};
 ghost use Rattle.shape.specs.Parts.{partScan};
-ghost use Rattle.shape.specs.Ends.{mostNumbers, layStmt, endsOf};
+ghost use Rattle.shape.specs.Ends.{mostNumbers, layStmt, layAll, stateAt, layState, endsOf};
 use super::BODY;
 use super::CALLABLES;
 use super::END;
@@ -13,6 +13,7 @@ use super::GLOBALS;
 use super::HEADERS;
 use super::NUMBERS;
 use super::SLOTS;
+use super::STATES;
 use super::Scan;
 use super::TABLES;
 use super::callables::callable_at;
@@ -23,10 +24,13 @@ use super::limits::LATEST;
 use super::limits::MOST_CALLABLES;
 use super::limits::MOST_GLOBALS;
 use super::limits::MOST_HEADERS;
+use super::limits::MOST_STATES;
 use super::limits::MOST_TABLES;
+use super::limits::has_parser;
 use super::looks::Value;
 use super::looks::value_in;
 use super::statements::scan_stmt;
+use super::states::state_at;
 use super::tables::table_at;
 
 // A part of a program that the directory tells the beginning of.
@@ -35,6 +39,7 @@ enum Part {
     GlobalPart,
     CallablePart,
     TablePart,
+    StatePart,
 }
 
 // The end of the part at `at`.
@@ -47,6 +52,7 @@ fn part_at(nums: &[u64], version: u64, part: Part, at: usize, ends: &mut [u64; N
         Part::GlobalPart => global_at(nums, version, at),
         Part::CallablePart => callable_at(nums, version, at, ends),
         Part::TablePart => table_at(nums, version, at, ends),
+        Part::StatePart => state_at(nums, version, at, ends),
     }
 }
 
@@ -83,11 +89,12 @@ fn parts_at(
     Scan::Past(next)
 }
 
-// The end of a list of at most so many parts. Its count and where each begins go into the directory, from `slot` on.
+// The end of a list of `least` to `most` parts. Its count and where each begins go into the directory, from `slot` on.
 fn part_list_at(
     nums: &[u64],
     version: u64,
     part: Part,
+    least: u64,
     most: u64,
     at: usize,
     slot: usize,
@@ -95,10 +102,10 @@ fn part_list_at(
     ends: &mut [u64; NUMBERS],
 ) -> Scan
     requires { ⌜ (slot + most < slotCount) × (length (now nums) ≤ mostNumbers) ⌝ }
-    ensures { λ r. ⌜ WalkedList (partScan version part (now (nums .entry))) most (now (nums .entry)) at slot (now (directory .entry)) (now (directory .exit)) r ⌝ }
-    ensures { λ r. ⌜ LaysList version part most (now (nums .entry)) at (now (ends .entry)) (now (ends .exit)) r ⌝ }
+    ensures { λ r. ⌜ WalkedList (partScan version part (now (nums .entry))) least most (now (nums .entry)) at slot (now (directory .entry)) (now (directory .exit)) r ⌝ }
+    ensures { λ r. ⌜ LaysList version part least most (now (nums .entry)) at (now (ends .entry)) (now (ends .exit)) r ⌝ }
 {
-    let count = value_in(nums, 0, most, at);
+    let count = value_in(nums, least, most, at);
     match count {
         Value::Of { value, next } => {
             directory[slot] = value;
@@ -124,6 +131,7 @@ fn declared_at(
         nums,
         version,
         Part::HeaderPart,
+        0,
         MOST_HEADERS,
         at,
         HEADERS,
@@ -135,6 +143,7 @@ fn declared_at(
             nums,
             version,
             Part::GlobalPart,
+            0,
             MOST_GLOBALS,
             next,
             GLOBALS,
@@ -161,6 +170,7 @@ fn defined_at(
         nums,
         version,
         Part::CallablePart,
+        0,
         MOST_CALLABLES,
         at,
         CALLABLES,
@@ -172,6 +182,7 @@ fn defined_at(
             nums,
             version,
             Part::TablePart,
+            0,
             MOST_TABLES,
             next,
             TABLES,
@@ -179,6 +190,36 @@ fn defined_at(
             ends,
         ),
         Scan::Fault { number, index } => Scan::Fault { number, index },
+    }
+}
+
+// The parser's states, where the version has a parser.
+fn states_at(
+    nums: &[u64],
+    version: u64,
+    at: usize,
+    directory: &mut [u64; SLOTS],
+    ends: &mut [u64; NUMBERS],
+) -> Scan
+    requires { ⌜ length (now nums) ≤ mostNumbers ⌝ }
+    ensures { λ r. ⌜ Lays (readStates version) layStates (now (nums .entry)) at (now (directory .entry)) (now (directory .exit)) r ⌝ }
+    ensures { λ r. ⌜ Lays (readStates version) (layAll stateAt layState) (now (nums .entry)) at (now (ends .entry)) (now (ends .exit)) r ⌝ }
+{
+    if has_parser(version) {
+        part_list_at(
+            nums,
+            version,
+            Part::StatePart,
+            1,
+            MOST_STATES,
+            at,
+            STATES,
+            directory,
+            ends,
+        )
+    } else {
+        directory[STATES] = 0;
+        Scan::Past(at)
     }
 }
 
@@ -205,6 +246,25 @@ fn body_at(
     }
 }
 
+// The parser's states and the apply body.
+fn blocks_at(
+    nums: &[u64],
+    version: u64,
+    at: usize,
+    directory: &mut [u64; SLOTS],
+    ends: &mut [u64; NUMBERS],
+) -> Scan
+    requires { ⌜ length (now nums) ≤ mostNumbers ⌝ }
+    ensures { λ r. ⌜ Lays (readBlocks version) layBlocks (now (nums .entry)) at (now (directory .entry)) (now (directory .exit)) r ⌝ }
+    ensures { λ r. ⌜ Lays (readBlocks version) endsBlocks (now (nums .entry)) at (now (ends .entry)) (now (ends .exit)) r ⌝ }
+{
+    let states = states_at(nums, version, at, directory, ends);
+    match states {
+        Scan::Past(next) => body_at(nums, version, next, directory, ends),
+        Scan::Fault { number, index } => Scan::Fault { number, index },
+    }
+}
+
 // What follows the version.
 fn after_version(
     nums: &[u64],
@@ -222,7 +282,7 @@ fn after_version(
         Scan::Past(next) => {
             let defined = defined_at(nums, version, next, directory, ends);
             match defined {
-                Scan::Past(body) => body_at(nums, version, body, directory, ends),
+                Scan::Past(after) => blocks_at(nums, version, after, directory, ends),
                 Scan::Fault { number, index } => Scan::Fault { number, index },
             }
         }

@@ -6,16 +6,20 @@ ghost use Rattle.rules.specs.Reading.{repeat, readTarget, readStmt, mostMembers
 ghost use Rattle.shape.specs.Walks.{Lays};
 ghost use Rattle.shape.specs.Scans.{scanOf};
 ghost use Rattle.shape.specs.Ends.{mostNumbers, layStmt};
-ghost use Rattle.shape.specs.Leads.{valueOf, blockLead, layMembers, placeForm, placeScan, stmtForm, LeadsTarget, LeadsForm, LeadsStmt};
+ghost use Rattle.shape.specs.Leads.{valueOf, blockLead, layMembers, placeForm, placeScan, parserForm, stmtForm, LeadsTarget, LeadsVerify, LeadsForm, LeadsStmt};
 use super::NUMBERS;
 use super::Scan;
 use super::expressions::Lead;
 use super::expressions::call_lead;
 use super::expressions::lead_by;
+use super::expressions::scan_expr;
 use super::expressions::scan_exprs;
+use super::limits::MOST_ERROR;
 use super::limits::MOST_MEMBERS;
+use super::limits::has_parser;
 use super::looks::Value;
 use super::looks::any_number;
+use super::looks::number_in;
 use super::looks::too_deep;
 use super::looks::two_numbers;
 use super::looks::value_in;
@@ -36,6 +40,7 @@ enum StmtForm {
     CallStmt,
     Named,
     Returned,
+    Verified,
     NoStmt,
 }
 
@@ -124,6 +129,35 @@ fn block_lead(nums: &[u64], at: usize) -> Lead
     }
 }
 
+// A verify up to its end: its condition, whose end goes into `ends`, and its error.
+fn verify_lead(
+    nums: &[u64],
+    version: u64,
+    depth: usize,
+    at: usize,
+    ends: &mut [u64; NUMBERS],
+) -> Lead
+    requires { ⌜ length (now nums) ≤ mostNumbers ⌝ }
+    ensures { λ r. ⌜ LeadsVerify version depth (now (nums .entry)) at (now (ends .entry)) (now (ends .exit)) r ⌝ }
+{
+    let condition = scan_expr(nums, version, depth, at, ends);
+    match condition {
+        Scan::Past(next) => lead_by(number_in(nums, 0, MOST_ERROR, next), 0, 0),
+        Scan::Fault { number, index } => Lead::Off { number, index },
+    }
+}
+
+// A form that only versions with a parser block have.
+fn parser_form(version: u64, form: StmtForm) -> StmtForm
+    ensures { λ r. ⌜ r ≡ parserForm version form ⌝ }
+{
+    if has_parser(version) {
+        form
+    } else {
+        StmtForm::NoStmt
+    }
+}
+
 // What stands behind a statement's tag, in the version's list of tags.
 fn stmt_form(version: u64, tag: u64) -> StmtForm
     ensures { λ r. ⌜ r ≡ stmtForm version tag ⌝ }
@@ -140,6 +174,8 @@ fn stmt_form(version: u64, tag: u64) -> StmtForm
         8 => StmtForm::Bare,
         9 => StmtForm::Named,
         10 => StmtForm::Named,
+        11 => parser_form(version, StmtForm::Named),
+        12 => parser_form(version, StmtForm::Verified),
         _ => StmtForm::NoStmt,
     }
 }
@@ -165,6 +201,7 @@ fn stmt_form_lead(
         StmtForm::CallStmt => call_lead(nums, next),
         StmtForm::Named => lead_by(any_number(nums, next), 0, 0),
         StmtForm::Returned => lead_by(Scan::Past(next), 1, 0),
+        StmtForm::Verified => verify_lead(nums, version, depth, next, ends),
         StmtForm::NoStmt => Lead::Off {
             number: 4,
             index: at,

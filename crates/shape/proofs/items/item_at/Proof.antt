@@ -28,6 +28,12 @@ enum-told-4 c = search (kinds, needs)
 numeral-at-requires : tie.Need-numeral-at-requires
 numeral-at-requires c κs = search (kinds, needs)
 
+enum-told-5 : tie.Need-enum-told-5
+enum-told-5 c = search (kinds, needs)
+
+pair-at-requires : tie.Need-pair-at-requires
+pair-at-requires c κs = search (kinds, needs)
+
 returns : tie.Need-returns
 returns c = search (kinds, needs)
 
@@ -39,6 +45,9 @@ returns-3 c = search (kinds, needs)
 
 returns-4 : tie.Need-returns-4
 returns-4 c = search (kinds, needs)
+
+returns-5 : tie.Need-returns-5
+returns-5 c = search (kinds, needs)
 
 pub item-at-spec : {M : Type 1} → statement M
 item-at-spec =
@@ -52,7 +61,10 @@ item-at-spec =
     parameter-at-requires
     enum-told-4
     numeral-at-requires
+    enum-told-5
+    pair-at-requires
     returns
     returns-2
     returns-3
-    returns-4)
+    returns-4
+    returns-5)

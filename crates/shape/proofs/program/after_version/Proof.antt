@@ -1,4 +1,4 @@
--- What carries it: a program is its version, its declarations, its definitions and its body.
+-- What carries it: a program is its version, its declarations, its definitions and its blocks.
 use Rattle.shape.proofs.Programs.{programs}
 use borrow.Author.Needs.{needs}
 use Rattle.shape.proofs.program.after_version.Statement.{statement}
@@ -16,8 +16,8 @@ defined-at-requires c κs = search (programs, needs)
 enum-known-defined : tie.Need-enum-known-defined
 enum-known-defined c = search (programs, needs)
 
-body-at-requires : tie.Need-body-at-requires
-body-at-requires c κs = search (programs, needs)
+blocks-at-requires : tie.Need-blocks-at-requires
+blocks-at-requires c κs = search (programs, needs)
 
 enum-known-defined-2 : tie.Need-enum-known-defined-2
 enum-known-defined-2 c = search (programs, needs)
@@ -42,7 +42,7 @@ after-version-spec =
     enum-known-declared
     defined-at-requires
     enum-known-defined
-    body-at-requires
+    blocks-at-requires
     enum-known-defined-2
     enum-known-declared-2
     returns

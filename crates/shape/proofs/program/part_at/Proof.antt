@@ -28,6 +28,12 @@ enum-told-4 c = search (kinds, needs)
 table-at-requires : tie.Need-table-at-requires
 table-at-requires c κs = search (kinds, needs)
 
+enum-told-5 : tie.Need-enum-told-5
+enum-told-5 c = search (kinds, needs)
+
+state-at-requires : tie.Need-state-at-requires
+state-at-requires c κs = search (kinds, needs)
+
 returns : tie.Need-returns
 returns c = search (kinds, needs)
 
@@ -39,6 +45,9 @@ returns-3 c = search (kinds, needs)
 
 returns-4 : tie.Need-returns-4
 returns-4 c = search (kinds, needs)
+
+returns-5 : tie.Need-returns-5
+returns-5 c = search (kinds, needs)
 
 pub part-at-spec : {M : Type 1} → statement M
 part-at-spec =
@@ -52,7 +61,10 @@ part-at-spec =
     callable-at-requires
     enum-told-4
     table-at-requires
+    enum-told-5
+    state-at-requires
     returns
     returns-2
     returns-3
-    returns-4)
+    returns-4
+    returns-5)

@@ -5,6 +5,12 @@ use borrow.Author.Needs.{needs}
 use Rattle.shape.proofs.statements.stmt_form.Statement.{statement}
 use Rattle.shape.proofs.statements.stmt_form.Tie as tie
 
+parser-form-requires : tie.Need-parser-form-requires
+parser-form-requires c κs = search (stmtForms, needs)
+
+parser-form-requires-2 : tie.Need-parser-form-requires-2
+parser-form-requires-2 c κs = search (stmtForms, needs)
+
 returns : tie.Need-returns
 unfolding stmtForm stmtFormOf
 returns c = search (stmtForms, needs)
@@ -53,10 +59,20 @@ returns-12 : tie.Need-returns-12
 unfolding stmtForm stmtFormOf
 returns-12 c = search (stmtForms, needs)
 
+returns-13 : tie.Need-returns-13
+unfolding stmtForm stmtFormOf
+returns-13 c = search (stmtForms, needs)
+
+returns-14 : tie.Need-returns-14
+unfolding stmtForm stmtFormOf
+returns-14 c = search (stmtForms, needs)
+
 pub stmt-form-spec : {M : Type 1} → statement M
 stmt-form-spec =
     tie.close
     (tie.spec
+    parser-form-requires
+    parser-form-requires-2
     returns
     returns-2
     returns-3
@@ -68,4 +84,6 @@ stmt-form-spec =
     returns-9
     returns-10
     returns-11
-    returns-12)
+    returns-12
+    returns-13
+    returns-14)

@@ -55,6 +55,12 @@ lead-by-requires-4 c κs = search (stmtLeads, needs)
 enum-told-8 : tie.Need-enum-told-8
 enum-told-8 c = search (stmtLeads, needs)
 
+verify-lead-requires : tie.Need-verify-lead-requires
+verify-lead-requires c κs = search (stmtLeads, needs)
+
+enum-told-9 : tie.Need-enum-told-9
+enum-told-9 c = search (stmtLeads, needs)
+
 returns : tie.Need-returns
 returns c = search (stmtLeads, needs)
 
@@ -79,6 +85,9 @@ returns-7 c = search (stmtLeads, needs)
 returns-8 : tie.Need-returns-8
 returns-8 c = search (stmtLeads, needs)
 
+returns-9 : tie.Need-returns-9
+returns-9 c = search (stmtLeads, needs)
+
 pub stmt-form-lead-spec : {M : Type 1} → statement M
 stmt-form-lead-spec =
     tie.close
@@ -100,6 +109,8 @@ stmt-form-lead-spec =
     enum-told-7
     lead-by-requires-4
     enum-told-8
+    verify-lead-requires
+    enum-told-9
     returns
     returns-2
     returns-3
@@ -107,4 +118,5 @@ stmt-form-lead-spec =
     returns-5
     returns-6
     returns-7
-    returns-8)
+    returns-8
+    returns-9)
