@@ -2,9 +2,9 @@
  * `rt staticlib calls` writes to target/staticlib/. What each call answers and leaves is proved, for every content and
  * every length (crate `calls`). docs/RULES.md has the rules.
  *
- * The answer. A call fills the five numbers of `answer`, whatever they held: with 1, or 2 where a run ends by exit, and
- * what it tells; or with 0, the number of a refusal and its place, a byte offset counted from 0. The numbers behind
- * these are 0.
+ * The answer. A call fills the five numbers of `answer`, whatever they held: with 1, or 2 where a run ends by exit, or 4
+ * and the error where it ends by a reject, and what it tells; or with 0, the number of a refusal and its place, a byte
+ * offset counted from 0. The numbers behind these are 0.
  *
  * What the caller owes. A pointer and the length behind it name so many bytes or numbers that are there, and `answer`
  * names five numbers. No pointer is null, even beside a length of 0. What a call may write to overlaps nothing else that
@@ -53,7 +53,7 @@ void nentuvar_write(const uint64_t *numbers, size_t count, uint8_t *bytes, size_
 
 /* Takes the `length` bytes of a bench file.
  * Answers 1, the ceiling, and how many numbers the store has. No run of the program takes more steps than the ceiling.
- * Or refuses with a number from 1 to 12: at the first byte of the number at fault; at `length` where a number is
+ * Or refuses with a number from 1 to 12, or 16: at the first byte of the number at fault; at `length` where a number is
  * missing; at 0 for refusals 1 and 9, which are about the whole file.
  * Leaves everything but the answer as found.
  */
@@ -61,9 +61,9 @@ void nentuvar_judge(const uint8_t *bytes, size_t length, uint64_t answer[NENTUVA
 
 /* Takes the `length` bytes of a bench file, `count` result slots, as many at least as the store has numbers, and `room`
  * working slots, 8,192 at least.
- * Answers how the run ended, 1 done or 2 by exit, then its steps, the ceiling, and how many numbers the store has. Or
- * refuses:
- *   1 to 12 at their places: as nentuvar_judge does;
+ * Answers how the run ended, 1 done, 2 by exit, or 4 by a reject and its error, then its steps, the ceiling, and how
+ * many numbers the store has. Or refuses:
+ *   1 to 12 and 16 at their places: as nentuvar_judge does;
  *   13 at place 0: fewer slots than that.
  * 13 comes last; 14 does not occur, since 8,192 working slots suffice for every file that is accepted. What the slots
  * held changes no answer.

@@ -290,7 +290,7 @@ unread-runs bytes slots results working r left p room x e =
 -- the judge's verdict on the numbers
 module _ (bytes nums results working : List ℕ) (reads : streamOf bytes ≡ numbers nums)
     (directory ends widths entries offsets : List ℕ) (v : Verdict)
-    (j : JudgesNumbers nums (replicate 200 0) directory (replicate 4096 0) ends (replicate 32 0) widths (replicate 65 0)
+    (j : JudgesNumbers nums (replicate 217 0) directory (replicate 4096 0) ends (replicate 32 0) widths (replicate 65 0)
     entries (replicate 33 0) offsets v) where
   -- the ends have as many slots as they had
   pub verdict-ends : length ends ≡ 4096
@@ -299,9 +299,9 @@ module _ (bytes nums results working : List ℕ) (reads : streamOf bytes ≡ num
     where
       go : (x : Got Program) → readProgram nums 0 ≡ x → length ends ≡ 4096
       go (got p left end) q =
-          let w : ScansProgram nums (replicate 200 0) directory (replicate 4096 0) ends (Past end)
+          let w : ScansProgram nums (replicate 217 0) directory (replicate 4096 0) ends (Past end)
           = record { answer = rw q refl; parts = j .directoryIs; laid = j .endsAre } in
-          scan-long nums (replicate 200 0) directory (replicate 4096 0) ends (Past end) p left end w q
+          scan-long nums (replicate 217 0) directory (replicate 4096 0) ends (Past end) p left end w q
       go (bad number index) q =
           let e : ends ≡ replicate 4096 0 = rw q at (j .endsAre) in
           rw e refl
@@ -309,12 +309,12 @@ module _ (bytes nums results working : List ℕ) (reads : streamOf bytes ≡ num
   pub verdict-refused : (number index : ℕ) (x : Refusal) → v ≡ verdicts.Refused number index
       → x ≡ refusalAt bytes number index → RunsFile bytes results results working working (Unrun x)
   verdict-refused number index x e q = refused-runs bytes results working x
-      (numbers-refused bytes nums reads (replicate 200 0) directory (replicate 4096 0) ends (replicate 32 0) widths
+      (numbers-refused bytes nums reads (replicate 217 0) directory (replicate 4096 0) ends (replicate 32 0) widths
       (replicate 65 0) entries (replicate 33 0) offsets v j number index x e q)
 
   module _ (ceiling store size : ℕ) (e : v ≡ verdicts.Accepted ceiling store size) where
     leaves : Leaves nums directory ends widths entries offsets ceiling store size
-    leaves = accepted-leaves nums (replicate 200 0) directory (replicate 4096 0) ends (replicate 32 0) widths
+    leaves = accepted-leaves nums (replicate 217 0) directory (replicate 4096 0) ends (replicate 32 0) widths
         (replicate 65 0) entries (replicate 33 0) offsets ceiling store size (rw e at j) (record {
           lent = record { few = numbers-few bytes nums reads; slots = refl; room = refl };
           keys = refl;

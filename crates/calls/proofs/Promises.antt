@@ -11,7 +11,7 @@ use Rattle.rules.specs.declared.WriteAnswer.{WriteAnswer}
 use Rattle.rules.specs.declared.WriteAnswer.the-variants.{Length, Unwritten}
 use Rattle.rules.specs.declared.JudgeAnswer.{JudgeAnswer}
 use Rattle.rules.specs.declared.JudgeAnswer.the-variants.{Accepted, Refused}
-use Rattle.rules.specs.declared.Signal.the-variants.{Done, Exit}
+use Rattle.rules.specs.declared.Signal.the-variants.{Done, Exit, Reject}
 use Rattle.rules.specs.declared.RunAnswer.{RunAnswer}
 use Rattle.rules.specs.declared.RunAnswer.the-variants.{Ended, Unrun}
 use Rattle.rules.specs.Answers.{ofRefusal, ofRead, ofWrite, ofJudge, ofSignal, ofRun, judgeSays}
@@ -59,10 +59,19 @@ unfolding outOf inFive ofJudge ofRefusal
 judge-out (Accepted ceiling length) = refl
 judge-out (Refused refusal) = refl
 
-run-out : (a : RunAnswer) → outOf 4 (inFive (ofRun a)) ≡ ofRun a
-unfolding outOf inFive ofRun ofSignal ofRefusal
+-- a run's: five where the first is 4, a reject
+unfoldable runOut : List ℕ → List ℕ
+runOut [] = []
+runOut (zero ∷ ns) = 0 ∷ take 2 ns
+runOut (suc zero ∷ ns) = 1 ∷ take 3 ns
+runOut (suc (suc zero) ∷ ns) = 2 ∷ take 3 ns
+runOut (suc (suc (suc n)) ∷ ns) = suc (suc (suc n)) ∷ ns
+
+run-out : (a : RunAnswer) → runOut (inFive (ofRun a)) ≡ ofRun a
+unfolding runOut inFive ofRun ofSignal ofRefusal
 run-out (Ended Done steps ceiling length) = refl
 run-out (Ended Exit steps ceiling length) = refl
+run-out (Ended (Reject error) steps ceiling length) = refl
 run-out (Unrun refusal) = refl
 
 pub read-kept : (a b : ReadAnswer) → inFive (ofRead a) ≡ inFive (ofRead b) → a ≡ b
@@ -75,4 +84,4 @@ pub judge-kept : (a b : JudgeAnswer) → inFive (ofJudge a) ≡ inFive (ofJudge 
 judge-kept a b e = judge-same a b (sym (judge-out a) ∙ ap (outOf 3) e ∙ judge-out b)
 
 pub run-kept : (a b : RunAnswer) → inFive (ofRun a) ≡ inFive (ofRun b) → a ≡ b
-run-kept a b e = run-same a b (sym (run-out a) ∙ ap (outOf 4) e ∙ run-out b)
+run-kept a b e = run-same a b (sym (run-out a) ∙ ap runOut e ∙ run-out b)

@@ -1,5 +1,5 @@
 -- Each case of an answer in five slots, and from what the face promises to what the calls do.
-use mathlib.Core.List.{List, [], _∷_}
+use mathlib.Core.List.{List, [], _∷_, _++_}
 use mathlib.Core.Path.{_≡_, refl, ap, _∙_}
 use Prim.Native.Nat.{ℕ}
 use Rattle.rules.specs.declared.Refusal.{Refusal}
@@ -10,7 +10,7 @@ use Rattle.rules.specs.declared.WriteAnswer.the-variants.{Length, Unwritten}
 use Rattle.rules.specs.declared.JudgeAnswer.{JudgeAnswer}
 use Rattle.rules.specs.declared.JudgeAnswer.the-variants.{Accepted, Refused}
 use Rattle.rules.specs.declared.Signal.{Signal}
-use Rattle.rules.specs.declared.Signal.the-variants.{Done, Exit}
+use Rattle.rules.specs.declared.Signal.the-variants.{Done, Exit, Reject}
 use Rattle.rules.specs.declared.RunAnswer.{RunAnswer}
 use Rattle.rules.specs.declared.RunAnswer.the-variants.{Ended, Unrun}
 use Rattle.rules.specs.Answers.{ofRefusal, ofRead, ofWrite, ofJudge, ofSignal, ofRun, judgeSays}
@@ -52,18 +52,24 @@ pub accepted-five : (a : JudgeAnswer) (ceiling size : ℕ) → a ≡ Accepted ce
 unfolding inFive ofJudge
 accepted-five a ceiling size e = rw e
 
-pub ended-five : (a : RunAnswer) (signal : Signal) (first steps ceiling size : ℕ) → a ≡ Ended signal steps ceiling size →
-    first ≡ ofSignal signal → first ∷ steps ∷ ceiling ∷ size ∷ 0 ∷ [] ≡ inFive (ofRun a)
-unfolding inFive ofRun
-ended-five a signal first steps ceiling size e f = rw e (rw f)
+module _ (signal : Signal) (steps ceiling size : ℕ) where
+  pub ended-five : (a : RunAnswer) (told : List ℕ) → a ≡ Ended signal steps ceiling size →
+      told ≡ inFive (ofSignal signal ++ steps ∷ ceiling ∷ size ∷ []) → told ≡ inFive (ofRun a)
+  unfolding ofRun
+  ended-five a told e f = rw e f
 
-pub done-told : (signal : Signal) → signal ≡ Done → 1 ≡ ofSignal signal
-unfolding ofSignal
-done-told signal e = rw e
+  pub done-five : signal ≡ Done → 1 ∷ steps ∷ ceiling ∷ size ∷ 0 ∷ [] ≡ inFive (ofSignal signal ++ steps ∷ ceiling ∷ size ∷ [])
+  unfolding inFive ofSignal
+  done-five e = rw e
 
-pub exit-told : (signal : Signal) → signal ≡ Exit → 2 ≡ ofSignal signal
-unfolding ofSignal
-exit-told signal e = rw e
+  pub exit-five : signal ≡ Exit → 2 ∷ steps ∷ ceiling ∷ size ∷ 0 ∷ [] ≡ inFive (ofSignal signal ++ steps ∷ ceiling ∷ size ∷ [])
+  unfolding inFive ofSignal
+  exit-five e = rw e
+
+  pub reject-five : (error : ℕ) → signal ≡ Reject error →
+      4 ∷ error ∷ steps ∷ ceiling ∷ size ∷ [] ≡ inFive (ofSignal signal ++ steps ∷ ceiling ∷ size ∷ [])
+  unfolding inFive ofSignal
+  reject-five error e = rw e
 
 pub ruleset cases = (
   refusal-five,
@@ -75,8 +81,9 @@ pub ruleset cases = (
   length-five,
   accepted-five,
   ended-five,
-  done-told,
-  exit-told,
+  done-five,
+  exit-five,
+  reject-five,
 )
 
 module _ (told : List ℕ) where

@@ -7,6 +7,7 @@ use rules::RunAnswer;
 use rules::Signal;
 use rules::WriteAnswer;
 ghost use mathlib.Core.Path.{_≡_};
+ghost use mathlib.Core.List.{[], _∷_, _++_};
 ghost use Rattle.rules.specs.Answers.{ofRefusal, ofRead, ofWrite, ofJudge, ofSignal, ofRun, judgeSays};
 ghost use Rattle.calls.specs.Promises.{inFive, TellsRead, TellsWrite, TellsRun};
 
@@ -92,17 +93,18 @@ fn of_run(answer: RunAnswer) -> [u64; ANSWER]
             steps,
             ceiling,
             length,
-        } => [of_signal(signal), steps, ceiling, length as u64, 0],
+        } => of_ended(signal, steps, ceiling, length as u64),
         RunAnswer::Unrun(refusal) => of_refusal(refusal),
     }
 }
 
-fn of_signal(signal: Signal) -> u64
-    ensures { λ r. ⌜ r ≡ ofSignal signal ⌝ }
+fn of_ended(signal: Signal, steps: u64, ceiling: u64, length: u64) -> [u64; ANSWER]
+    ensures { λ r. ⌜ r ≡ inFive (ofSignal signal ++ steps ∷ ceiling ∷ length ∷ []) ⌝ }
 {
     match signal {
-        Signal::Done => 1,
-        Signal::Exit => 2,
+        Signal::Done => [1, steps, ceiling, length, 0],
+        Signal::Exit => [2, steps, ceiling, length, 0],
+        Signal::Reject(error) => [4, error, steps, ceiling, length],
     }
 }
 

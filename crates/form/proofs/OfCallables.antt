@@ -31,7 +31,7 @@ is-action kind none k = rw k
 is-action kind (some t) k = rw k
 
 module _ (nums directory ends : List ℕ) (n : ℕ) where
-  pub callable-slot : Has callablesOf nums directory ends n → 43 + n < 200
+  pub callable-slot : Has callablesOf nums directory ends n → 43 + n < 217
   unfolding callablesOf
   callable-slot h = omega (arith, h .inside, h .stands .callables .few)
 

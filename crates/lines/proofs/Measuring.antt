@@ -1,19 +1,21 @@
 -- How many bytes the lines take: what is counted and what is left give the length, and no sum passes the room.
 use mathlib.Core.List.{List, [], _∷_}
-use mathlib.Core.Path.{_≡_, sym, ap, _∙_}
+use mathlib.Core.Path.{_≡_, refl, sym, ap, _∙_}
 use Prim.Native.Nat.{ℕ, _+_, _-_, _<_, _≤_}
 use native.Mathlib.Omega.{arith}
 use lib.ListN.{length, drop, getD}
 use mir.Syntax.{w64}
 use mir.Val.{Fits}
+use Rattle.rules.specs.declared.Signal.{Signal}
+use Rattle.rules.specs.declared.Signal.the-variants.{Done, Exit, Reject}
 use Rattle.rules.specs.declared.WriteAnswer.{WriteAnswer}
 use Rattle.rules.specs.declared.WriteAnswer.the-variants.{Length}
 use Rattle.rules.specs.Answers.{ofWrite}
-use Rattle.rules.specs.Lines.{decimal, behindBlanks}
+use Rattle.rules.specs.Lines.{decimal, behindBlanks, wordOf}
 use Rattle.numbers.proofs.Room.{room-told, room-refused}
 use Rattle.lines.specs.Parts.{storeLine, measured}
 use Rattle.lines.proofs.Decimals.{decimal-few}
-use Rattle.lines.proofs.Texts.{length-two, length-behind, behind-end, store-one, store-least, store-some}
+use Rattle.lines.proofs.Texts.{length-two, length-behind, behind-end, store-one, store-least, store-some, done-letters, exit-letters, reject-letters}
 
 -- an answer that tells a length, and one that refuses
 pub measured-length : (wanted lent n : ℕ) → n ≡ wanted → wanted ≤ lent → ofWrite (Length n) ≡ measured wanted lent
@@ -25,7 +27,7 @@ pub measured-short : (wanted lent : ℕ) (r : WriteAnswer) → lent < wanted →
 measured-short wanted lent r h e = e ∙ sym (room-refused wanted lent (1 ∷ wanted ∷ []) h)
 
 -- a word and two numbers
-module _ (letters first second a b : ℕ) (few : letters ≤ 7) (e : a ≡ length (decimal first)) where
+module _ (letters first second a b : ℕ) (few : letters ≤ 27) (e : a ≡ length (decimal first)) where
   pub line-sum : Fits w64 (letters + a)
   line-sum = record { fits = omega (arith, decimal-few first) }
 
@@ -38,6 +40,25 @@ module _ (letters first second a b : ℕ) (few : letters ≤ 7) (e : a ≡ lengt
 
     pub line-measured : letters + a + b + 3 ≡ letters + length (behindBlanks (first ∷ second ∷ [])) + 1
     line-measured = omega (arith, length-two first second)
+
+-- the word of a signal
+module _ (signal : Signal) where
+  pub word-few : length (wordOf signal) ≤ 27
+  word-few = go signal refl
+    where
+      go : (s : Signal) → signal ≡ s → length (wordOf signal) ≤ 27
+      go Done e = omega (arith, done-letters signal e)
+      go Exit e = omega (arith, exit-letters signal e)
+      go (Reject error) e = omega (arith, reject-letters signal error e, decimal-few error)
+
+  module _ (error n : ℕ) (e : signal ≡ Reject error) (q : n ≡ length (decimal error)) where
+    pub reject-sum : Fits w64 (7 + n)
+    reject-sum = record { fits = omega (arith, decimal-few error) }
+
+    pub reject-measured : 7 + n ≡ length (wordOf signal)
+    reject-measured = omega (arith, reject-letters signal error e)
+
+pub ruleset wording = (done-letters, exit-letters, reject-sum, reject-measured)
 
 pub ruleset line = (line-sum, line-sum-2, line-sum-3, line-measured)
 

@@ -7,7 +7,7 @@ use native.Mathlib.Omega.{arith}
 use lib.ListN.{length, drop, getD, length-append, drop-of-length-le}
 use lib.Seq.{drop-cons}
 use Rattle.rules.specs.declared.Signal.{Signal}
-use Rattle.rules.specs.declared.Signal.the-variants.{Done, Exit}
+use Rattle.rules.specs.declared.Signal.the-variants.{Done, Exit, Reject}
 use Rattle.rules.specs.Answers.{ended}
 use Rattle.rules.specs.Lines.{blank, newline, decimal, behindBlanks, betweenBlanks, wordOf, refusedWord, refusedLine, linesOf}
 use Rattle.lines.specs.Parts.{wordLine, storeLine}
@@ -94,7 +94,29 @@ module _ (signal : Signal) (steps ceiling : ℕ) (store : List ℕ) where
   unfolding linesOf wordLine storeLine
   ended-text = simp append-assoc
 
-pub signal-letters : (signal : Signal) → length (wordOf signal) ≡ 4
-unfolding wordOf
-signal-letters Done = refl
-signal-letters Exit = refl
+-- the word of a signal
+abbrev pub rejectWord : List ℕ
+rejectWord = 114 ∷ 101 ∷ 106 ∷ 101 ∷ 99 ∷ 116 ∷ []
+
+module _ (signal : Signal) where
+  pub done-word : signal ≡ Done → wordOf signal ≡ 100 ∷ 111 ∷ 110 ∷ 101 ∷ []
+  unfolding wordOf
+  done-word e = rw e
+
+  pub exit-word : signal ≡ Exit → wordOf signal ≡ 101 ∷ 120 ∷ 105 ∷ 116 ∷ []
+  unfolding wordOf
+  exit-word e = rw e
+
+  module _ (error : ℕ) (e : signal ≡ Reject error) where
+    pub reject-word : wordOf signal ≡ rejectWord ++ (blank ∷ decimal error)
+    unfolding wordOf behindBlanks
+    reject-word = rw (e, append-nil (decimal error))
+
+    pub reject-letters : length (wordOf signal) ≡ 7 + length (decimal error)
+    reject-letters = ap length reject-word ∙ omega arith
+
+  pub done-letters : signal ≡ Done → 4 ≡ length (wordOf signal)
+  done-letters e = rw (done-word e)
+
+  pub exit-letters : signal ≡ Exit → 4 ≡ length (wordOf signal)
+  exit-letters e = rw (exit-word e)

@@ -7,17 +7,17 @@ use lib.ListN.{length, set, length-append}
 use lib.Seq.{sets, length-sets}
 use Rattle.rules.specs.declared.Refusal.{Refusal}
 use Rattle.rules.specs.declared.Signal.{Signal}
-use Rattle.rules.specs.declared.Signal.the-variants.{Done, Exit}
+use Rattle.rules.specs.declared.Signal.the-variants.{Reject}
 use Rattle.rules.specs.declared.WriteAnswer.{WriteAnswer}
 use Rattle.rules.specs.declared.WriteAnswer.the-variants.{Length, Unwritten}
 use Rattle.rules.specs.Answers.{ofWrite, ofRefusal, ended}
-use Rattle.rules.specs.Lines.{newline, behindBlanks, betweenBlanks, wordOf, refusedWord, refusedLine, linesOf}
+use Rattle.rules.specs.Lines.{blank, newline, decimal, behindBlanks, betweenBlanks, wordOf, refusedWord, refusedLine, linesOf}
 use Rattle.numbers.proofs.Room.{room-there, room-told, filled-stored, filled-refused}
 use Rattle.lines.specs.Promises.{Prints}
 use Rattle.lines.specs.Parts.{wordLine, storeLine, measured, Stored}
-use Rattle.lines.proofs.Texts.{length-word, length-store, refused-text, ended-text, signal-letters}
+use Rattle.lines.proofs.Texts.{length-word, length-store, refused-text, ended-text, rejectWord, done-word, exit-word, reject-word, reject-letters}
 use Rattle.lines.proofs.Storing.{stored-byte, stored-kept, stored-both}
-use Rattle.lines.proofs.Measuring.{measured-length, measured-short}
+use Rattle.lines.proofs.Measuring.{measured-length, measured-short, word-few}
 
 -- a line: what it is of, and its end
 module _ (text : List ℕ) (place : ℕ) (bytes : List ℕ) (end : ℕ) (left : List ℕ)
@@ -97,25 +97,32 @@ prints-kept : (text bytes : List ℕ) (r : WriteAnswer) (number place : ℕ) →
 prints-kept text bytes r number place e says =
     record { says = says; leaves = filled-refused text bytes number place (length text ∷ []) (sym e ∙ says) }
 
--- the line of a signal
-pub done-word : (signal : Signal) → signal ≡ Done → wordOf signal ≡ 100 ∷ 111 ∷ 110 ∷ 101 ∷ []
-unfolding wordOf
-done-word signal e = rw e
+-- the word of a signal, and behind that of a reject its error
+module _ (signal : Signal) (word bytes : List ℕ) (e : wordOf signal ≡ word) where
+  pub named-room : length (wordOf signal) ≤ length bytes → length word ≤ length bytes
+  named-room h = rw e at h
 
-pub exit-word : (signal : Signal) → signal ≡ Exit → wordOf signal ≡ 101 ∷ 120 ∷ 105 ∷ 116 ∷ []
-unfolding wordOf
-exit-word signal e = rw e
+  pub named-put : (next : ℕ) (left : List ℕ) → Stored word 0 bytes next left → Stored (wordOf signal) 0 bytes next left
+  named-put next left p = rw e p
 
-module _ (signal : Signal) (steps ceiling : ℕ) (word bytes : List ℕ) (e : wordOf signal ≡ word) where
-  pub signal-room : length (wordLine (wordOf signal) steps ceiling) ≤ length bytes →
-      length (wordLine word steps ceiling) ≤ length bytes
-  signal-room h = rw e at h
+module _ (signal : Signal) (error : ℕ) (e : signal ≡ Reject error) (bytes : List ℕ)
+    (h : length (wordOf signal) ≤ length bytes) where
+  pub reject-room : length rejectWord ≤ length bytes
+  reject-room = omega (arith, reject-letters signal error e)
 
-  pub signal-put : (left : List ℕ) → left ≡ sets bytes 0 (wordLine word steps ceiling) →
-      left ≡ sets bytes 0 (wordLine (wordOf signal) steps ceiling)
-  signal-put left p = rw e p
+  module _ (next : ℕ) (left : List ℕ) (p : Stored rejectWord 0 bytes next left) where
+    pub error-room : next + length (blank ∷ decimal error) ≤ length left
+    error-room =
+        omega (arith, reject-letters signal error e, p .behind, stored-kept rejectWord 0 bytes next left p)
 
-pub ruleset signals = (done-word, exit-word, signal-room, signal-put)
+    pub reject-put : (end : ℕ) (left′ : List ℕ) → Stored (blank ∷ decimal error) next left end left′ →
+        Stored (wordOf signal) 0 bytes end left′
+    reject-put end left′ q =
+        rw (reject-word signal error e)
+        (stored-both rejectWord 0 bytes next left p (blank ∷ decimal error) end left′ q)
+
+pub ruleset signals =
+    (done-word, exit-word, named-room, named-put, reject-room, error-room, reject-put)
 
 -- all of a refusal
 module _ (number place : ℕ) (bytes : List ℕ) (n : ℕ) (e : n ≡ 7 + length (behindBlanks (number ∷ place ∷ [])) + 1) where
@@ -140,9 +147,13 @@ module _ (number place : ℕ) (bytes : List ℕ) (n : ℕ) (e : n ≡ 7 + length
 
 pub ruleset refusals = (refused-room, refused-put, refused-short)
 
+pub letters-few : (signal : Signal) (letters : ℕ) → letters ≡ length (wordOf signal) → letters ≤ 27
+letters-few signal letters e = omega (arith, word-few signal)
+
 -- all of a run that ended: the measure decides the answer, and with it whether the lines are put
-module _ (signal : Signal) (steps ceiling : ℕ) (store bytes : List ℕ) (line : ℕ)
-    (e : line ≡ 4 + length (behindBlanks (steps ∷ ceiling ∷ [])) + 1) (a : WriteAnswer)
+module _ (signal : Signal) (steps ceiling : ℕ) (store bytes : List ℕ) (line : ℕ) (letters : ℕ)
+    (w : letters ≡ length (wordOf signal))
+    (e : line ≡ letters + length (behindBlanks (steps ∷ ceiling ∷ [])) + 1) (a : WriteAnswer)
     (says : ofWrite a ≡ measured (line + length (storeLine store)) (length bytes)) where
   abbrev text : List ℕ
   text = linesOf (ended signal steps ceiling store)
@@ -151,7 +162,7 @@ module _ (signal : Signal) (steps ceiling : ℕ) (store bytes : List ℕ) (line 
   first-line = wordLine (wordOf signal) steps ceiling
 
   line-is : line ≡ length first-line
-  line-is = omega (arith, length-word (wordOf signal) steps ceiling, signal-letters signal)
+  line-is = omega (arith, length-word (wordOf signal) steps ceiling)
 
   all-is : line + length (storeLine store) ≡ length text
   all-is =
@@ -198,4 +209,4 @@ module _ (signal : Signal) (steps ceiling : ℕ) (store bytes : List ℕ) (line 
       prints-kept text bytes (Unwritten refusal) (refusal .number) (refusal .place) refl
       (ap ofWrite (sym is) ∙ tells)
 
-pub ruleset endings = (ended-first, ended-second, ended-put, ended-short)
+pub ruleset endings = (letters-few, ended-first, ended-second, ended-put, ended-short)

@@ -7,6 +7,10 @@ use lib.Seq.{sets}
 use Rattle.rules.specs.Answers.{withRoom}
 use Rattle.rules.specs.Lines.{newline, behindBlanks, betweenBlanks}
 
+-- the most bytes of a line's word, with a reject's error
+abbrev pub mostLetters : ℕ
+mostLetters = 27
+
 -- a word and two numbers; numbers alone
 unfoldable pub wordLine : List ℕ → ℕ → ℕ → List ℕ
 wordLine word first second = word ++ behindBlanks (first ∷ second ∷ []) ++ (newline ∷ [])

@@ -11,7 +11,7 @@ ghost use lib.Seq.{sets};
 ghost use Rattle.rules.specs.Answers.{ofWrite, ended};
 ghost use Rattle.rules.specs.Lines.{blank, decimal, behindBlanks, betweenBlanks, wordOf, refusedLine, linesOf};
 ghost use Rattle.lines.specs.Promises.{Prints};
-ghost use Rattle.lines.specs.Parts.{wordLine, storeLine, measured, Stored};
+ghost use Rattle.lines.specs.Parts.{mostLetters, wordLine, storeLine, measured, Stored};
 
 const BLANK: u8 = 32;
 
@@ -25,6 +25,9 @@ const REFUSED_LETTERS: usize = 7;
 
 // How many letters `done` and `exit` have.
 const SIGNAL_LETTERS: usize = 4;
+
+// How many letters `reject` has.
+const REJECT_LETTERS: usize = 6;
 
 // The line of a refusal, into the bytes from the first on: how many; or refused 13, with the bytes as found.
 pub fn refused(number: u64, place: usize, bytes: &mut [u8]) -> WriteAnswer
@@ -49,7 +52,8 @@ pub fn ended(
 ) -> WriteAnswer
     ensures { λ r. ⌜ Prints (linesOf (ended signal steps ceiling (now (store .entry)))) (now (bytes .entry)) r (now (bytes .exit)) ⌝ }
 {
-    let line = line_length(SIGNAL_LETTERS, steps, ceiling);
+    let letters = word_length(signal);
+    let line = line_length(letters, steps, ceiling);
     let answer = measure(store, line, bytes.len());
     match answer {
         WriteAnswer::Length(length) => {
@@ -71,9 +75,20 @@ fn too_few() -> WriteAnswer
     })
 }
 
+// How many bytes the word of a signal takes, with the error behind that of a reject.
+fn word_length(signal: Signal) -> usize
+    ensures { λ r. ⌜ r ≡ length (wordOf signal) ⌝ }
+{
+    match signal {
+        Signal::Done => SIGNAL_LETTERS,
+        Signal::Exit => SIGNAL_LETTERS,
+        Signal::Reject(error) => REJECT_LETTERS + 1 + digits(error),
+    }
+}
+
 // How many bytes a line takes that has a word of so many letters and two numbers.
 fn line_length(letters: usize, first: u64, second: u64) -> usize
-    requires { ⌜ letters ≤ 7 ⌝ }
+    requires { ⌜ letters ≤ mostLetters ⌝ }
     ensures { λ r. ⌜ r ≡ letters + length (behindBlanks (first ∷ second ∷ [])) + 1 ⌝ }
 {
     letters + digits(first) + digits(second) + 3
@@ -128,9 +143,23 @@ fn put_signal(signal: Signal, steps: u64, ceiling: u64, bytes: &mut [u8])
     requires { ⌜ length (wordLine (wordOf signal) steps ceiling) ≤ length (now bytes) ⌝ }
     ensures { λ r. ⌜ now (bytes .exit) ≡ sets (now (bytes .entry)) 0 (wordLine (wordOf signal) steps ceiling) ⌝ }
 {
+    let next = put_named(signal, bytes);
+    let end = put_pair(steps, ceiling, next, bytes);
+    bytes[end] = NEWLINE;
+}
+
+// The word of a signal, and behind that of a reject its error, from the first byte on: the place behind them.
+fn put_named(signal: Signal, bytes: &mut [u8]) -> usize
+    requires { ⌜ length (wordOf signal) ≤ length (now bytes) ⌝ }
+    ensures { λ r. ⌜ Stored (wordOf signal) 0 (now (bytes .entry)) r (now (bytes .exit)) ⌝ }
+{
     match signal {
-        Signal::Done => put_line(b"done", steps, ceiling, bytes),
-        Signal::Exit => put_line(b"exit", steps, ceiling, bytes),
+        Signal::Done => put_word(b"done", bytes),
+        Signal::Exit => put_word(b"exit", bytes),
+        Signal::Reject(error) => {
+            let next = put_word(b"reject", bytes);
+            put_behind(error, next, bytes)
+        }
     }
 }
 

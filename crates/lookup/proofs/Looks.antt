@@ -71,7 +71,7 @@ module _ (nums ends directory keys : List ℕ) (t table at : ℕ) where
   -- an entry of the table asks of its keys
   own-patterns : {P : Program} {T : Table} {ws : List Worked} {e : Lists.Entry}
       → Sought nums ends directory keys t table at P T ws e → getD nums at 0 ≡ t
-      → KeyPatterns nums ends directory keys (table + 1) (getD nums table 0) (168 + 4 * t) 0 (at + 1) (T .keys) ws (e .patterns)
+      → KeyPatterns nums ends directory keys (table + 1) (getD nums table 0) (185 + 4 * t) 0 (at + 1) (T .keys) ws (e .patterns)
   own-patterns {P = P} {T = T} {ws = ws} {e = e} h q =
       let own : e .table ≡ t = sym (h .entryStands .number .is) ∙ q in
       let same : h .entryStands .table ≡ T
@@ -100,7 +100,7 @@ module _ (nums ends directory keys : List ℕ) (t table at : ℕ) where
     pub entry-next : at + 1 < 2 ^ 64
     entry-next = omega (arith, entry-inside, h .numbers)
 
-    pub match-asked : AsksMatch nums ends directory keys (table + 1) (getD nums table 0) (168 + 4 * t) 0 (at + 1)
+    pub match-asked : AsksMatch nums ends directory keys (table + 1) (getD nums table 0) (185 + 4 * t) 0 (at + 1)
     match-asked = record {
       keyList = h .tableAt .keys;
       worked = h .worked;
@@ -119,7 +119,7 @@ module _ (nums ends directory keys : List ℕ) (t table at : ℕ) where
     }
 
     module _ (h : AsksStep nums ends directory keys t table at) (m : Match)
-        (u : TellsMatch nums ends directory keys (table + 1) (getD nums table 0) (168 + 4 * t) 0 (at + 1) m)
+        (u : TellsMatch nums ends directory keys (table + 1) (getD nums table 0) (185 + 4 * t) 0 (at + 1) m)
       where
         abbrev q : getD nums at 0 ≡ t
         q = h .own
@@ -272,7 +272,7 @@ module _ (nums ends directory keys : List ℕ) (t table i left : ℕ) where
         first-of nums ends directory keys t table i left (h .program) (h .tableAt) (h .worked) (h .entryList)
         (h .sought) more
 
-    slot-inside : i < 200
+    slot-inside : i < 217
     slot-inside = omega (arith, h .slots, more)
 
     slot-next : i + 1 < 2 ^ 64
@@ -370,7 +370,7 @@ module _ (nums ends directory keys : List ℕ) (t table : ℕ) (longest : Bool) 
     looking-ended e = h .on found (look-ended nums ends directory keys t table slot rest longest found e)
 
     module _ (more : rest ≡ 0 → ⊥) where
-      pub looking-inside : slot < 200
+      pub looking-inside : slot < 217
       looking-inside = slot-inside nums ends directory keys t table slot rest (h .asks) more
 
       pub looking-next : slot + 1 < 2 ^ 64

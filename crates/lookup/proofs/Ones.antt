@@ -22,7 +22,7 @@ pub record Room (nums : List ℕ) (from slot j at : ℕ) : Type 0 where
   pub key : from < length nums
   pub value : at < length nums
   pub numbers : length nums ≤ 4096
-  pub slots : slot < 200
+  pub slots : slot < 217
   pub place : j < 4
 
 value-inside : {nums : List ℕ} {at : ℕ} {kind : KeyKind} {p : Pattern} → StandsPattern nums at kind p → at < length nums

@@ -14,7 +14,8 @@ use Rattle.rules.proofs.Accepted.{judged-ok, Ends, accepted-ends}
 use Rattle.rules.proofs.Limits.{store-limited}
 use Rattle.lines.specs.Parts.{wordLine, storeLine}
 use Rattle.lines.proofs.Decimals.{decimal-few}
-use Rattle.lines.proofs.Texts.{length-store, length-word, refused-text, ended-text, signal-letters}
+use Rattle.lines.proofs.Measuring.{word-few}
+use Rattle.lines.proofs.Texts.{length-store, length-word, refused-text, ended-text}
 use Rattle.mark.specs.Marks.{mostPrinted}
 
 -- a number takes at most 20 digits, and its blank
@@ -37,13 +38,13 @@ refused-most number place = omega (
 )
 
 ended-most : (signal : Signal) (steps ceiling : ℕ) (store : List ℕ)
-    → length (linesOf (ended signal steps ceiling store)) ≤ 48 + 21 * length store
+    → length (linesOf (ended signal steps ceiling store)) ≤ 71 + 21 * length store
 ended-most signal steps ceiling store = omega (
   arith,
   ap length (ended-text signal steps ceiling store),
   length-append (wordLine (wordOf signal) steps ceiling) (storeLine store),
   length-word (wordOf signal) steps ceiling,
-  signal-letters signal,
+  word-few signal,
   behind-most (steps ∷ ceiling ∷ []),
   length-store store,
   between-most store,
@@ -62,7 +63,7 @@ module _ (file : List ℕ) where
 
   go : (x : Judged) → judged file ≡ x → length (linesOf (fileOutcome workingSlots x)) ≤ mostPrinted
   unfolding fileOutcome runBench linesOf
-  go (accepted b) j = run-most b j (runProgram workingSlots (b .program) (b .entries) (b .store))
+  go (accepted b) j = run-most b j (runProgram workingSlots (b .program) (b .entries) (b .store) (b .packet))
       (accepted-ends workingSlots file b j) _
   go (refused number place) j = omega (arith, refused-most number place)
 

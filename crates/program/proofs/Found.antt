@@ -10,7 +10,7 @@ use Rattle.rules.specs.Syntax.{Ty, GlobalTy, variable, header, Callable, Key}
 use Rattle.program.specs.Codes.{callableKindNumber}
 use Rattle.program.specs.Stands.{HoldsTy, HoldsGlobalTy, HoldsReturns, StandsCallable, StandsTable, StandsKeys, parametersAt, localsAt, bodyAt, keysEnd, actionsAt, defaultAt}
 use Rattle.program.proofs.Views.{expr-begins}
-use Rattle.program.specs.Looks.{Has, Finds, headersOf, globalsOf, callablesOf, tablesOf, GlobalNumber, FoundGlobal, returnsOf, FoundHead, FoundFrame, FoundHeader, FoundTable, KeysInside}
+use Rattle.program.specs.Looks.{Has, Finds, headersOf, statesOf, globalsOf, callablesOf, tablesOf, GlobalNumber, FoundGlobal, returnsOf, FoundHead, FoundFrame, FoundHeader, FoundState, FoundTable, KeysInside}
 
 -- an index inside a list has its member
 pub record At {A : Type 0} (xs : List A) (i : ℕ) : Type 0 where
@@ -35,7 +35,7 @@ module _ (nums directory ends : List ℕ) (g : ℕ) (h : Has globalsOf nums dire
   unfolding globalsOf
   global-few = omega (arith, h .inside, h .stands .globals .few)
 
-  pub global-slot : 10 + g < 200
+  pub global-slot : 10 + g < 217
   global-slot = omega (arith, global-few)
 
   global-in : (x : GlobalTy) (at : ℕ) → HoldsGlobalTy nums at x → at < length nums
@@ -64,7 +64,7 @@ global-found nums directory ends g = record {
 
 -- header types
 module _ (nums directory ends : List ℕ) (i : ℕ) (h : Has headersOf nums directory ends i) where
-  pub header-slot : 1 + i < 200
+  pub header-slot : 1 + i < 217
   unfolding headersOf
   header-slot = omega (arith, h .inside, h .stands .headers .few)
 
@@ -72,6 +72,17 @@ pub header-found : (nums directory ends : List ℕ) (i : ℕ)
     → Finds headersOf (FoundHeader nums (getD directory (1 + i) 0)) nums directory ends i
 unfolding headersOf FoundHeader
 header-found nums directory ends i = record { finds = λ P end x s e. s .headers .member i x e }
+
+-- states
+module _ (nums directory ends : List ℕ) (i : ℕ) (h : Has statesOf nums directory ends i) where
+  pub state-slot : 71 + i < 217
+  unfolding statesOf
+  state-slot = omega (arith, h .inside, h .stands .states .few)
+
+pub state-found : (nums directory ends : List ℕ) (i : ℕ)
+    → Finds statesOf (FoundState nums ends (getD directory (71 + i) 0)) nums directory ends i
+unfolding statesOf FoundState
+state-found nums directory ends i = record { finds = λ P end x s e. s .states .member i x e }
 
 -- callables
 returns-one : (x : Option Ty) → callableKindNumber x ≤ 1
@@ -292,6 +303,8 @@ pub ruleset looks = (
   global-found,
   header-slot,
   header-found,
+  state-slot,
+  state-found,
   action-found,
   function-found,
   frame-found,

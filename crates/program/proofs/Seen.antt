@@ -6,7 +6,7 @@ use Prim.Native.Nat.{ℕ}
 use native.Mathlib.Omega.{arith}
 use lib.ListN.{getD, getElem?}
 use Rattle.rules.specs.Syntax.{Ty, Callable, Program}
-use Rattle.rules.specs.Form.{bodyOf, scopeOf, applyScope}
+use Rattle.rules.specs.Form.{bodyOf, scopeOf, applyScope, stateScope}
 use Rattle.program.specs.Codes.{tyOf, callableKindNumber}
 use Rattle.program.specs.Stands.{StandsParameters, StandsTypes, StandsProgram}
 use Rattle.program.specs.Looks.{returnsOf, FoundHead, FoundFrame}
@@ -55,6 +55,27 @@ pub apply-scope : (nums directory ends : List ℕ) (P : Program) (end : ℕ) →
     → StandsScope nums directory ends (applySlots directory) (applyScope P)
 unfolding applyScope StandsParameters StandsTypes bodyNumbered
 apply-scope nums directory ends P end s = record {
+  end = end;
+  program = s;
+  slots = refl;
+  reach = s .callables .count;
+  reaches = omega arith;
+  parameters = tt;
+  parameterCount = refl;
+  locals = tt;
+  localCount = refl;
+  body = refl;
+  returns = omega arith;
+}
+
+-- the slots of a state's scope
+abbrev pub stateSlots : List ℕ → List ℕ
+stateSlots directory = getD directory 42 0 ∷ 0 ∷ 0 ∷ 0 ∷ 0 ∷ 3 ∷ 0 ∷ []
+
+pub state-scope : (nums directory ends : List ℕ) (P : Program) (end : ℕ) → StandsProgram nums directory ends P end
+    → StandsScope nums directory ends (stateSlots directory) (stateScope P)
+unfolding stateScope StandsParameters StandsTypes bodyNumbered
+state-scope nums directory ends P end s = record {
   end = end;
   program = s;
   slots = refl;

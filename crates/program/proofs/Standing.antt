@@ -1,23 +1,23 @@
 -- What the scan of a program promises, for the passes that come after: the program that the rules read stands in the
 -- numbers, by the directory and the ends that the scan left.
 use mathlib.Core.Option.{some}
-use mathlib.Core.Path.{_≡_, sym, _∙_}
+use mathlib.Core.Path.{_≡_, refl, sym, _∙_}
 use mathlib.Core.List.{List, [], _∷_, map}
 use Prim.Native.Nat.{ℕ, zero, suc, _+_, _-_, _≤_, _<_}
 use native.Mathlib.Omega.{arith}
 use lib.ListN.{length, getD, drop, getElem?}
 use Rattle.rules.specs.Numbers.{mostBytes}
 use Rattle.rules.specs.Syntax.{HeaderTy, Global, Callable, Table, Stmt, Program}
-use Rattle.rules.specs.Reading.{Reader, got, repeat, listOf, deepest, mostHeaders, mostGlobals, mostCallables, mostTables, versionOf, readHeader, readGlobal, readCallable, readTable, readAfterVersion, readProgram}
+use Rattle.rules.specs.Reading.{Reader, got, standsFor, repeat, listOf, deepest, mostHeaders, mostGlobals, mostCallables, mostTables, mostStates, versionOf, readHeader, readGlobal, readCallable, readTable, readAfterVersion, readProgram}
 use Rattle.rules.proofs.Readers.{Keeps, keeps-stands, keeps-list, keeps-header, keeps-global, keeps-callable, keeps-table, keeps-stmt}
 use Rattle.shape.specs.Directory.{stmtAt, directoryLeft}
 use Rattle.shape.specs.Ends.{firstAt, callableAt, tableAt, EndedAll, EndedStmt, EndedCallable, EndedTable, EndedProgram, ScansProgram}
 use Rattle.shape.specs.declared.Scan.{Scan}
 use Rattle.shape.proofs.Entries.{Entries, entries}
 use Rattle.shape.proofs.Lines.{NoEnded, scan-ended}
-use Rattle.program.specs.Stands.{StandsStmt, StandsHeader, StandsGlobal, StandsCallable, StandsTable, StandsList, StandsProgram}
+use Rattle.program.specs.Stands.{Holds, StandsState, StandsStmt, StandsHeader, StandsGlobal, StandsCallable, StandsTable, StandsList, StandsProgram}
 use Rattle.program.proofs.Found.{member-in}
-use Rattle.program.proofs.Readings.{Reads, reads-to, Both, both, Given, reads-pure, Counted, reads-list, reads-none, Head, reads-more}
+use Rattle.program.proofs.Readings.{Reads, reads-to, Both, both, Given, reads-pure, Meant, reads-stands, within-some, Counted, reads-list, reads-none, Head, reads-more}
 use Rattle.program.proofs.StmtsStand.{stmt-at, stmt-stands}
 use Rattle.program.proofs.PartsStand.{header-stands, global-stands, callable-stands}
 use Rattle.program.proofs.TablesStand.{table-stands}
@@ -84,7 +84,9 @@ none-ended start [] end slots = tt
 none-ended start (x ∷ xs) end slots = (tt, none-ended start xs end slots)
 
 -- the parts of a program by themselves
-record PartsStood (nums ends : List ℕ) (P : Program) : Type 0 where
+record PartsStood (version : ℕ) (nums ends : List ℕ) (P : Program) : Type 0 where
+  pub versionIs : P .version ≡ version
+  pub noStates : P .states ≡ []
   pub headersFew : length (P .headers) ≤ mostHeaders
   pub headers : (i : ℕ) (x : HeaderTy) → getElem? (P .headers) i ≡ some x → StandsHeader nums (x .at) x
   pub globalsFew : length (P .globals) ≤ mostGlobals
@@ -153,7 +155,7 @@ module _ (version : ℕ) (nums ends : List ℕ) where
       record { few = c .holds .atMost; stand = a .member; begin = a .begin }
 
   parts-stand : (at next : ℕ) (P : Program) → Reads (readAfterVersion version) nums at next P → EndedProgram P next ends
-      → PartsStood nums ends P
+      → PartsStood version nums ends P
   unfolding readAfterVersion
   parts-stand at next P r h =
       let x : Both _ _ nums at next P = both (keeps-list 0 mostHeaders (keeps-header version)) r in
@@ -167,6 +169,7 @@ module _ (version : ℕ) (nums ends : List ℕ) where
         globals = y .result;
         callables = z .result;
         tables = w .result;
+        states = [];
         body = v .result;
       }) P (v .mid) next = reads-pure (v .second) in
       rw (← g .same) (together (x .result) (y .result) (z .result) (w .result) (v .result) (z .mid) (w .mid)
@@ -188,16 +191,18 @@ module _ (version : ℕ) (nums ends : List ℕ) where
             globals = gs;
             callables = cs;
             tables = ts;
+            states = [];
             body
                 = body;
           })
           next ends
-          → PartsStood nums ends (record {
+          → PartsStood version nums ends (record {
             version = version;
             headers = hs;
             globals = gs;
             callables = cs;
             tables = ts;
+            states = [];
             body = body;
           })
       together hs gs cs ts body i j ph pg fc ft fb e =
@@ -208,6 +213,8 @@ module _ (version : ℕ) (nums ends : List ℕ) where
           let c : (length cs ≤ mostCallables) × ((i : ℕ) (x : Callable) → getElem? cs i ≡ some x
           → StandsCallable nums ends (x .at) x) = fc (rw before at (e .callables)) in
           record {
+            versionIs = refl;
+            noStates = refl;
             headersFew = ph .0;
             headers = ph .1;
             globalsFew = pg .0;
@@ -219,15 +226,28 @@ module _ (version : ℕ) (nums ends : List ℕ) where
             body = rw (stmt-at b) b;
           }
 
+-- the version stands first
+version-held : (nums : List ℕ) (next version : ℕ) → Reads (standsFor versionOf) nums 0 next version
+    → Holds nums 0 version
+unfolding versionOf
+version-held nums next version r =
+    let m : Meant versionOf nums 0 next version = reads-stands r in
+    let w = within-some 1 1 (getD nums 0 0) version (m .means) in
+    record { inside = m .inside; is = w .0 }
+
+no-states : {nums ends : List ℕ} (directory : List ℕ) → getD directory 70 0 ≡ 0
+    → StandsList (StandsState nums ends) directory 70 mostStates []
+no-states directory e = record { count = e; few = omega arith; member = λ i x e. let z : _≡_ {A = ℕ} 0 1 = cc in absurd (omega arith) }
+
 -- the program that the scan found stands
 pub program-stands : (nums directory directory′ ends ends′ : List ℕ) (r : Scan) (P : Program) (end : ℕ)
     → ScansProgram nums directory directory′ ends ends′ r → readProgram nums 0 ≡ got P (drop end nums) end
-    → length nums ≤ mostBytes → length nums ≤ length ends → length nums ≤ length ends′ → length directory ≡ 200
-    → length directory′ ≡ 200 → StandsProgram nums directory′ ends′ P end
+    → length nums ≤ mostBytes → length nums ≤ length ends → length nums ≤ length ends′ → length directory ≡ 217
+    → length directory′ ≡ 217 → getD directory′ 70 0 ≡ 0 → StandsProgram nums directory′ ends′ P end
 unfolding readProgram directoryLeft
-program-stands nums directory directory′ ends ends′ r P end w e few room room′ slots slots′ =
+program-stands nums directory directory′ ends ends′ r P end w e few room room′ slots slots′ stateless =
     let b : Both _ _ nums 0 end P = both (keeps-stands versionOf) (record { gave = e }) in
-    let p : PartsStood nums ends′ P
+    let p : PartsStood (b .result) nums ends′ P
     = parts-stand (b .result) nums ends′ (b .mid) end P (b .second)
     (scan-ended nums directory directory′ ends ends′ r P (drop end nums) end w e room) in
     let d : Entries P end directory′ = rw (w .parts, e) (entries nums (drop end nums) directory P end e slots) in
@@ -249,4 +269,6 @@ program-stands nums directory directory′ ends ends′ r P end w e few room roo
           (d .table) (p .tables);
       body = rw (d .body) (p .body);
       ending = d .ending;
+      version = rw (p .versionIs) (version-held nums (b .mid) (b .result) (b .first));
+      states = rw (p .noStates) (no-states directory′ stateless);
     }

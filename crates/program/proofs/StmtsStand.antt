@@ -18,7 +18,7 @@ use Rattle.shape.specs.Ends.{exprAt, stmtsAt, EndedExpr, EndedStmt, EndedStmts}
 use Rattle.shape.proofs.Ended.{own-stmt}
 use Rattle.program.specs.Codes.{placeTag, memberCount}
 use Rattle.program.specs.Stands.{HoldsTag, StandsPlace, StandsExpr}
-use Rattle.program.specs.Stands.{StandsStmt, on-empty, on-assign, on-if, on-block, on-call-stmt, on-apply, on-return-value, on-return, on-exit, on-set-valid, on-set-invalid}
+use Rattle.program.specs.Stands.{StandsStmt, on-empty, on-assign, on-if, on-block, on-call-stmt, on-apply, on-return-value, on-return, on-exit, on-set-valid, on-set-invalid, on-extract, on-verify}
 use Rattle.program.specs.Stands.{StandsStmts, on-no-member, on-member}
 use Rattle.program.proofs.Readings.{Reads, reads-to, reads-from, Both, both, Given, reads-pure, reads-here, Number, reads-number, Meant, reads-stands, Counted, reads-list, reads-none, Head, reads-more, reads-deep}
 use Rattle.program.proofs.ExprsStand.{Numbered, numbered-at, placeNumber, exprNumber, expr-tag, expr-at, expr-end, Placed, place-stands, CallStood, call-stands, args-from, expr-stands}
@@ -55,6 +55,8 @@ stmt-at (on-return t) = refl
 stmt-at (on-exit t) = refl
 stmt-at (on-set-valid t n) = refl
 stmt-at (on-set-invalid t n) = refl
+stmt-at (on-extract t n) = refl
+stmt-at (on-verify t c e) = refl
 
 stmt-end : {nums ends : List ℕ} {depth at : ℕ} (s : Stmt) (end : ℕ) → StandsStmt nums ends depth at s
     → EndedStmt s end ends → getD ends at 0 ≡ end

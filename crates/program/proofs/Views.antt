@@ -8,13 +8,13 @@ use lib.ListN.{length, getD}
 use Rattle.rules.specs.Words.{widest}
 use Rattle.rules.specs.Syntax.{Operator, Place, local, parameter, global, field}
 use Rattle.rules.specs.Syntax.{Expr, boolLiteral, bitsLiteral, readOf, validOf, negation, complement, binary, cast, slice, concatenation, callExpr, Args, noArgs, arg}
-use Rattle.rules.specs.Syntax.{Stmt, empty, assign, ifElse, block, callStmt, apply, returnValue, return, exit, setValid, setInvalid, Stmts, noStmts, stmt}
-use Rattle.rules.specs.Reading.{highestBound, mostArguments, mostMembers}
+use Rattle.rules.specs.Syntax.{Stmt, empty, assign, ifElse, block, callStmt, apply, returnValue, return, exit, setValid, setInvalid, extract, verify, Stmts, noStmts, stmt}
+use Rattle.rules.specs.Reading.{mostError, highestBound, mostArguments, mostMembers}
 use Rattle.program.specs.Codes.{operatorNumber, placeTag, argCount, memberCount}
 use Rattle.program.specs.Stands.{Holds, HoldsWithin, HoldsTag, StandsPlace}
 use Rattle.program.specs.Stands.{StandsExpr, on-bool, on-bits, on-place, on-valid, on-not, on-complement, on-binary, on-cast, on-slice, on-concatenation, on-call}
 use Rattle.program.specs.Stands.{StandsArgs, on-none, on-arg}
-use Rattle.program.specs.Stands.{StandsStmt, on-empty, on-assign, on-if, on-block, on-call-stmt, on-apply, on-return-value, on-return, on-exit, on-set-valid, on-set-invalid}
+use Rattle.program.specs.Stands.{StandsStmt, on-empty, on-assign, on-if, on-block, on-call-stmt, on-apply, on-return-value, on-return, on-exit, on-set-valid, on-set-invalid, on-extract, on-verify}
 use Rattle.program.specs.Stands.{StandsStmts, on-no-member, on-member}
 
 -- expressions, one record for each form
@@ -210,6 +210,13 @@ module _ (nums ends : List ℕ) (depth at : ℕ) (s : Stmt) where
     pub same : s ≡ returnValue at value
     pub stands : StandsExpr nums ends (depth - 1) (at + 1) value
 
+  pub record VerifyView : Type 0 where
+    pub condition : Expr
+    pub error : ℕ
+    pub same : s ≡ verify at condition error
+    pub stands : StandsExpr nums ends (depth - 1) (at + 1) condition
+    pub holds : HoldsWithin 0 mostError nums (getD ends (at + 1) 0) error
+
   -- by tag; no statement has another
   unfoldable pub StmtView : ℕ → Type 0
   StmtView zero = BareView (empty at)
@@ -223,7 +230,9 @@ module _ (nums ends : List ℕ) (depth at : ℕ) (s : Stmt) where
   StmtView (suc (suc (suc (suc (suc (suc (suc (suc zero)))))))) = BareView (exit at)
   StmtView (suc (suc (suc (suc (suc (suc (suc (suc (suc zero))))))))) = NamedView (setValid at)
   StmtView (suc (suc (suc (suc (suc (suc (suc (suc (suc (suc zero)))))))))) = NamedView (setInvalid at)
-  StmtView (suc (suc (suc (suc (suc (suc (suc (suc (suc (suc (suc n))))))))))) = ⊥
+  StmtView (suc (suc (suc (suc (suc (suc (suc (suc (suc (suc (suc zero))))))))))) = NamedView (extract at)
+  StmtView (suc (suc (suc (suc (suc (suc (suc (suc (suc (suc (suc (suc zero)))))))))))) = VerifyView
+  StmtView (suc (suc (suc (suc (suc (suc (suc (suc (suc (suc (suc (suc (suc n))))))))))))) = ⊥
 
 pub stmt-view : {nums ends : List ℕ} {depth at : ℕ} {s : Stmt} → StandsStmt nums ends depth at s
     → StmtView nums ends depth at s (getD nums at 0)
@@ -249,6 +258,8 @@ stmt-view (on-return t) = rw (t .holds .is) (record { same = refl })
 stmt-view (on-exit t) = rw (t .holds .is) (record { same = refl })
 stmt-view (on-set-valid t n) = rw (t .holds .is) (record { name = _; same = refl; holds = n })
 stmt-view (on-set-invalid t n) = rw (t .holds .is) (record { name = _; same = refl; holds = n })
+stmt-view (on-extract t n) = rw (t .holds .is) (record { name = _; same = refl; holds = n })
+stmt-view (on-verify t c e) = rw (t .holds .is) (record { condition = _; error = _; same = refl; stands = c; holds = e })
 
 -- members, by their count
 module _ (nums ends : List ℕ) (depth at : ℕ) where
@@ -307,3 +318,5 @@ stmt-begins (on-return t) = begun t
 stmt-begins (on-exit t) = begun t
 stmt-begins (on-set-valid t n) = begun t
 stmt-begins (on-set-invalid t n) = begun t
+stmt-begins (on-extract t n) = begun t
+stmt-begins (on-verify t c e) = begun t

@@ -5,10 +5,10 @@ use mathlib.Core.List.{List}
 use Prim.Native.Nat.{ℕ, zero, suc, _+_, _≤_, _<_}
 use lib.ListN.{length, getD, getElem?}
 use Rattle.rules.specs.Words.{widest}
-use Rattle.rules.specs.Syntax.{Ty, GlobalTy, variable, header, HeaderTy, Global, Callable, Table, Program}
+use Rattle.rules.specs.Syntax.{Ty, GlobalTy, variable, header, HeaderTy, Global, Callable, Table, ParserState, Program}
 use Rattle.rules.specs.Reading.{deepest, mostHeaders}
 use Rattle.program.specs.Codes.{tyOf, headerNumber, callableKindNumber}
-use Rattle.program.specs.Stands.{StandsParameters, StandsTypes, StandsStmt, StandsHeader, StandsTable, StandsProgram, actionsAt, defaultAt}
+use Rattle.program.specs.Stands.{StandsParameters, StandsTypes, StandsStmt, StandsHeader, StandsTable, StandsState, StandsProgram, actionsAt, defaultAt}
 
 -- some program stands there, with a member of this number in one of its lists
 pub record Has {A : Type 0} (list : Program → List A) (nums directory ends : List ℕ) (i : ℕ) : Type 0 where
@@ -35,6 +35,9 @@ callablesOf P = P .callables
 
 unfoldable pub tablesOf : Program → List Table
 tablesOf P = P .tables
+
+unfoldable pub statesOf : Program → List ParserState
+statesOf P = P .states
 
 -- a global's type as it is written
 unfoldable pub GlobalNumber : ℕ → GlobalTy → Type 0
@@ -71,6 +74,10 @@ pub record FoundTable (nums ends : List ℕ) (at actions default : ℕ) (T : Tab
   pub stands : StandsTable nums ends at T
   pub actionsIs : actions ≡ actionsAt ends at T
   pub defaultIs : default ≡ defaultAt ends at T
+
+-- where a state stands
+unfoldable pub FoundState : List ℕ → List ℕ → ℕ → ParserState → Type 0
+FoundState nums ends at s = StandsState nums ends at s
 
 -- so many keys, each of which has its end
 unfoldable pub KeysInside : List ℕ → ℕ → ℕ → Type 0

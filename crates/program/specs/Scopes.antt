@@ -1,18 +1,19 @@
 -- What a body sees, in seven slots: how many callables it reaches; where its parameters stand and how many they are;
--- the same of its locals; its kind (0 an action, 1 a function, 2 the apply body) and the type that it returns.
+-- the same of its locals; its kind (0 an action, 1 a function, 2 the apply body, 3 a state) and the type that it returns.
 use mathlib.Core.Path.{_≡_}
 use mathlib.Core.List.{List}
 use Prim.Native.Nat.{ℕ, zero, suc, _≤_}
 use lib.ListN.{length, getD}
 use Rattle.rules.specs.Words.{widest}
-use Rattle.rules.specs.Form.{Body, inFunction, inAction, inApply, Scope}
+use Rattle.rules.specs.Form.{Body, inFunction, inAction, inApply, inState, Scope}
 use Rattle.program.specs.Codes.{tyOf}
 use Rattle.program.specs.Stands.{StandsParameters, StandsTypes, StandsProgram}
 
 unfoldable pub bodyNumbered : ℕ → ℕ → Body
 bodyNumbered zero returns = inAction
 bodyNumbered (suc zero) returns = inFunction (tyOf returns)
-bodyNumbered (suc (suc kind)) returns = inApply
+bodyNumbered (suc (suc zero)) returns = inApply
+bodyNumbered (suc (suc (suc kind))) returns = inState
 
 pub record StandsScope (nums directory ends scope : List ℕ) (Γ : Scope) : Type 0 where
   pub end : ℕ

@@ -10,10 +10,10 @@ use Rattle.rules.specs.Numbers.{mostBytes}
 use Rattle.rules.specs.Words.{widest}
 use Rattle.rules.specs.Syntax.{Ty, GlobalTy, variable, header, Operator, Place, local, parameter, global, field}
 use Rattle.rules.specs.Syntax.{Expr, boolLiteral, bitsLiteral, readOf, validOf, negation, complement, binary, cast, slice, concatenation, callExpr, Args, noArgs, arg}
-use Rattle.rules.specs.Syntax.{Stmt, empty, assign, ifElse, block, callStmt, apply, returnValue, return, exit, setValid, setInvalid, Stmts, noStmts, stmt}
-use Rattle.rules.specs.Syntax.{HeaderTy, Global, Parameter, Callable, Numeral, Key, Table, Program}
-use Rattle.rules.specs.Reading.{deepest, highestBound, mostHeaders, mostFields, mostGlobals, mostCallables, mostParameters, mostLocals, mostTables, mostKeys, mostActions, mostArguments, mostMembers}
-use Rattle.shape.specs.Directory.{headersSlot, globalsSlot, callablesSlot, tablesSlot, bodySlot, endSlot, slotCount}
+use Rattle.rules.specs.Syntax.{Stmt, empty, assign, ifElse, block, callStmt, apply, returnValue, return, exit, setValid, setInvalid, extract, verify, Stmts, noStmts, stmt}
+use Rattle.rules.specs.Syntax.{HeaderTy, Global, Parameter, Callable, Numeral, Key, Table, Pair, Transition, noTransition, accept, reject, leadTo, select, ParserState, Program}
+use Rattle.rules.specs.Reading.{deepest, highestBound, mostError, mostPairs, mostStates, mostHeaders, mostFields, mostGlobals, mostCallables, mostParameters, mostLocals, mostTables, mostKeys, mostActions, mostArguments, mostMembers}
+use Rattle.shape.specs.Directory.{headersSlot, globalsSlot, callablesSlot, tablesSlot, statesSlot, bodySlot, endSlot, slotCount}
 use Rattle.program.specs.Codes.{tyOf, headerNumber, directionNumber, keyKindNumber, callableKindNumber, operatorNumber, placeTag, argCount, memberCount}
 
 -- a number at an index
@@ -110,6 +110,11 @@ mutual
         → StandsStmt nums ends depth at (setValid at g)
     on-set-invalid : {depth at g : ℕ} → HoldsTag nums depth at 10 → Holds nums (at + 1) g
         → StandsStmt nums ends depth at (setInvalid at g)
+    on-extract : {depth at g : ℕ} → HoldsTag nums depth at 11 → Holds nums (at + 1) g
+        → StandsStmt nums ends depth at (extract at g)
+    on-verify : {depth at e : ℕ} {c : Expr} → HoldsTag nums depth at 12
+        → StandsExpr nums ends (depth - 1) (at + 1) c → HoldsWithin 0 mostError nums (getD ends (at + 1) 0) e
+        → StandsStmt nums ends depth at (verify at c e)
 
   pub data StandsStmts (nums ends : List ℕ) : ℕ → ℕ → Stmts → Type 0 where
     on-no-member : {depth at : ℕ} → StandsStmts nums ends depth at noStmts
@@ -208,6 +213,29 @@ pub record StandsTable (nums ends : List ℕ) (at : ℕ) (T : Table) : Type 0 wh
   pub argumentCount : HoldsWithin 0 mostArguments nums (defaultAt ends at T + 1) (length (T .arguments))
   pub arguments : StandsNumerals nums (defaultAt ends at T + 2) (T .arguments)
 
+-- a state: its statement, and behind it its transition
+unfoldable pub StandsPairs : List ℕ → ℕ → List Pair → Type 0
+StandsPairs nums at [] = Unit
+StandsPairs nums at (p ∷ ps) =
+    StandsNumeral nums at (p .value)
+    × (StandsNumeral nums (at + 1) (p .state) × StandsPairs nums (at + 2) ps)
+
+pub data StandsTransition (nums ends : List ℕ) : ℕ → Transition → Type 0 where
+  on-no-transition : {at : ℕ} → Holds nums at 0 → StandsTransition nums ends at noTransition
+  on-accept : {at : ℕ} → Holds nums at 1 → StandsTransition nums ends at accept
+  on-reject : {at e : ℕ} → Holds nums at 2 → HoldsWithin 0 mostError nums (at + 1) e
+      → StandsTransition nums ends at (reject e)
+  on-lead-to : {at : ℕ} {s : Numeral} → Holds nums at 3 → StandsNumeral nums (at + 1) s
+      → StandsTransition nums ends at (leadTo s)
+  on-select : {at : ℕ} {e : Expr} {ps : List Pair} → Holds nums at 4 → StandsExpr nums ends deepest (at + 1) e
+      → HoldsWithin 0 mostPairs nums (getD ends (at + 1) 0) (length ps)
+      → StandsPairs nums (getD ends (at + 1) 0 + 1) ps → StandsTransition nums ends at (select at e ps)
+
+pub record StandsState (nums ends : List ℕ) (at : ℕ) (s : ParserState) : Type 0 where
+  pub index : s .at ≡ at
+  pub body : StandsStmt nums ends deepest at (s .body)
+  pub transition : StandsTransition nums ends (getD ends at 0) (s .transition)
+
 -- a list of parts: its count in a slot of the directory, where each member stands in those behind it
 pub record StandsList {A : Type 0} (Stands : ℕ → A → Type 0) (directory : List ℕ) (slot most : ℕ) (xs : List A)
     : Type 0 where
@@ -218,12 +246,14 @@ pub record StandsList {A : Type 0} (Stands : ℕ → A → Type 0) (directory : 
 -- a program that ends before an index
 pub record StandsProgram (nums directory ends : List ℕ) (P : Program) (end : ℕ) : Type 0 where
   pub numbers : length nums ≤ mostBytes
+  pub version : Holds nums 0 (P .version)
   pub room : length nums ≤ length ends
   pub slots : length directory ≡ slotCount
   pub headers : StandsList (StandsHeader nums) directory headersSlot mostHeaders (P .headers)
   pub globals : StandsList (StandsGlobal nums) directory globalsSlot mostGlobals (P .globals)
   pub callables : StandsList (StandsCallable nums ends) directory callablesSlot mostCallables (P .callables)
   pub tables : StandsList (StandsTable nums ends) directory tablesSlot mostTables (P .tables)
+  pub states : StandsList (StandsState nums ends) directory statesSlot mostStates (P .states)
   pub body : StandsStmt nums ends deepest (getD directory bodySlot 0) (P .body)
   pub ending : getD directory endSlot 0 ≡ end
 

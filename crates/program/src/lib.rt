@@ -2,7 +2,7 @@
 // and tables. Each looks at a fixed number of numbers, a table's also at its keys' ends.
 ghost use mathlib.Core.Path.{_≡_};
 ghost use Prim.Native.Nat.{_+_};
-ghost use Rattle.program.specs.Looks.{Has, Finds, headersOf, globalsOf, callablesOf, tablesOf, FoundGlobal, FoundHead, FoundFrame, FoundHeader, FoundTable, KeysInside};
+ghost use Rattle.program.specs.Looks.{Has, Finds, headersOf, globalsOf, callablesOf, tablesOf, statesOf, FoundGlobal, FoundHead, FoundFrame, FoundHeader, FoundTable, FoundState, KeysInside};
 ghost use Rattle.program.specs.Stands.{keysEnd};
 
 // The slots of a scope (page Scopes): how many callables are reached; where the parameters begin, and how many they
@@ -29,6 +29,8 @@ pub const ACTION: u64 = 0;
 pub const FUNCTION: u64 = 1;
 
 pub const APPLY: u64 = 2;
+
+pub const STATE: u64 = 3;
 
 // The kinds of keys.
 pub const EXACT: u64 = 0;
@@ -119,6 +121,14 @@ pub fn frame_of(nums: &[u64], ends: &[u64], directory: &[u64; shape::SLOTS], f: 
         count: count,
         body: locals + 1 + count as usize,
     }
+}
+
+// Where a state stands: its statement, and at that one's end its transition.
+pub fn state_of(nums: &[u64], ends: &[u64], directory: &[u64; shape::SLOTS], s: usize) -> usize
+    requires { ⌜ Has statesOf (now nums) (now directory) (now ends) s ⌝ }
+    ensures { λ r. ⌜ Finds statesOf (FoundState (now (nums .entry)) (now (ends .entry)) r) (now (nums .entry)) (now (directory .entry)) (now (ends .entry)) s ⌝ }
+{
+    directory[shape::STATES + 1 + s] as usize
 }
 
 // The index behind so many keys.

@@ -61,7 +61,7 @@ pub ruleset lays = (lay-low, lay-copies, lay-laid)
 
 -- one after the other
 module _ (offsets entries widths directory : List ℕ) where
-  pub lay-offsets : AsksPrepare offsets entries widths directory → AsksLay offsets directory 33 70
+  pub lay-offsets : AsksPrepare offsets entries widths directory → AsksLay offsets directory 33 87
   lay-offsets a = record {
     few = omega (arith, a .globals);
     inside = omega (arith, a .globals);
@@ -69,9 +69,9 @@ module _ (offsets entries widths directory : List ℕ) where
     room = omega arith;
   }
 
-  module _ (a : AsksPrepare offsets entries widths directory) (directory₁ : List ℕ) (x : Lays offsets directory directory₁ 33 70)
+  module _ (a : AsksPrepare offsets entries widths directory) (directory₁ : List ℕ) (x : Lays offsets directory directory₁ 33 87)
     where
-      pub lay-entries : AsksLay entries directory₁ 65 103
+      pub lay-entries : AsksLay entries directory₁ 65 120
       lay-entries = record {
         few = omega (arith, a .entry);
         inside = omega (arith, a .entry);
@@ -79,8 +79,8 @@ module _ (offsets entries widths directory : List ℕ) where
         room = omega arith;
       }
 
-      module _ (directory₂ : List ℕ) (y : Lays entries directory₁ directory₂ 65 103) where
-        pub lay-widths : AsksLay widths directory₂ 32 168
+      module _ (directory₂ : List ℕ) (y : Lays entries directory₁ directory₂ 65 120) where
+        pub lay-widths : AsksLay widths directory₂ 32 185
         lay-widths = record {
           few = omega (arith, a .keys);
           inside = omega (arith, a .keys);
@@ -88,7 +88,7 @@ module _ (offsets entries widths directory : List ℕ) where
           room = omega arith;
         }
 
-        pub all-laid : (directory₃ : List ℕ) → Lays widths directory₂ directory₃ 32 168
+        pub all-laid : (directory₃ : List ℕ) → Lays widths directory₂ directory₃ 32 185
             → Prepares offsets entries widths directory directory₃
         all-laid directory₃ z = record {
           same = z .same ∙ (y .same ∙ x .same);

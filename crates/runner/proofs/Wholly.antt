@@ -134,7 +134,7 @@ module _ (nums directory ends slots frame : List ℕ) (store size : ℕ) where
     run-copies = start-copies nums directory ends (a .program) (a .ready .end) store size (a .cells)
         (a .ready .stands) (a .ready .numbers) (a .ready .sized) (a .ready .fits) slots (a .ready .count)
 
-    pub run-directory : length directory ≡ 200
+    pub run-directory : length directory ≡ 217
     run-directory = a .ready .stands .slots
 
     pub run-counter : (slots₁ : List ℕ) → Copies nums slots slots₁ store size → counterSlot < length slots₁

@@ -1,8 +1,11 @@
 -- `lines::ended` meets its promise: the measure decides the answer, and with it whether the lines are put.
-use borrow.Author.Needs.{needs}
 use Rattle.lines.proofs.Whole.{endings}
+use borrow.Author.Needs.{needs}
 use Rattle.lines.proofs.ended.Statement.{statement}
 use Rattle.lines.proofs.ended.Tie as tie
+
+word-length-requires : tie.Need-word-length-requires
+word-length-requires c κs = search (endings, needs)
 
 line-length-requires : tie.Need-line-length-requires
 line-length-requires c κs = search (endings, needs)
@@ -35,6 +38,7 @@ pub ended-spec : {M : Type 1} → statement M
 ended-spec =
     tie.close
     (tie.spec
+    word-length-requires
     line-length-requires
     measure-requires
     enum-known-answer
