@@ -7,5 +7,6 @@ mod ExprsStand
 mod StmtsStand
 mod PartsStand
 mod TablesStand
+mod StatesStand
 pub mod Seen
 pub mod Standing

@@ -1,5 +1,6 @@
 -- What the scan of a program promises, for the passes that come after: the program that the rules read stands in the
 -- numbers, by the directory and the ends that the scan left.
+use mathlib.Core.Bool.{Bool, true, false}
 use mathlib.Core.Option.{some}
 use mathlib.Core.Path.{_≡_, refl, sym, _∙_}
 use mathlib.Core.List.{List, [], _∷_, map}
@@ -7,11 +8,11 @@ use Prim.Native.Nat.{ℕ, zero, suc, _+_, _-_, _≤_, _<_}
 use native.Mathlib.Omega.{arith}
 use lib.ListN.{length, getD, drop, getElem?}
 use Rattle.rules.specs.Numbers.{mostBytes}
-use Rattle.rules.specs.Syntax.{HeaderTy, Global, Callable, Table, Stmt, Program}
-use Rattle.rules.specs.Reading.{Reader, got, standsFor, repeat, listOf, deepest, mostHeaders, mostGlobals, mostCallables, mostTables, mostStates, versionOf, readHeader, readGlobal, readCallable, readTable, readAfterVersion, readProgram}
-use Rattle.rules.proofs.Readers.{Keeps, keeps-stands, keeps-list, keeps-header, keeps-global, keeps-callable, keeps-table, keeps-stmt}
+use Rattle.rules.specs.Syntax.{HeaderTy, Global, Callable, Table, ParserState, Stmt, Program}
+use Rattle.rules.specs.Reading.{Reader, got, standsFor, hasParser, repeat, listOf, deepest, mostHeaders, mostGlobals, mostCallables, mostTables, mostStates, versionOf, readHeader, readGlobal, readCallable, readTable, readState, readStates, readAfterVersion, readProgram}
+use Rattle.rules.proofs.Readers.{Keeps, keeps-stands, keeps-list, keeps-header, keeps-global, keeps-callable, keeps-table, keeps-state, keeps-states, keeps-stmt}
 use Rattle.shape.specs.Directory.{stmtAt, directoryLeft}
-use Rattle.shape.specs.Ends.{firstAt, callableAt, tableAt, EndedAll, EndedStmt, EndedCallable, EndedTable, EndedProgram, ScansProgram}
+use Rattle.shape.specs.Ends.{firstAt, callableAt, tableAt, stateAt, statesAt, blocksAt, EndedAll, EndedState, EndedStmt, EndedCallable, EndedTable, EndedProgram, ScansProgram}
 use Rattle.shape.specs.declared.Scan.{Scan}
 use Rattle.shape.proofs.Entries.{Entries, entries}
 use Rattle.shape.proofs.Lines.{NoEnded, scan-ended}
@@ -21,6 +22,7 @@ use Rattle.program.proofs.Readings.{Reads, reads-to, Both, both, Given,
 use Rattle.program.proofs.StmtsStand.{stmt-at, stmt-stands}
 use Rattle.program.proofs.PartsStand.{header-stands, global-stands, callable-stands}
 use Rattle.program.proofs.TablesStand.{table-stands}
+use Rattle.program.proofs.StatesStand.{state-stands}
 
 -- where each member of a list was read, it stands; `start` is the index that it carries
 record AllStood {A : Type 0} (start : A → ℕ) (Stands : ℕ → A → Type 0) (at next : ℕ) (xs : List A) : Type 0 where
@@ -86,7 +88,6 @@ none-ended start (x ∷ xs) end slots = (tt, none-ended start xs end slots)
 -- the parts of a program by themselves
 record PartsStood (version : ℕ) (nums ends : List ℕ) (P : Program) : Type 0 where
   pub versionIs : P .version ≡ version
-  pub noStates : P .states ≡ []
   pub headersFew : length (P .headers) ≤ mostHeaders
   pub headers : (i : ℕ) (x : HeaderTy) → getElem? (P .headers) i ≡ some x → StandsHeader nums (x .at) x
   pub globalsFew : length (P .globals) ≤ mostGlobals
@@ -95,6 +96,8 @@ record PartsStood (version : ℕ) (nums ends : List ℕ) (P : Program) : Type 0 
   pub callables : (i : ℕ) (x : Callable) → getElem? (P .callables) i ≡ some x → StandsCallable nums ends (x .at) x
   pub tablesFew : length (P .tables) ≤ mostTables
   pub tables : (i : ℕ) (x : Table) → getElem? (P .tables) i ≡ some x → StandsTable nums ends (x .at) x
+  pub statesFew : length (P .states) ≤ mostStates
+  pub states : (i : ℕ) (x : ParserState) → getElem? (P .states) i ≡ some x → StandsState nums ends (x .at) x
   pub body : StandsStmt nums ends deepest (stmtAt (P .body)) (P .body)
 
 module _ (version : ℕ) (nums ends : List ℕ) where
@@ -154,44 +157,90 @@ module _ (version : ℕ) (nums ends : List ℕ) where
       (length ts) (at + 1) next ts (c .members) h in
       record { few = c .holds .atMost; stand = a .member; begin = a .begin }
 
+  -- the states, which stand there where the version has a parser, and where they begin
+  record StatesStood (at next : ℕ) (ss : List ParserState) : Type 0 where
+    pub few : length ss ≤ mostStates
+    pub stand : (i : ℕ) (x : ParserState) → getElem? ss i ≡ some x → StandsState nums ends (x .at) x
+    pub begin : statesAt ss next ≡ at
+
+  states-begin : (at next : ℕ) (ss : List ParserState) → 1 ≤ length ss → firstAt stateAt ss next ≡ at + 1
+      → statesAt ss next ≡ at
+  unfolding statesAt firstAt stateAt
+  states-begin at next [] h e = absurd (omega arith)
+  states-begin at next (s ∷ ss) h e = omega (arith, e)
+
+  states-stand : (at next : ℕ) (ss : List ParserState) → Reads (readStates version) nums at next ss
+      → EndedAll stateAt EndedState ss next ends → StatesStood at next ss
+  unfolding readStates stateAt statesAt
+  states-stand at next ss r h = go (hasParser version) r
+    where
+      go : (b : Bool) → Reads {A = List ParserState} (elim b [
+        | true ↦ listOf 1 mostStates (readState version)
+        | false ↦ Rattle.rules.specs.Reading.pure []
+      ]) nums at next ss → StatesStood at next ss
+      go true r =
+          let c : Counted 1 mostStates (readState version) nums at next ss = reads-list r in
+          let a : AllStood stateAt (StandsState nums ends) (at + 1) next ss
+          = all-stand stateAt EndedState (StandsState nums ends) (readState version) nums ends (keeps-state version)
+          (λ at next s r e. let w : StandsState nums ends at s = state-stands version nums ends at next s r e in
+          (w .index, w))
+          (length ss) (at + 1) next ss (c .members) h in
+          record {
+            few = c .holds .atMost;
+            stand = a .member;
+            begin = states-begin at next ss (c .holds .atLeast) (a .begin);
+          }
+      go false r =
+          let g : Given [] ss at next = reads-pure r in
+          rw (← g .same) (record {
+            few = omega arith;
+            stand = λ i x e. let z : _≡_ {A = ℕ} 0 1 = cc in absurd (omega arith);
+            begin = sym (g .stays);
+          })
+
   parts-stand : (at next : ℕ) (P : Program) → Reads (readAfterVersion version) nums at next P → EndedProgram P next ends
       → PartsStood version nums ends P
-  unfolding readAfterVersion
+  unfolding readAfterVersion blocksAt
   parts-stand at next P r h =
       let x : Both _ _ nums at next P = both (keeps-list 0 mostHeaders (keeps-header version)) r in
       let y : Both _ _ nums (x .mid) next P = both (keeps-list 0 mostGlobals (keeps-global version)) (x .second) in
       let z : Both _ _ nums (y .mid) next P = both (keeps-list 0 mostCallables (keeps-callable version)) (y .second) in
       let w : Both _ _ nums (z .mid) next P = both (keeps-list 0 mostTables (keeps-table version)) (z .second) in
-      let v : Both _ _ nums (w .mid) next P = both (keeps-stmt version deepest) (w .second) in
+      let u : Both _ _ nums (w .mid) next P = both (keeps-states version) (w .second) in
+      let v : Both _ _ nums (u .mid) next P = both (keeps-stmt version deepest) (u .second) in
       let g : Given (record {
         version = version;
         headers = x .result;
         globals = y .result;
         callables = z .result;
         tables = w .result;
-        states = [];
+        states = u .result;
         body = v .result;
       }) P (v .mid) next = reads-pure (v .second) in
-      rw (← g .same) (together (x .result) (y .result) (z .result) (w .result) (v .result) (z .mid) (w .mid)
+      rw (← g .same) (together (x .result) (y .result) (z .result) (w .result) (u .result) (v .result) (z .mid) (w .mid)
+      (u .mid)
       (headers-stand at (x .mid) (x .result) (x .first)) (globals-stand (x .mid) (y .mid) (y .result) (y .first))
       (callables-stand (y .mid) (z .mid) (z .result) (z .first)) (tables-stand (z .mid) (w .mid) (w .result) (w .first))
-      (stmt-stands version nums ends deepest (w .mid) next (v .result) (reads-to (g .stays) (v .first)))
+      (states-stand (w .mid) (u .mid) (u .result) (u .first))
+      (stmt-stands version nums ends deepest (u .mid) next (v .result) (reads-to (g .stays) (v .first)))
       (rw (← g .same) at h))
     where
-      together : (hs : List HeaderTy) (gs : List Global) (cs : List Callable) (ts : List Table) (body : Stmt) (i j : ℕ)
+      together : (hs : List HeaderTy) (gs : List Global) (cs : List Callable) (ts : List Table) (ss : List ParserState)
+          (body : Stmt) (i j k : ℕ)
           → (length hs ≤ mostHeaders) × ((i : ℕ) (x : HeaderTy) → getElem? hs i ≡ some x → StandsHeader nums (x .at) x)
           → (length gs ≤ mostGlobals) × ((i : ℕ) (x : Global) → getElem? gs i ≡ some x → StandsGlobal nums (x .at) x)
           → (EndedAll callableAt EndedCallable cs i ends → (length cs ≤ mostCallables)
           × ((i : ℕ) (x : Callable) → getElem? cs i ≡ some x → StandsCallable nums ends (x .at) x))
           → (EndedAll tableAt EndedTable ts j ends → TablesStood i j ts)
-          → (EndedStmt body next ends → StandsStmt nums ends deepest j body)
+          → (EndedAll stateAt EndedState ss k ends → StatesStood j k ss)
+          → (EndedStmt body next ends → StandsStmt nums ends deepest k body)
           → EndedProgram (record {
             version = version;
             headers = hs;
             globals = gs;
             callables = cs;
             tables = ts;
-            states = [];
+            states = ss;
             body
                 = body;
           })
@@ -202,19 +251,20 @@ module _ (version : ℕ) (nums ends : List ℕ) where
             globals = gs;
             callables = cs;
             tables = ts;
-            states = [];
+            states = ss;
             body = body;
           })
-      together hs gs cs ts body i j ph pg fc ft fb e =
-          let b : StandsStmt nums ends deepest j body = fb (e .body) in
-          let t : TablesStood i j ts = ft (rw (stmt-at b) at (e .tables)) in
-          let before : firstAt tableAt ts (stmtAt body) - 1 ≡ i
-          = let f : firstAt tableAt ts (stmtAt body) ≡ i + 1 = rw (stmt-at b) (t .begin) in omega (arith, f) in
+      together hs gs cs ts ss body i j k ph pg fc ft fs fb e =
+          let b : StandsStmt nums ends deepest k body = fb (e .body) in
+          let x : StatesStood j k ss = fs (rw (stmt-at b) at (e .states)) in
+          let block : statesAt ss (stmtAt body) ≡ j = rw (stmt-at b) (x .begin) in
+          let t : TablesStood i j ts = ft (rw block at (e .tables)) in
+          let before : firstAt tableAt ts (statesAt ss (stmtAt body)) - 1 ≡ i
+          = let f : firstAt tableAt ts (statesAt ss (stmtAt body)) ≡ i + 1 = rw block (t .begin) in omega (arith, f) in
           let c : (length cs ≤ mostCallables) × ((i : ℕ) (x : Callable) → getElem? cs i ≡ some x
           → StandsCallable nums ends (x .at) x) = fc (rw before at (e .callables)) in
           record {
             versionIs = refl;
-            noStates = refl;
             headersFew = ph .0;
             headers = ph .1;
             globalsFew = pg .0;
@@ -223,6 +273,8 @@ module _ (version : ℕ) (nums ends : List ℕ) where
             callables = c .1;
             tablesFew = t .few;
             tables = t .stand;
+            statesFew = x .few;
+            states = x .stand;
             body = rw (stmt-at b) b;
           }
 
@@ -235,17 +287,13 @@ version-held nums next version r =
     let w = within-some 1 1 (getD nums 0 0) version (m .means) in
     record { inside = m .inside; is = w .0 }
 
-no-states : {nums ends : List ℕ} (directory : List ℕ) → getD directory 70 0 ≡ 0
-    → StandsList (StandsState nums ends) directory 70 mostStates []
-no-states directory e = record { count = e; few = omega arith; member = λ i x e. let z : _≡_ {A = ℕ} 0 1 = cc in absurd (omega arith) }
-
 -- the program that the scan found stands
 pub program-stands : (nums directory directory′ ends ends′ : List ℕ) (r : Scan) (P : Program) (end : ℕ)
     → ScansProgram nums directory directory′ ends ends′ r → readProgram nums 0 ≡ got P (drop end nums) end
     → length nums ≤ mostBytes → length nums ≤ length ends → length nums ≤ length ends′ → length directory ≡ 217
-    → length directory′ ≡ 217 → getD directory′ 70 0 ≡ 0 → StandsProgram nums directory′ ends′ P end
+    → length directory′ ≡ 217 → StandsProgram nums directory′ ends′ P end
 unfolding readProgram directoryLeft
-program-stands nums directory directory′ ends ends′ r P end w e few room room′ slots slots′ stateless =
+program-stands nums directory directory′ ends ends′ r P end w e few room room′ slots slots′ =
     let b : Both _ _ nums 0 end P = both (keeps-stands versionOf) (record { gave = e }) in
     let p : PartsStood (b .result) nums ends′ P
     = parts-stand (b .result) nums ends′ (b .mid) end P (b .second)
@@ -270,5 +318,7 @@ program-stands nums directory directory′ ends ends′ r P end w e few room roo
       body = rw (d .body) (p .body);
       ending = d .ending;
       version = rw (p .versionIs) (version-held nums (b .mid) (b .result) (b .first));
-      states = rw (p .noStates) (no-states directory′ stateless);
+      states = in-slots (λ s. s .at) (StandsState nums ends′) directory′ 70 mostStates (P .states) (d .states)
+          (p .statesFew)
+          (d .state) (p .states);
     }

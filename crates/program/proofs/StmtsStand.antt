@@ -1,4 +1,5 @@
 -- From reading to standing: a statement that the rules' readers gave, and whose ends are laid, stands where it was read.
+use mathlib.Core.Bool.{Bool, true, false}
 use mathlib.Core.Option.{Option, none, some}
 use mathlib.Core.Path.{_≡_, refl, sym, _∙_}
 use mathlib.Core.List.{List, [], _∷_}
@@ -8,11 +9,11 @@ use native.Mathlib.Numerals.{sub-one}
 use native.Mathlib.Nat.{add-zero}
 use lib.ListN.{length, getD, getElem?}
 use Rattle.rules.specs.Syntax.{Place, Expr}
-use Rattle.rules.specs.Syntax.{Stmt, empty, assign, ifElse, block, callStmt, apply, returnValue, return, exit, setValid, setInvalid, Stmts, stmt}
-use Rattle.rules.specs.Reading.{repeat, mostArguments, mostMembers, exprTags, stmtTags, placeTagOf, toArgs, toStmts, readExpr, readTarget, readStmtAs, readStmt}
+use Rattle.rules.specs.Syntax.{Stmt, empty, assign, ifElse, block, callStmt, apply, returnValue, return, exit, setValid, setInvalid, extract, verify, Stmts, stmt}
+use Rattle.rules.specs.Reading.{repeat, hasParser, mostArguments, mostMembers, mostError, exprTags, parserTags, stmtTags, placeTagOf, toArgs, toStmts, readExpr, readTarget, readStmtAs, readStmt}
 use Rattle.rules.specs.Reading.{PlaceTag, ExprTag, tagBool, tagBits, tagPlace, tagValid, tagNot, tagComplement, tagBinary, tagCast, tagSlice, tagConcatenation, tagCall}
-use Rattle.rules.specs.Reading.{StmtTag, tagEmpty, tagAssign, tagIf, tagBlock, tagCallStmt, tagApply, tagReturnValue, tagReturn, tagExit, tagSetValid, tagSetInvalid}
-use Rattle.rules.proofs.Readers.{keeps-number, keeps-stands, keeps-list, keeps-place, keeps-expr, keeps-target, keeps-stmt}
+use Rattle.rules.specs.Reading.{StmtTag, tagEmpty, tagAssign, tagIf, tagBlock, tagCallStmt, tagApply, tagReturnValue, tagReturn, tagExit, tagSetValid, tagSetInvalid, tagExtract, tagVerify}
+use Rattle.rules.proofs.Readers.{keeps-number, keeps-stands, keeps-list, keeps-place, keeps-expr, keeps-target, keeps-stmt, keeps-between}
 use Rattle.shape.specs.Directory.{stmtAt}
 use Rattle.shape.specs.Ends.{exprAt, stmtsAt, EndedExpr, EndedStmt, EndedStmts}
 use Rattle.shape.proofs.Ended.{own-stmt}
@@ -20,7 +21,7 @@ use Rattle.program.specs.Codes.{placeTag, memberCount}
 use Rattle.program.specs.Stands.{HoldsTag, StandsPlace, StandsExpr}
 use Rattle.program.specs.Stands.{StandsStmt, on-empty, on-assign, on-if, on-block, on-call-stmt, on-apply, on-return-value, on-return, on-exit, on-set-valid, on-set-invalid, on-extract, on-verify}
 use Rattle.program.specs.Stands.{StandsStmts, on-no-member, on-member}
-use Rattle.program.proofs.Readings.{Reads, reads-to, reads-from, Both, both, Given, reads-pure, reads-here, Number, reads-number, Meant, reads-stands, Counted, reads-list, reads-none, Head, reads-more, reads-deep}
+use Rattle.program.proofs.Readings.{Reads, reads-to, reads-from, Both, both, Given, reads-pure, reads-here, Number, reads-number, Meant, reads-stands, Bounded, reads-between, Counted, reads-list, reads-none, Head, reads-more, reads-deep}
 use Rattle.program.proofs.ExprsStand.{Numbered, numbered-at, placeNumber, exprNumber, expr-tag, expr-at, expr-end, Placed, place-stands, CallStood, call-stands, args-from, expr-stands}
 
 unfoldable stmtNumber : StmtTag → ℕ
@@ -35,11 +36,22 @@ stmtNumber tagReturn = 7
 stmtNumber tagExit = 8
 stmtNumber tagSetValid = 9
 stmtNumber tagSetInvalid = 10
+stmtNumber tagExtract = 11
+stmtNumber tagVerify = 12
+
+-- the parser's tags, where the version has them
+parser-tags : (version : ℕ) → Numbered stmtNumber 11 (parserTags version)
+unfolding Numbered stmtNumber parserTags
+parser-tags version = go (hasParser version)
+  where
+    go : (b : Bool) → Numbered stmtNumber 11 (elim b [ true ↦ tagExtract ∷ tagVerify ∷ [] | false ↦ [] ])
+    go true = (refl, (refl, tt))
+    go false = tt
 
 stmt-tag : (version n : ℕ) (t : StmtTag) → getElem? (stmtTags version) n ≡ some t → n ≡ stmtNumber t
 unfolding Numbered stmtNumber
 stmt-tag version n t e = sym (add-zero n) ∙ numbered-at stmtNumber 0 (stmtTags version)
-    (refl, (refl, (refl, (refl, (refl, (refl, (refl, (refl, (refl, (refl, (refl, tt))))))))))) n t e
+    (refl, (refl, (refl, (refl, (refl, (refl, (refl, (refl, (refl, (refl, (refl, parser-tags version))))))))))) n t e
 
 -- a statement carries its index, and the slot at that index its end
 pub stmt-at : {nums ends : List ℕ} {depth at : ℕ} {s : Stmt} → StandsStmt nums ends depth at s → stmtAt s ≡ at
@@ -58,7 +70,7 @@ stmt-at (on-set-invalid t n) = refl
 stmt-at (on-extract t n) = refl
 stmt-at (on-verify t c e) = refl
 
-stmt-end : {nums ends : List ℕ} {depth at : ℕ} (s : Stmt) (end : ℕ) → StandsStmt nums ends depth at s
+pub stmt-end : {nums ends : List ℕ} {depth at : ℕ} (s : Stmt) (end : ℕ) → StandsStmt nums ends depth at s
     → EndedStmt s end ends → getD ends at 0 ≡ end
 stmt-end {ends = ends} s end w h = rw (stmt-at w) at (own-stmt s end ends h)
 
@@ -251,6 +263,23 @@ module _ (version : ℕ) (nums ends : List ℕ) (d : ℕ) (inner : (at next : �
         let n : Number nums (at + 1) (b .mid) (b .result) = reads-number (b .first) in
         let g : Given (setInvalid at (b .result)) s (b .mid) next = reads-pure (b .second) in
         rw (← g .same) (on-set-invalid (tagged 10 k) (n .holds))
+    stmt-as tagExtract k r h =
+        let b : Both _ _ nums (at + 1) next s = both keeps-number r in
+        let n : Number nums (at + 1) (b .mid) (b .result) = reads-number (b .first) in
+        let g : Given (extract at (b .result)) s (b .mid) next = reads-pure (b .second) in
+        rw (← g .same) (on-extract (tagged 11 k) (n .holds))
+    stmt-as tagVerify k r h =
+        let b : Both _ _ nums (at + 1) next s = both (keeps-expr version d) r in
+        let c : Both _ _ nums (b .mid) next s = both (keeps-between 0 mostError) (b .second) in
+        let e : Bounded 0 mostError nums (b .mid) (c .mid) (c .result) = reads-between (c .first) in
+        let g : Given (verify at (b .result) (c .result)) s (c .mid) next = reads-pure (c .second) in
+        let f : EndedStmt (verify at (b .result) (c .result)) next ends = rw (← g .same) at h in
+        let last : next - 1 ≡ b .mid = omega (arith, e .nextIs, g .stays) in
+        let k′ : EndedExpr (b .result) (b .mid) ends = rw last at (f .1) in
+        let v : StandsExpr nums ends (suc d - 1) (at + 1) (b .result) = operand (at + 1) (b .mid) (b .result)
+        (b .first) k′ in
+        let i : getD ends (at + 1) 0 ≡ b .mid = expr-end (b .result) (b .mid) v k′ in
+        rw (← g .same) (on-verify {e = c .result} (tagged 12 k) v (rw i (e .holds)))
 
 -- a statement that was read stands
 pub stmt-stands : (version : ℕ) (nums ends : List ℕ) (depth at next : ℕ) (s : Stmt)
