@@ -284,7 +284,7 @@ version-held : (nums : List ℕ) (next version : ℕ) → Reads (standsFor versi
 unfolding versionOf
 version-held nums next version r =
     let m : Meant versionOf nums 0 next version = reads-stands r in
-    let w = within-some 1 1 (getD nums 0 0) version (m .means) in
+    let w = within-some 1 2 (getD nums 0 0) version (m .means) in
     record { inside = m .inside; is = w .0 }
 
 -- the program that the scan found stands

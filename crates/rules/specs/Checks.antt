@@ -293,6 +293,124 @@ checks =
     ∷ [])) (3 ∷ []) refl
     -- a bool equal to bits
     ∷ row ours (program (1 ∷ 0 ∷ 1 ∷ 0 ∷ 0 ∷ 0 ∷ 1 ∷ 4 ∷ 0 ∷ 9 ∷ 8 ∷ 0 ∷ 1 ∷ 1 ∷ 1 ∷ 1 ∷ 0 ∷ 0 ∷ [])) (3 ∷ []) refl
+    -- the parser block: accept goes on with the apply body
+    ∷ row ours (bench (2 ∷ 0 ∷ 0 ∷ 0 ∷ 0 ∷ 1 ∷ 0 ∷ 1 ∷ 0 ∷ 0 ∷ 0 ∷ [])) (1 ∷ 3 ∷ 3 ∷ []) refl
+    -- a state with no transition: 3; the apply body is not run
+    ∷ row ours (bench (2 ∷ 0 ∷ 0 ∷ 0 ∷ 0 ∷ 1 ∷ 0 ∷ 0 ∷ 0 ∷ 0 ∷ 0 ∷ [])) (4 ∷ 3 ∷ 2 ∷ 3 ∷ []) refl
+    -- reject with its error, 0 too
+    ∷ row ours (bench (2 ∷ 0 ∷ 0 ∷ 0 ∷ 0 ∷ 1 ∷ 0 ∷ 2 ∷ 7 ∷ 0 ∷ 0 ∷ 0 ∷ [])) (4 ∷ 7 ∷ 2 ∷ 3 ∷ []) refl
+    ∷ row ours (bench (2 ∷ 0 ∷ 0 ∷ 0 ∷ 0 ∷ 1 ∷ 0 ∷ 2 ∷ 0 ∷ 0 ∷ 0 ∷ 0 ∷ [])) (4 ∷ 0 ∷ 2 ∷ 3 ∷ []) refl
+    -- a later state
+    ∷ row ours (bench (2 ∷ 0 ∷ 0 ∷ 0 ∷ 0 ∷ 2 ∷ 0 ∷ 3 ∷ 1 ∷ 0 ∷ 1 ∷ 0 ∷ 0 ∷ 0 ∷ [])) (1 ∷ 5 ∷ 5 ∷ []) refl
+    -- select: the first equal value
+    ∷ row ours (bench (2 ∷ 0 ∷ 0 ∷ 0 ∷ 0 ∷ 3 ∷ 0 ∷ 4 ∷ 1 ∷ 8 ∷ 5 ∷ 3 ∷ 4 ∷ 1 ∷ 5 ∷ 2 ∷ 5 ∷ 1 ∷ 0 ∷ 2 ∷ 9 ∷ 0 ∷ 1 ∷ 0 ∷ 0 ∷ 0 ∷ [])) (1 ∷ 6 ∷ 6 ∷ []) refl
+    -- select without a match: 2; without pairs too
+    ∷ row ours (bench (2 ∷ 0 ∷ 0 ∷ 0 ∷ 0 ∷ 2 ∷ 0 ∷ 4 ∷ 1 ∷ 8 ∷ 7 ∷ 1 ∷ 4 ∷ 1 ∷ 0 ∷ 1 ∷ 0 ∷ 0 ∷ 0 ∷ [])) (4 ∷ 2 ∷ 3 ∷ 6 ∷ []) refl
+    ∷ row ours (bench (2 ∷ 0 ∷ 0 ∷ 0 ∷ 0 ∷ 1 ∷ 0 ∷ 4 ∷ 1 ∷ 8 ∷ 7 ∷ 0 ∷ 0 ∷ 0 ∷ 0 ∷ [])) (4 ∷ 2 ∷ 3 ∷ 4 ∷ []) refl
+    -- verify: true goes on, false rejects with its own error
+    ∷ row ours (bench (2 ∷ 0 ∷ 0 ∷ 0 ∷ 0 ∷ 1 ∷ 12 ∷ 0 ∷ 1 ∷ 42 ∷ 1 ∷ 0 ∷ 0 ∷ 0 ∷ [])) (1 ∷ 4 ∷ 4 ∷ []) refl
+    ∷ row ours (bench (2 ∷ 0 ∷ 0 ∷ 0 ∷ 0 ∷ 1 ∷ 12 ∷ 0 ∷ 0 ∷ 42 ∷ 1 ∷ 0 ∷ 0 ∷ 0 ∷ [])) (4 ∷ 42 ∷ 3 ∷ 4 ∷ []) refl
+    -- a reject inside a block ends the parser at once; what was written stays
+    ∷ row ours (bench (2 ∷ 0 ∷ 1 ∷ 8 ∷ 0 ∷ 0 ∷ 1 ∷ 3 ∷ 3 ∷ 1 ∷ 4 ∷ 0 ∷ 1 ∷ 8 ∷ 5 ∷ 12 ∷ 0 ∷ 0 ∷ 9 ∷ 1 ∷ 4 ∷ 0 ∷ 1 ∷ 8 ∷ 6 ∷ 1 ∷ 1 ∷ 4 ∷ 0 ∷ 1 ∷ 8 ∷ 7 ∷ 0 ∷ 1 ∷ 0 ∷ [])) (4 ∷ 9 ∷ 6 ∷ 10 ∷ 5 ∷ []) refl
+    -- extract across bytes, widths 4, 12 and 16: highest bit first
+    ∷ row ours (bench (2 ∷ 1 ∷ 3 ∷ 4 ∷ 12 ∷ 16 ∷ 1 ∷ 128 ∷ 0 ∷ 0 ∷ 1 ∷ 11 ∷ 0 ∷ 1 ∷ 0 ∷ 0 ∷ 0 ∷ 0 ∷ 0 ∷ 0 ∷ 4 ∷ 171 ∷ 205 ∷ 18 ∷ 52 ∷ [])) (1 ∷ 3 ∷ 3 ∷ 1 ∷ 10 ∷ 3021 ∷ 4660 ∷ []) refl
+    -- extract on a valid header fills it anew; bytes that are left are no fault
+    ∷ row ours (bench (2 ∷ 1 ∷ 3 ∷ 4 ∷ 12 ∷ 16 ∷ 1 ∷ 128 ∷ 0 ∷ 0 ∷ 1 ∷ 11 ∷ 0 ∷ 1 ∷ 0 ∷ 0 ∷ 1 ∷ 1 ∷ 2 ∷ 3 ∷ 5 ∷ 171 ∷ 205 ∷ 18 ∷ 52 ∷ 9 ∷ [])) (1 ∷ 3 ∷ 3 ∷ 1 ∷ 10 ∷ 3021 ∷ 4660 ∷ []) refl
+    -- a short packet changes no header and rejects with 1
+    ∷ row ours (bench (2 ∷ 1 ∷ 3 ∷ 4 ∷ 12 ∷ 16 ∷ 1 ∷ 128 ∷ 0 ∷ 0 ∷ 1 ∷ 11 ∷ 0 ∷ 1 ∷ 0 ∷ 0 ∷ 1 ∷ 1 ∷ 2 ∷ 3 ∷ 3 ∷ 171 ∷ 205 ∷ 18 ∷ [])) (4 ∷ 1 ∷ 2 ∷ 3 ∷ 1 ∷ 1 ∷ 2 ∷ 3 ∷ []) refl
+    ∷ row ours (bench (2 ∷ 1 ∷ 3 ∷ 4 ∷ 12 ∷ 16 ∷ 1 ∷ 128 ∷ 0 ∷ 0 ∷ 1 ∷ 11 ∷ 0 ∷ 1 ∷ 0 ∷ 0 ∷ 0 ∷ 0 ∷ 0 ∷ 0 ∷ 3 ∷ 171 ∷ 205 ∷ 18 ∷ [])) (4 ∷ 1 ∷ 2 ∷ 3 ∷ 0 ∷ 0 ∷ 0 ∷ 0 ∷ []) refl
+    -- the second extract goes on behind the first
+    ∷ row ours (bench (2 ∷ 1 ∷ 1 ∷ 8 ∷ 2 ∷ 128 ∷ 128 ∷ 0 ∷ 0 ∷ 1 ∷ 3 ∷ 2 ∷ 11 ∷ 0 ∷ 11 ∷ 1 ∷ 1 ∷ 0 ∷ 0 ∷ 0 ∷ 0 ∷ 0 ∷ 0 ∷ 3 ∷ 1 ∷ 2 ∷ 3 ∷ [])) (1 ∷ 5 ∷ 5 ∷ 1 ∷ 1 ∷ 1 ∷ 2 ∷ []) refl
+    -- a field of 64 bits, not at a byte's beginning
+    ∷ row ours (bench (2 ∷ 1 ∷ 3 ∷ 4 ∷ 64 ∷ 4 ∷ 1 ∷ 128 ∷ 0 ∷ 0 ∷ 1 ∷ 11 ∷ 0 ∷ 1 ∷ 0 ∷ 0 ∷ 0 ∷ 0 ∷ 0 ∷ 0 ∷ 9 ∷ 31 ∷ 255 ∷ 255 ∷ 255 ∷ 255 ∷ 255 ∷ 255 ∷ 255 ∷ 242 ∷ [])) (1 ∷ 3 ∷ 3 ∷ 1 ∷ 1 ∷ 18446744073709551615 ∷ 2 ∷ []) refl
+    -- a select on a field that was extracted
+    ∷ row ours (bench (2 ∷ 1 ∷ 1 ∷ 8 ∷ 1 ∷ 128 ∷ 0 ∷ 0 ∷ 2 ∷ 11 ∷ 0 ∷ 4 ∷ 5 ∷ 0 ∷ 0 ∷ 1 ∷ 6 ∷ 1 ∷ 0 ∷ 2 ∷ 8 ∷ 0 ∷ 0 ∷ 0 ∷ 0 ∷ 1 ∷ 6 ∷ [])) (4 ∷ 8 ∷ 5 ∷ 6 ∷ 1 ∷ 6 ∷ []) refl
+    -- the dearest path: every pair counts, also one whose value came before
+    ∷ row ours (bench (2 ∷ 0 ∷ 0 ∷ 0 ∷ 0 ∷ 4 ∷ 0 ∷ 4 ∷ 1 ∷ 8 ∷ 1 ∷ 2 ∷ 1 ∷ 1 ∷ 1 ∷ 2 ∷ 0 ∷ 1 ∷ 3 ∷ 2 ∷ 0 ∷ 0 ∷ 3 ∷ 3 ∷ 0 ∷ 1 ∷ 0 ∷ 0 ∷ 0 ∷ [])) (1 ∷ 6 ∷ 10 ∷ []) refl
+    -- states that state 0 does not lead to count nothing
+    ∷ row ours (bench (2 ∷ 0 ∷ 0 ∷ 0 ∷ 0 ∷ 2 ∷ 0 ∷ 1 ∷ 3 ∷ 1 ∷ 0 ∷ 1 ∷ 0 ∷ 0 ∷ 0 ∷ [])) (1 ∷ 3 ∷ 3 ∷ []) refl
+    -- a state that is not later, or is not there: 6 at the number
+    ∷ row ours (bench (2 ∷ 0 ∷ 0 ∷ 0 ∷ 0 ∷ 1 ∷ 0 ∷ 3 ∷ 0 ∷ 0 ∷ 0 ∷ 0 ∷ [])) (0 ∷ 6 ∷ 8 ∷ []) refl
+    ∷ row ours (bench (2 ∷ 0 ∷ 0 ∷ 0 ∷ 0 ∷ 1 ∷ 0 ∷ 3 ∷ 1 ∷ 0 ∷ 0 ∷ 0 ∷ [])) (0 ∷ 6 ∷ 8 ∷ []) refl
+    -- a select's states come before its expression, in file order
+    ∷ row ours (bench (2 ∷ 0 ∷ 0 ∷ 0 ∷ 0 ∷ 2 ∷ 0 ∷ 4 ∷ 4 ∷ 9 ∷ 2 ∷ 0 ∷ 1 ∷ 0 ∷ 0 ∷ 0 ∷ 1 ∷ 0 ∷ 0 ∷ 0 ∷ [])) (0 ∷ 6 ∷ 14 ∷ []) refl
+    -- a select that is not bits: 7 at its expression's tag; then a value that does not fit: 7 at it
+    ∷ row ours (bench (2 ∷ 0 ∷ 0 ∷ 0 ∷ 0 ∷ 2 ∷ 0 ∷ 4 ∷ 0 ∷ 1 ∷ 1 ∷ 0 ∷ 1 ∷ 0 ∷ 1 ∷ 0 ∷ 0 ∷ 0 ∷ [])) (0 ∷ 7 ∷ 8 ∷ []) refl
+    ∷ row ours (bench (2 ∷ 0 ∷ 0 ∷ 0 ∷ 0 ∷ 2 ∷ 0 ∷ 4 ∷ 1 ∷ 8 ∷ 7 ∷ 2 ∷ 255 ∷ 1 ∷ 256 ∷ 1 ∷ 0 ∷ 1 ∷ 0 ∷ 0 ∷ 0 ∷ [])) (0 ∷ 7 ∷ 15 ∷ []) refl
+    -- a call in a state: 6 for its name, 8 at its tag
+    ∷ row ours (bench (2 ∷ 0 ∷ 0 ∷ 1 ∷ 0 ∷ 0 ∷ 0 ∷ 0 ∷ 0 ∷ 1 ∷ 4 ∷ 1 ∷ 0 ∷ 1 ∷ 0 ∷ 0 ∷ 0 ∷ [])) (0 ∷ 6 ∷ 11 ∷ []) refl
+    ∷ row ours (bench (2 ∷ 0 ∷ 0 ∷ 1 ∷ 0 ∷ 0 ∷ 0 ∷ 0 ∷ 0 ∷ 1 ∷ 4 ∷ 0 ∷ 0 ∷ 1 ∷ 0 ∷ 0 ∷ 0 ∷ [])) (0 ∷ 8 ∷ 10 ∷ []) refl
+    -- tag 13 in a state, in its statement and in its select: 8 at its tag
+    ∷ row ours (bench (2 ∷ 0 ∷ 0 ∷ 1 ∷ 1 ∷ 8 ∷ 0 ∷ 0 ∷ 6 ∷ 1 ∷ 8 ∷ 3 ∷ 0 ∷ 1 ∷ 12 ∷ 9 ∷ 8 ∷ 13 ∷ 0 ∷ 0 ∷ 1 ∷ 8 ∷ 3 ∷ 1 ∷ 1 ∷ 0 ∷ 0 ∷ 0 ∷ [])) (0 ∷ 8 ∷ 17 ∷ []) refl
+    ∷ row ours (bench (2 ∷ 0 ∷ 0 ∷ 1 ∷ 1 ∷ 8 ∷ 0 ∷ 0 ∷ 6 ∷ 1 ∷ 8 ∷ 3 ∷ 0 ∷ 1 ∷ 0 ∷ 4 ∷ 13 ∷ 0 ∷ 0 ∷ 0 ∷ 0 ∷ 0 ∷ 0 ∷ [])) (0 ∷ 8 ∷ 16 ∷ []) refl
+    -- apply in a state: 6 for the table, then 8
+    ∷ row ours (bench (2 ∷ 0 ∷ 0 ∷ 1 ∷ 0 ∷ 0 ∷ 0 ∷ 0 ∷ 1 ∷ 1 ∷ 0 ∷ 1 ∷ 8 ∷ 1 ∷ 1 ∷ 0 ∷ 0 ∷ 0 ∷ 1 ∷ 5 ∷ 1 ∷ 1 ∷ 0 ∷ 0 ∷ 0 ∷ [])) (0 ∷ 6 ∷ 20 ∷ []) refl
+    ∷ row ours (bench (2 ∷ 0 ∷ 0 ∷ 1 ∷ 0 ∷ 0 ∷ 0 ∷ 0 ∷ 1 ∷ 1 ∷ 0 ∷ 1 ∷ 8 ∷ 1 ∷ 1 ∷ 0 ∷ 0 ∷ 0 ∷ 1 ∷ 5 ∷ 0 ∷ 1 ∷ 0 ∷ 0 ∷ 0 ∷ [])) (0 ∷ 8 ∷ 19 ∷ []) refl
+    -- return, exit and return with a value in a state: 8
+    ∷ row ours (bench (2 ∷ 0 ∷ 0 ∷ 0 ∷ 0 ∷ 1 ∷ 7 ∷ 1 ∷ 0 ∷ 0 ∷ 0 ∷ [])) (0 ∷ 8 ∷ 6 ∷ []) refl
+    ∷ row ours (bench (2 ∷ 0 ∷ 0 ∷ 0 ∷ 0 ∷ 1 ∷ 8 ∷ 1 ∷ 0 ∷ 0 ∷ 0 ∷ [])) (0 ∷ 8 ∷ 6 ∷ []) refl
+    ∷ row ours (bench (2 ∷ 0 ∷ 0 ∷ 0 ∷ 0 ∷ 1 ∷ 6 ∷ 1 ∷ 8 ∷ 3 ∷ 1 ∷ 0 ∷ 0 ∷ 0 ∷ [])) (0 ∷ 8 ∷ 6 ∷ []) refl
+    -- a state has no locals and no parameters
+    ∷ row ours (bench (2 ∷ 0 ∷ 0 ∷ 0 ∷ 0 ∷ 1 ∷ 12 ∷ 2 ∷ 0 ∷ 1 ∷ 1 ∷ 0 ∷ 0 ∷ 0 ∷ [])) (0 ∷ 6 ∷ 8 ∷ []) refl
+    ∷ row ours (bench (2 ∷ 0 ∷ 0 ∷ 0 ∷ 0 ∷ 1 ∷ 12 ∷ 3 ∷ 0 ∷ 1 ∷ 1 ∷ 0 ∷ 0 ∷ 0 ∷ [])) (0 ∷ 6 ∷ 8 ∷ []) refl
+    -- extract and verify elsewhere: 8
+    ∷ row ours (bench (2 ∷ 1 ∷ 1 ∷ 8 ∷ 1 ∷ 128 ∷ 0 ∷ 0 ∷ 1 ∷ 0 ∷ 1 ∷ 11 ∷ 0 ∷ 0 ∷ 0 ∷ 0 ∷ 0 ∷ [])) (0 ∷ 8 ∷ 12 ∷ []) refl
+    ∷ row ours (bench (2 ∷ 0 ∷ 0 ∷ 0 ∷ 0 ∷ 1 ∷ 0 ∷ 1 ∷ 12 ∷ 0 ∷ 1 ∷ 0 ∷ 0 ∷ 0 ∷ [])) (0 ∷ 8 ∷ 8 ∷ []) refl
+    -- extract: 6 for no global, 7 for a variable, 7 for widths that are no whole bytes, before 8
+    ∷ row ours (bench (2 ∷ 0 ∷ 0 ∷ 0 ∷ 0 ∷ 1 ∷ 11 ∷ 0 ∷ 1 ∷ 0 ∷ 0 ∷ 0 ∷ [])) (0 ∷ 6 ∷ 7 ∷ []) refl
+    ∷ row ours (bench (2 ∷ 0 ∷ 1 ∷ 8 ∷ 0 ∷ 0 ∷ 1 ∷ 11 ∷ 0 ∷ 1 ∷ 0 ∷ 0 ∷ 0 ∷ 0 ∷ [])) (0 ∷ 7 ∷ 7 ∷ []) refl
+    ∷ row ours (bench (2 ∷ 1 ∷ 1 ∷ 4 ∷ 1 ∷ 128 ∷ 0 ∷ 0 ∷ 1 ∷ 11 ∷ 0 ∷ 1 ∷ 0 ∷ 0 ∷ 0 ∷ 0 ∷ 0 ∷ [])) (0 ∷ 7 ∷ 10 ∷ []) refl
+    ∷ row ours (bench (2 ∷ 1 ∷ 1 ∷ 4 ∷ 1 ∷ 128 ∷ 0 ∷ 0 ∷ 1 ∷ 0 ∷ 1 ∷ 11 ∷ 0 ∷ 0 ∷ 0 ∷ 0 ∷ 0 ∷ [])) (0 ∷ 7 ∷ 12 ∷ []) refl
+    -- a verify of bits: 7
+    ∷ row ours (bench (2 ∷ 0 ∷ 0 ∷ 0 ∷ 0 ∷ 1 ∷ 12 ∷ 1 ∷ 8 ∷ 1 ∷ 0 ∷ 1 ∷ 0 ∷ 0 ∷ 0 ∷ [])) (0 ∷ 7 ∷ 6 ∷ []) refl
+    -- states are judged behind tables and before the apply body; the statement before the transition
+    ∷ row ours (bench (2 ∷ 0 ∷ 0 ∷ 0 ∷ 0 ∷ 1 ∷ 7 ∷ 3 ∷ 0 ∷ 6 ∷ 1 ∷ 8 ∷ 1 ∷ 0 ∷ 0 ∷ [])) (0 ∷ 8 ∷ 6 ∷ []) refl
+    -- an error over 255: 4 at it; a transition's tag over 4 too
+    ∷ row ours (bench (2 ∷ 0 ∷ 0 ∷ 0 ∷ 0 ∷ 1 ∷ 0 ∷ 2 ∷ 256 ∷ 0 ∷ 0 ∷ 0 ∷ [])) (0 ∷ 4 ∷ 8 ∷ []) refl
+    ∷ row ours (bench (2 ∷ 0 ∷ 0 ∷ 0 ∷ 0 ∷ 1 ∷ 12 ∷ 0 ∷ 1 ∷ 256 ∷ 1 ∷ 0 ∷ 0 ∷ 0 ∷ [])) (0 ∷ 4 ∷ 9 ∷ []) refl
+    ∷ row ours (bench (2 ∷ 0 ∷ 0 ∷ 0 ∷ 0 ∷ 1 ∷ 0 ∷ 5 ∷ 0 ∷ 0 ∷ 0 ∷ [])) (0 ∷ 4 ∷ 7 ∷ []) refl
+    -- 0 and 17 states, and 17 pairs: 4 at the count
+    ∷ row ours (bench (2 ∷ 0 ∷ 0 ∷ 0 ∷ 0 ∷ 0 ∷ 0 ∷ 0 ∷ 0 ∷ [])) (0 ∷ 4 ∷ 5 ∷ []) refl
+    ∷ row ours (bench (2 ∷ 0 ∷ 0 ∷ 0 ∷ 0 ∷ 17 ∷ [])) (0 ∷ 4 ∷ 5 ∷ []) refl
+    ∷ row ours (bench (2 ∷ 0 ∷ 0 ∷ 0 ∷ 0 ∷ 1 ∷ 0 ∷ 4 ∷ 1 ∷ 8 ∷ 7 ∷ 17 ∷ [])) (0 ∷ 4 ∷ 11 ∷ []) refl
+    -- numbers run out inside the states: 4 at the length
+    ∷ row ours (bench (2 ∷ 0 ∷ 0 ∷ 0 ∷ 0 ∷ 1 ∷ 0 ∷ 4 ∷ 1 ∷ 8 ∷ 7 ∷ 1 ∷ 7 ∷ [])) (0 ∷ 4 ∷ 13 ∷ []) refl
+    -- a state's statement has depth 1, and so has a select's expression
+    ∷ row ours (bench (2 ∷ 0 ∷ 0 ∷ 0 ∷ 0 ∷ 1 ∷ blocks 31 (0 ∷ 1 ∷ 0 ∷ 0 ∷ 0 ∷ []))) (1 ∷ 34 ∷ 34 ∷ []) refl
+    ∷ row ours (bench (2 ∷ 0 ∷ 0 ∷ 0 ∷ 0 ∷ 1 ∷ blocks 32 (0 ∷ 1 ∷ 0 ∷ 0 ∷ 0 ∷ []))) (0 ∷ 5 ∷ 70 ∷ []) refl
+    -- a packet of 513, of a number 256, too short, missing: 16, behind 11 and before 12
+    ∷ row ours (bench (2 ∷ 0 ∷ 0 ∷ 0 ∷ 0 ∷ 1 ∷ 0 ∷ 1 ∷ 0 ∷ 0 ∷ 513 ∷ [])) (0 ∷ 16 ∷ 10 ∷ []) refl
+    ∷ row ours (bench (2 ∷ 0 ∷ 0 ∷ 0 ∷ 0 ∷ 1 ∷ 0 ∷ 1 ∷ 0 ∷ 0 ∷ 2 ∷ 255 ∷ 256 ∷ [])) (0 ∷ 16 ∷ 13 ∷ []) refl
+    ∷ row ours (bench (2 ∷ 0 ∷ 0 ∷ 0 ∷ 0 ∷ 1 ∷ 0 ∷ 1 ∷ 0 ∷ 0 ∷ 2 ∷ 255 ∷ [])) (0 ∷ 16 ∷ 13 ∷ []) refl
+    ∷ row ours (bench (2 ∷ 0 ∷ 0 ∷ 0 ∷ 0 ∷ 1 ∷ 0 ∷ 1 ∷ 0 ∷ 0 ∷ [])) (0 ∷ 16 ∷ 10 ∷ []) refl
+    ∷ row ours (bench (2 ∷ 0 ∷ 0 ∷ 0 ∷ 0 ∷ 1 ∷ 0 ∷ 1 ∷ 0 ∷ 0 ∷ 1 ∷ 255 ∷ 9 ∷ [])) (0 ∷ 12 ∷ 13 ∷ []) refl
+    ∷ row ours (bench (2 ∷ 0 ∷ 1 ∷ 8 ∷ 0 ∷ 0 ∷ 1 ∷ 0 ∷ 1 ∷ 0 ∷ 0 ∷ 256 ∷ 513 ∷ [])) (0 ∷ 11 ∷ 11 ∷ []) refl
+    -- tags 11 and 12 in version 1; a version 3
+    ∷ row ours (bench (1 ∷ 1 ∷ 1 ∷ 8 ∷ 1 ∷ 128 ∷ 0 ∷ 0 ∷ 11 ∷ 0 ∷ 0 ∷ 0 ∷ 0 ∷ [])) (0 ∷ 4 ∷ 9 ∷ []) refl
+    ∷ row ours (bench (1 ∷ 0 ∷ 0 ∷ 0 ∷ 0 ∷ 12 ∷ 0 ∷ 1 ∷ 0 ∷ 0 ∷ [])) (0 ∷ 4 ∷ 5 ∷ []) refl
+    ∷ row ours (bench (3 ∷ 0 ∷ 0 ∷ 0 ∷ 0 ∷ 0 ∷ 0 ∷ [])) (0 ∷ 4 ∷ 0 ∷ []) refl
+    -- printed: `reject 42 3 4`, then an empty line
+    ∷ row ours (lines (2 ∷ 0 ∷ 0 ∷ 0 ∷ 0 ∷ 1 ∷ 12 ∷ 0 ∷ 0 ∷ 42 ∷ 1 ∷ 0 ∷ 0 ∷ 0 ∷ [])) (114 ∷ 101 ∷ 106 ∷ 101 ∷ 99 ∷ 116 ∷ 32 ∷ 52 ∷ 50 ∷ 32 ∷ 51 ∷ 32 ∷ 52 ∷ 10 ∷ 10 ∷ []) refl
+    -- each step sees the store as its construct begins: state, assign, literal, state, empty, empty
+    ∷ row ours (steps (2 ∷ 0 ∷ 1 ∷ 8 ∷ 0 ∷ 0 ∷ 2 ∷ 1 ∷ 4 ∷ 0 ∷ 1 ∷ 8 ∷ 5 ∷ 3 ∷ 1 ∷ 0 ∷ 1 ∷ 0 ∷ 0 ∷ 9 ∷ 0 ∷ [])) (9 ∷ 9 ∷ 9 ∷ 5 ∷ 5 ∷ 5 ∷ []) refl
+    -- unjudged, stuck: extract and verify outside a state
+    ∷ row ours (program (2 ∷ 1 ∷ 1 ∷ 8 ∷ 1 ∷ 128 ∷ 0 ∷ 0 ∷ 1 ∷ 0 ∷ 1 ∷ 11 ∷ 0 ∷ 0 ∷ 0 ∷ 0 ∷ 1 ∷ 7 ∷ [])) (3 ∷ []) refl
+    ∷ row ours (program (2 ∷ 0 ∷ 0 ∷ 0 ∷ 0 ∷ 1 ∷ 0 ∷ 1 ∷ 12 ∷ 0 ∷ 1 ∷ 0 ∷ 0 ∷ 0 ∷ [])) (3 ∷ []) refl
+    -- unjudged, stuck: a call, tag 13, apply, exit and return in a state
+    ∷ row ours (program (2 ∷ 0 ∷ 0 ∷ 1 ∷ 0 ∷ 0 ∷ 0 ∷ 0 ∷ 0 ∷ 1 ∷ 4 ∷ 0 ∷ 0 ∷ 1 ∷ 0 ∷ 0 ∷ 0 ∷ [])) (3 ∷ []) refl
+    ∷ row ours (program (2 ∷ 0 ∷ 0 ∷ 1 ∷ 1 ∷ 8 ∷ 0 ∷ 0 ∷ 6 ∷ 1 ∷ 8 ∷ 3 ∷ 0 ∷ 1 ∷ 12 ∷ 9 ∷ 8 ∷ 13 ∷ 0 ∷ 0 ∷ 1 ∷ 8 ∷ 3 ∷ 1 ∷ 1 ∷ 0 ∷ 0 ∷ 0 ∷ [])) (3 ∷ []) refl
+    ∷ row ours (program (2 ∷ 0 ∷ 0 ∷ 1 ∷ 0 ∷ 0 ∷ 0 ∷ 0 ∷ 1 ∷ 1 ∷ 0 ∷ 1 ∷ 8 ∷ 1 ∷ 1 ∷ 0 ∷ 0 ∷ 0 ∷ 1 ∷ 5 ∷ 0 ∷ 1 ∷ 0 ∷ 0 ∷ 0 ∷ [])) (3 ∷ []) refl
+    ∷ row ours (program (2 ∷ 0 ∷ 0 ∷ 0 ∷ 0 ∷ 1 ∷ 8 ∷ 1 ∷ 0 ∷ 0 ∷ 0 ∷ [])) (3 ∷ []) refl
+    ∷ row ours (program (2 ∷ 0 ∷ 0 ∷ 0 ∷ 0 ∷ 1 ∷ 7 ∷ 1 ∷ 0 ∷ 0 ∷ 0 ∷ [])) (3 ∷ []) refl
+    -- unjudged, stuck: extract of no header and of one that is no whole bytes
+    ∷ row ours (program (2 ∷ 0 ∷ 1 ∷ 8 ∷ 0 ∷ 0 ∷ 1 ∷ 11 ∷ 0 ∷ 1 ∷ 0 ∷ 0 ∷ 0 ∷ 0 ∷ [])) (3 ∷ []) refl
+    ∷ row ours (program (2 ∷ 1 ∷ 1 ∷ 4 ∷ 1 ∷ 128 ∷ 0 ∷ 0 ∷ 1 ∷ 11 ∷ 0 ∷ 1 ∷ 0 ∷ 0 ∷ 0 ∷ 0 ∷ 1 ∷ 7 ∷ [])) (3 ∷ []) refl
+    -- unjudged, stuck: a select that is not bits, a value that does not fit, a state that is not later
+    ∷ row ours (program (2 ∷ 0 ∷ 0 ∷ 0 ∷ 0 ∷ 2 ∷ 0 ∷ 4 ∷ 0 ∷ 1 ∷ 1 ∷ 0 ∷ 1 ∷ 0 ∷ 1 ∷ 0 ∷ 0 ∷ 0 ∷ [])) (3 ∷ []) refl
+    ∷ row ours (program (2 ∷ 0 ∷ 0 ∷ 0 ∷ 0 ∷ 2 ∷ 0 ∷ 4 ∷ 1 ∷ 8 ∷ 7 ∷ 2 ∷ 7 ∷ 1 ∷ 256 ∷ 1 ∷ 0 ∷ 1 ∷ 0 ∷ 0 ∷ 0 ∷ [])) (3 ∷ []) refl
+    ∷ row ours (program (2 ∷ 0 ∷ 0 ∷ 0 ∷ 0 ∷ 1 ∷ 0 ∷ 3 ∷ 0 ∷ 0 ∷ 0 ∷ 0 ∷ [])) (3 ∷ []) refl
+    -- unjudged, only the state that is taken is asked
+    ∷ row ours (program (2 ∷ 0 ∷ 0 ∷ 0 ∷ 0 ∷ 2 ∷ 0 ∷ 4 ∷ 1 ∷ 8 ∷ 7 ∷ 2 ∷ 8 ∷ 0 ∷ 7 ∷ 1 ∷ 0 ∷ 1 ∷ 0 ∷ 0 ∷ 0 ∷ [])) (1 ∷ 6 ∷ 0 ∷ []) refl
     -- ceilings of 1,000,000 and 1,000,001; 4,096 bytes, which fail at their version, and 4,097
     ∷ row paper (bench (dear 7)) (1 ∷ 3 ∷ 1000000 ∷ []) refl
     ∷ row paper (bench (dear 8)) (0 ∷ 9 ∷ 0 ∷ []) refl

@@ -146,7 +146,7 @@ pub data TransitionTag : Type 0 where
   tagNone tagAccept tagReject tagLeadTo tagSelect : TransitionTag
 
 unfoldable pub versionOf : ℕ → Option ℕ
-versionOf = within 1 1
+versionOf = within 1 2
 
 -- from version 2 on a file has a parser block, and its statements
 unfoldable pub hasParser : ℕ → Bool

@@ -154,14 +154,14 @@ module _ (version : ℕ) (nums : List ℕ) (at n m f i : ℕ) (found mid third f
 
 -- the version, and the program
 module _ (lay : Program → ℕ → List ℕ → List ℕ) (nums : List ℕ) (f i : ℕ) (found filled : List ℕ) (v : Value)
-    (q : v ≡ valueOf 1 1 nums 0) where
+    (q : v ≡ valueOf 1 2 nums 0) where
   pub version-past : (n next : ℕ) (r : Scan) → v ≡ Of n next
       → Lays (readAfterVersion n) lay nums next found filled r
       → Lays readProgram lay nums 0 found filled r
   unfolding readProgram versionOf between valueOf valued scanOf Kept _>>=_ andThen
-  version-past n next r p w = go (between 1 1 (drop 0 nums) 0) refl (keeps-between 1 1 .kept nums 0) (sym q ∙ p)
+  version-past n next r p w = go (between 1 2 (drop 0 nums) 0) refl (keeps-between 1 2 .kept nums 0) (sym q ∙ p)
     where
-      go : (y : Got ℕ) → between 1 1 (drop 0 nums) 0 ≡ y → Kept nums 0 y → valued y ≡ Of n next
+      go : (y : Got ℕ) → between 1 2 (drop 0 nums) 0 ≡ y → Kept nums 0 y → valued y ≡ Of n next
           → Lays readProgram lay nums 0 found filled r
       go (bad fault index) e k c = let z : _≡_ {A = ℕ} 0 1 = cc in absurd (omega arith)
       go (got m left after) e k c =
@@ -171,9 +171,9 @@ module _ (lay : Program → ℕ → List ℕ → List ℕ) (nums : List ℕ) (f 
 
   pub version-fault : v ≡ Unread f i → Lays readProgram lay nums 0 found found (Fault f i)
   unfolding readProgram versionOf between valueOf valued scanOf forget Laid _>>=_ andThen
-  version-fault p = go (between 1 1 (drop 0 nums) 0) refl (sym q ∙ p)
+  version-fault p = go (between 1 2 (drop 0 nums) 0) refl (sym q ∙ p)
     where
-      go : (y : Got ℕ) → between 1 1 (drop 0 nums) 0 ≡ y → valued y ≡ Unread f i
+      go : (y : Got ℕ) → between 1 2 (drop 0 nums) 0 ≡ y → valued y ≡ Unread f i
           → Lays readProgram lay nums 0 found found (Fault f i)
       go (bad fault index) e c =
           let u : fault ≡ f = cc in

@@ -2,8 +2,8 @@
 ghost use mathlib.Core.Path.{_≡_};
 ghost use Rattle.rules.specs.Reading.{hasParser};
 
-// The latest version, which is also the first.
-pub(crate) const LATEST: u64 = 1;
+// The latest version.
+pub(crate) const LATEST: u64 = 2;
 // The first version whose files have a parser block.
 const FIRST_WITH_PARSER: u64 = 2;
 // The deepest level; bodies and keys are level 1.
