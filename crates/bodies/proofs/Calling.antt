@@ -5,21 +5,23 @@ use mathlib.Core.List.{List, [], _∷_}
 use Prim.Native.Nat.{ℕ, zero, suc, _+_, _-_, _≤_, _<_}
 use native.Mathlib.Omega.{arith}
 use lib.ListN.{length, getD}
-use lib.Dec.{ltb, eqb}
-use borrow.Author.Tests.{ne-eqb}
+use lib.Dec.{ltb, leb, eqb}
+use borrow.Author.Tests.{leb-true, leb-false, ne-eqb}
 use Rattle.rules.specs.Words.{widest}
 use Rattle.rules.specs.Syntax.{Ty, Parameter}
-use Rattle.rules.specs.Form.{ok, _>>=_, need, functionTy}
+use Rattle.rules.specs.Form.{ok, fault, _>>=_, need, functionTy, mayCall}
 use Rattle.program.specs.Codes.{tyOf}
 use Rattle.program.specs.Stands.{StandsParameters}
 use Rattle.program.specs.Looks.{returnsOf}
+use Rattle.program.specs.Scopes.{bodyNumbered}
 use Rattle.bodies.specs.declared.Typed.the-variants as typed
 use Rattle.bodies.specs.declared.Called.the-variants.{Returns, Uncalled}
 use Rattle.bodies.specs.declared.Passed.the-variants.{Agree}
 use Rattle.bodies.specs.declared.Wanted.{Wanted}
 use Rattle.bodies.specs.Claims.{toldTy, TyMost}
-use Rattle.bodies.specs.Leaves.{Tells, takesTwo, leadBy, leadLength, OperandsAt, valueTy}
+use Rattle.bodies.specs.Leaves.{TellsIn, takesTwo, leadBy, leadLength, OperandsAt, valueIn, valueTy}
 use Rattle.bodies.specs.Calls.{AsksWanted, NextWanted, WantedIf, IsWanted, weighed, Weighs, toldCall, CalledMost, Settles}
+use Rattle.bodies.proofs.Typing.{more}
 
 -- where operands stand, by the tag
 module _ (nums : List ℕ) (at : ℕ) where
@@ -49,21 +51,51 @@ module _ (nums : List ℕ) (at : ℕ) where
 
 pub ruleset operands = (binary-operands, cast-operands, slice-operands, joined-operands, other-operands)
 
--- the value of a call
-value-is : (at kind returns : ℕ) → (kind ≡ 0 → ⊥) → ok (tyOf returns) ≡ valueTy at kind returns
-unfolding valueTy functionTy returnsOf
-value-is at zero returns x = absurd (x refl)
-value-is at (suc kind) returns x = refl
+-- the value of a call, by what it calls and the body that it stands in
+low : (k : ℕ) → k < 3 → leb 3 k ≡ true → ⊥
+low k h e = absurd (omega (arith, h, leb-true 3 k e))
+
+value-none : (at kind returns k returned : ℕ) → (eqb kind 0 || leb 3 k) ≡ true
+    → fault 8 at ≡ valueTy at kind returns (bodyNumbered k returned)
+unfolding valueTy valueIn mayCall functionTy returnsOf bodyNumbered need _>>=_
+value-none at zero returns zero returned e = refl
+value-none at zero returns (suc zero) returned e = refl
+value-none at zero returns (suc (suc zero)) returned e = refl
+value-none at zero returns (suc (suc (suc k))) returned e = refl
+value-none at (suc kind) returns zero returned e = absurd (low 0 (omega arith) (rw (more kind) at e))
+value-none at (suc kind) returns (suc zero) returned e = absurd (low 1 (omega arith) (rw (more kind) at e))
+value-none at (suc kind) returns (suc (suc zero)) returned e = absurd (low 2 (omega arith) (rw (more kind) at e))
+value-none at (suc kind) returns (suc (suc (suc k))) returned e = refl
+
+value-some : (at kind returns k returned : ℕ) → (eqb kind 0 || leb 3 k) ≡ false
+    → ok (tyOf returns) ≡ valueTy at kind returns (bodyNumbered k returned)
+unfolding valueTy valueIn mayCall functionTy returnsOf bodyNumbered need _>>=_
+value-some at zero returns k returned e = let z : _≡_ {A = ℕ} 0 1 = cc in absurd (omega arith)
+value-some at (suc kind) returns zero returned e = refl
+value-some at (suc kind) returns (suc zero) returned e = refl
+value-some at (suc kind) returns (suc (suc zero)) returned e = refl
+value-some at (suc kind) returns (suc (suc (suc k))) returned e =
+    let l : leb 3 (suc (suc (suc k))) ≡ false = rw (more kind) at e in
+    absurd (omega (arith, leb-false 3 (suc (suc (suc k))) l))
+
+module _ (scope : List ℕ) (at kind returns : ℕ) (b : Bool) (e : b ≡ (eqb kind 0 || leb 3 (getD scope 5 0))) where
+  pub no-value : b ≡ true → TellsIn scope (valueTy at kind returns) (typed.Fault 8 at)
+  unfolding toldTy TyMost
+  no-value k = record {
+    judged = λ body i.
+        rw (← i) (value-none at kind returns (getD scope 5 0) (getD scope 6 0) (sym e ∙ k));
+    most = tt;
+  }
+
+  pub some-value : returns ≤ widest → b ≡ false → TellsIn scope (valueTy at kind returns) (typed.Ty returns)
+  unfolding toldTy TyMost
+  some-value m k = record {
+    judged = λ body i.
+        rw (← i) (value-some at kind returns (getD scope 5 0) (getD scope 6 0) (sym e ∙ k));
+    most = m;
+  }
 
 module _ (at kind returns : ℕ) where
-  pub action-value : kind ≡ 0 → Tells (typed.Fault 8 at) (valueTy at kind returns)
-  unfolding toldTy TyMost valueTy functionTy returnsOf
-  action-value k = record { judged = rw k; most = tt }
-
-  pub function-value : returns ≤ widest → (kind ≡ 0 → ⊥) → Tells (typed.Ty returns) (valueTy at kind returns)
-  unfolding toldTy TyMost
-  function-value m x = record { judged = value-is at kind returns x; most = m }
-
   -- a call whose arguments are judged
   module _ (types places : Bool) where
     pub settled : returns ≤ widest → types ≡ true → places ≡ true
@@ -79,7 +111,7 @@ module _ (at kind returns : ℕ) where
     unfolding toldCall CalledMost need _>>=_
     unsettled-type e = record { told = rw e; most = tt }
 
-pub ruleset settling = (action-value, function-value, settled, unsettled-place, unsettled-type)
+pub ruleset settling = (no-value, some-value, settled, unsettled-place, unsettled-type)
 
 -- the parameter that comes next
 module _ (nums : List ℕ) (parameters left : ℕ) where

@@ -1,15 +1,15 @@
 -- Statements that hold no statement: what their tag and their operands say of the rules' judgement.
-use mathlib.Core.Bool.{Bool, true, false, not, _||_}
+use mathlib.Core.Bool.{Bool, true, false, not, _&&_, _||_}
 use mathlib.Core.Path.{_≡_, refl, sym, _∙_}
 use mathlib.Core.List.{List}
 use Prim.Native.Nat.{ℕ, zero, suc, _+_, _≤_, _<_}
 use native.Mathlib.Omega.{arith}
 use native.Mathlib.Numerals.{add-one}
 use lib.ListN.{getD}
-use lib.Dec.{leb, eqb}
-use borrow.Author.Tests.{ne-eqb, le-leb}
+use lib.Dec.{ltb, leb, eqb}
+use borrow.Author.Tests.{ne-eqb, le-ltb, le-leb}
 use Rattle.rules.specs.Syntax.{Ty}
-use Rattle.rules.specs.Form.{Res, ok, fault, _>>=_, named, need, writable, judgeHeaderAt, needTy, mayCall, judgeReturned, isApply, isFunction}
+use Rattle.rules.specs.Form.{Res, ok, fault, _>>=_, named, need, judgeHeaderAt, needTy, mayCall, judgeReturned, isApply, isFunction, isState, mayLeave}
 use Rattle.rules.proofs.Predicates.{no-member}
 use Rattle.program.specs.Codes.{tyOf}
 use Rattle.program.specs.Scopes.{bodyNumbered}
@@ -22,7 +22,7 @@ use Rattle.bodies.specs.declared.Formed.{Formed}
 use Rattle.bodies.specs.declared.Formed.the-variants.{Fine, Faulty}
 use Rattle.bodies.specs.Claims.{toldTy, toldStmt}
 use Rattle.bodies.specs.Leaves.{TypedIn, headerTy}
-use Rattle.bodies.specs.Forms.{Forms, ruled, assigned, chosenAs, FormsIn, calledIn, returnedIn, appliedIn, Applies, leftIn, MarksIn}
+use Rattle.bodies.specs.Forms.{Forms, ruled, ruledBoth, chosenAs, FormsIn, calledIn, returnedIn, appliedIn, Applies, leftIn, parsedIn, MarksIn}
 use Rattle.bodies.proofs.Typing.{more}
 
 -- a rule that holds, and one that does not
@@ -35,15 +35,14 @@ module _ (number at : ℕ) (holds returns : Bool) where
   unfolding ruled toldStmt need _>>=_
   rule-not e = record { judged = rw e }
 
-module _ (at : ℕ) (same writable : Bool) where
-  pub assign-rule : (r : Formed) → same ≡ true → Forms r (ruled 8 at writable false)
-      → Forms r (assigned at same writable)
-  unfolding assigned need _>>=_
-  assign-rule r e f = record { judged = rw e (f .judged) }
+module _ (at : ℕ) (first second : Bool) where
+  pub rules-second : (r : Formed) → first ≡ true → Forms r (ruled 8 at second false) → Forms r (ruledBoth at first second)
+  unfolding ruledBoth need _>>=_
+  rules-second r e f = record { judged = rw e (f .judged) }
 
-  pub assign-not : same ≡ false → Forms (Faulty 7 at) (assigned at same writable)
-  unfolding assigned toldStmt need _>>=_
-  assign-not e = record { judged = rw e }
+  pub rules-not : first ≡ false → Forms (Faulty 7 at) (ruledBoth at first second)
+  unfolding ruledBoth toldStmt need _>>=_
+  rules-not e = record { judged = rw e }
 
 module _ (at t : ℕ) (branches : Formed) where
   pub chosen-fine : (x : Bool) → branches ≡ Fine x → (r : Formed) → Forms r (ruled 7 at (eqb t 0) x)
@@ -56,44 +55,58 @@ module _ (at t : ℕ) (branches : Formed) where
   unfolding chosenAs toldStmt _>>=_
   chosen-fault number index e = record { judged = rw e }
 
--- the kinds of bodies
-other : (k : ℕ) → eqb (suc (suc k)) 1 ≡ false
-other k = ne-eqb (suc (suc k)) 1 (λ e. absurd (omega (arith, e)))
+-- the kinds of bodies: a number past the apply body's is a state's
+other : (k n : ℕ) → n < 3 → eqb (suc (suc (suc k))) n ≡ false
+other k n h = ne-eqb (suc (suc (suc k))) n (λ e. absurd (omega (arith, h, e)))
+
+past : (k : ℕ) → ltb (suc (suc (suc k))) 3 ≡ false
+past k = le-ltb (suc (suc (suc k))) 3 (omega arith)
 
 may-call : (k returned kind returns : ℕ)
-    → mayCall (bodyNumbered k returned) (returnsOf kind returns) ≡ (not (eqb kind 0) || not (eqb k 1))
+    → mayCall (bodyNumbered k returned) (returnsOf kind returns) ≡ (ltb k 3 && (not (eqb kind 0) || not (eqb k 1)))
 unfolding mayCall bodyNumbered returnsOf
 may-call zero returned zero returns = refl
 may-call zero returned (suc kind) returns = rw (more kind)
 may-call (suc zero) returned zero returns = refl
 may-call (suc zero) returned (suc kind) returns = rw (more kind)
-may-call (suc (suc k)) returned zero returns = rw (other k)
-may-call (suc (suc k)) returned (suc kind) returns = rw (more kind)
+may-call (suc (suc zero)) returned zero returns = refl
+may-call (suc (suc zero)) returned (suc kind) returns = rw (more kind)
+may-call (suc (suc (suc k))) returned kind returns = rw (past k)
 
-is-apply : (k returned : ℕ) → isApply (bodyNumbered k returned) ≡ leb 2 k
+is-apply : (k returned : ℕ) → isApply (bodyNumbered k returned) ≡ eqb k 2
 unfolding isApply bodyNumbered
 is-apply zero returned = refl
 is-apply (suc zero) returned = refl
-is-apply (suc (suc k)) returned = sym (le-leb 2 (suc (suc k)) (omega arith))
+is-apply (suc (suc zero)) returned = refl
+is-apply (suc (suc (suc k))) returned = sym (other k 2 (omega arith))
 
-is-function : (k returned : ℕ) → isFunction (bodyNumbered k returned) ≡ eqb k 1
-unfolding isFunction bodyNumbered
-is-function zero returned = refl
-is-function (suc zero) returned = refl
-is-function (suc (suc k)) returned = sym (other k)
+is-state : (k returned : ℕ) → isState (bodyNumbered k returned) ≡ leb 3 k
+unfolding isState bodyNumbered
+is-state zero returned = refl
+is-state (suc zero) returned = refl
+is-state (suc (suc zero)) returned = refl
+is-state (suc (suc (suc k))) returned = sym (le-leb 3 (suc (suc (suc k))) (omega arith))
+
+may-leave : (k returned : ℕ) → mayLeave (bodyNumbered k returned) ≡ (not (eqb k 1) && ltb k 3)
+unfolding mayLeave isFunction isState bodyNumbered
+may-leave zero returned = refl
+may-leave (suc zero) returned = refl
+may-leave (suc (suc zero)) returned = refl
+may-leave (suc (suc (suc k))) returned = rw (past k, other k 1 (omega arith))
 
 no-function : (at k returned : ℕ) (u : Ty) → (k ≡ 1 → ⊥) → judgeReturned at (bodyNumbered k returned) u ≡ fault 8 at
 unfolding judgeReturned bodyNumbered
 no-function at zero returned u x = refl
 no-function at (suc zero) returned u x = absurd (x refl)
-no-function at (suc (suc k)) returned u x = refl
+no-function at (suc (suc zero)) returned u x = refl
+no-function at (suc (suc (suc k))) returned u x = refl
 
 module _ (scope : List ℕ) (at : ℕ) (r : Formed) where
-  pub called-in : (kind returns : ℕ) (b : Bool) → b ≡ (not (eqb kind 0) || not (eqb (getD scope 5 0) 1))
-      → Forms r (ruled 8 at b false) → FormsIn scope (calledIn at kind returns) r
+  pub called-in : (kind returns : ℕ) (a b : Bool) → a ≡ (not (eqb kind 0) || not (eqb (getD scope 5 0) 1))
+      → b ≡ (ltb (getD scope 5 0) 3 && a) → Forms r (ruled 8 at b false) → FormsIn scope (calledIn at kind returns) r
   unfolding calledIn
-  called-in kind returns b e f = record {
-    judged = λ body k. f .judged ∙ rw (e, ← k, may-call (getD scope 5 0) (getD scope 6 0) kind returns);
+  called-in kind returns a b e g f = record {
+    judged = λ body k. f .judged ∙ rw (g, e, ← k, may-call (getD scope 5 0) (getD scope 6 0) kind returns);
   }
 
   pub returned-in : (t : ℕ) → getD scope 5 0 ≡ 1 → Forms r (ruled 7 at (eqb (getD scope 6 0) t) true)
@@ -101,13 +114,23 @@ module _ (scope : List ℕ) (at : ℕ) (r : Formed) where
   unfolding returnedIn ruled judgeReturned bodyNumbered needTy
   returned-in t k f = record { judged = λ body e. f .judged ∙ rw (← e, k, same-types (getD scope 6 0) t) }
 
-  pub applied-in : Forms r (ruled 8 at (leb 2 (getD scope 5 0)) false) → FormsIn scope (appliedIn at) r
+  pub applied-in : Forms r (ruled 8 at (eqb (getD scope 5 0) 2) false) → FormsIn scope (appliedIn at) r
   unfolding appliedIn
   applied-in f = record { judged = λ body e. f .judged ∙ rw (← e, is-apply (getD scope 5 0) (getD scope 6 0)) }
 
-  pub left-in : Forms r (ruled 8 at (not (eqb (getD scope 5 0) 1)) false) → FormsIn scope (leftIn at) r
+  pub left-in : (b : Bool) → b ≡ (not (eqb (getD scope 5 0) 1) && ltb (getD scope 5 0) 3)
+      → Forms r (ruled 8 at b false) → FormsIn scope (leftIn at) r
   unfolding leftIn
-  left-in f = record { judged = λ body e. f .judged ∙ rw (← e, is-function (getD scope 5 0) (getD scope 6 0)) }
+  left-in b e f = record {
+    judged = λ body k. f .judged ∙ rw (e, ← k, may-leave (getD scope 5 0) (getD scope 6 0));
+  }
+
+  pub parsed-in : (holds : Bool) → Forms r (ruledBoth at holds (leb 3 (getD scope 5 0)))
+      → FormsIn scope (parsedIn at holds) r
+  unfolding parsedIn
+  parsed-in holds f = record {
+    judged = λ body k. f .judged ∙ rw (← k, is-state (getD scope 5 0) (getD scope 6 0));
+  }
 
 pub returned-out : (scope : List ℕ) (at t : ℕ) → (getD scope 5 0 ≡ 1 → ⊥)
     → FormsIn scope (returnedIn at t) (Faulty 8 at)
@@ -119,8 +142,8 @@ returned-out scope at t x = record {
 pub ruleset ruling = (
   rule-holds,
   rule-not,
-  assign-rule,
-  assign-not,
+  rules-second,
+  rules-not,
   chosen-fine,
   chosen-fault,
   called-in,
@@ -128,10 +151,11 @@ pub ruleset ruling = (
   returned-out,
   applied-in,
   left-in,
+  parsed-in,
 )
 
 -- names: a table, a header
-unnamed : (at : ℕ) → toldStmt (Faulty 6 (at + 1)) ≡ fault 6 (suc at)
+pub unnamed : (at : ℕ) → toldStmt (Faulty 6 (at + 1)) ≡ fault 6 (suc at)
 unfolding toldStmt
 unnamed at = rw (add-one at)
 

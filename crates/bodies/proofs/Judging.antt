@@ -7,7 +7,7 @@ use native.Mathlib.Omega.{arith}
 use lib.ListN.{length, getD}
 use Rattle.rules.specs.Words.{widest}
 use Rattle.rules.specs.Syntax.{Ty, Expr, callExpr, Args}
-use Rattle.rules.specs.Form.{Res, ok, fault, _>>=_, named, callableBelow, Scope, judgeGiven, functionTy, judgeExpr, judgeArgs}
+use Rattle.rules.specs.Form.{Res, ok, fault, _>>=_, named, callableBelow, Scope, judgeGiven, judgeExpr, judgeArgs}
 use Rattle.program.specs.Stands.{StandsExpr}
 use Rattle.program.specs.Scopes.{StandsScope}
 use Rattle.program.proofs.Views.{ExprView, CallView, expr-view, expr-begins}
@@ -16,7 +16,7 @@ use Rattle.bodies.specs.declared.Typed.the-variants as typed
 use Rattle.bodies.specs.declared.Called.{Called}
 use Rattle.bodies.specs.declared.Called.the-variants.{Returns, Uncalled}
 use Rattle.bodies.specs.Claims.{toldTy, TyMost, AsksExpr, JudgesExpr}
-use Rattle.bodies.specs.Leaves.{Tells, valueTy, AsksLeaf, JudgesLeaf, AsksOperands}
+use Rattle.bodies.specs.Leaves.{TellsIn, valueIn, valueTy, AsksLeaf, JudgesLeaf, AsksOperands}
 use Rattle.bodies.specs.Calls.{StandsCall, judgeCall, toldCall, CalledMost, AsksCall, JudgesCall}
 
 -- the measure: levels, then what is left at one level
@@ -62,11 +62,11 @@ call-then {C} {G} {O} {T} (ok c) (ok g) z returns l = go (z c g)
     go (fault number index) = refl
 
 value-of-call : (Γ : Scope) (at f : ℕ) (xs : Args)
-    → (judgeCall Γ at f xs >>= functionTy at) ≡ judgeExpr Γ (callExpr at f xs)
-unfolding judgeExpr judgeCall
+    → (judgeCall Γ at f xs >>= valueIn at (Γ .body)) ≡ judgeExpr Γ (callExpr at f xs)
+unfolding judgeExpr judgeCall valueIn
 value-of-call Γ at f xs =
     call-then (named (suc at) (callableBelow (Γ .program) (Γ .reach) f)) (judgeArgs Γ xs)
-    (λ c given. judgeGiven at (c .parameters) given) (λ c. c .returns) (functionTy at)
+    (λ c given. judgeGiven at (c .parameters) given) (λ c. c .returns) (valueIn at (Γ .body))
 
 -- expressions
 module _ (nums directory ends scope : List ℕ) (depth at : ℕ) where
@@ -123,17 +123,17 @@ module _ (nums directory ends scope : List ℕ) (depth at : ℕ) where
 
   module _ (k : getD nums at 0 ≡ 13) (c : Called) (j : JudgesCall nums directory ends scope depth at c) where
     call-is : (Γ : Scope) (e : Expr) → StandsScope nums directory ends scope Γ → (h : StandsExpr nums ends depth at e)
-        → (toldCall c >>= functionTy at) ≡ judgeExpr Γ e
+        → (toldCall c >>= valueIn at (Γ .body)) ≡ judgeExpr Γ e
     call-is Γ e s h =
         let v : CallView nums ends depth at e = call-of e h k in
-        ap (λ x. x >>= functionTy at) (j .judged Γ (v .callable) (v .arguments) s (call-stands e h v))
+        ap (λ x. x >>= valueIn at (Γ .body)) (j .judged Γ (v .callable) (v .arguments) s (call-stands e h v))
         ∙ value-of-call Γ at (v .callable) (v .arguments) ∙ sym (ap (judgeExpr Γ) (v .same))
 
-    pub call-told : (kind returns : ℕ) → c ≡ Returns kind returns → (r : Typed) → Tells r (valueTy at kind returns)
-        → JudgesExpr nums directory ends scope depth at r
+    pub call-told : (kind returns : ℕ) → c ≡ Returns kind returns → (r : Typed)
+        → TellsIn scope (valueTy at kind returns) r → JudgesExpr nums directory ends scope depth at r
     unfolding valueTy toldCall _>>=_
     call-told kind returns e r q = record {
-      judged = λ Γ x s h. q .judged ∙ rw e at (call-is Γ x s h);
+      judged = λ Γ x s h. q .judged (Γ .body) (s .body) ∙ rw e at (call-is Γ x s h);
       most = q .most;
     }
 

@@ -270,7 +270,8 @@ seen-other : (kind returns : ℕ) → (kind ≡ 1 → ⊥) → seesGlobals (body
 unfolding seesGlobals bodyNumbered
 seen-other zero returns x = refl
 seen-other (suc zero) returns x = absurd (x refl)
-seen-other (suc (suc kind)) returns x = refl
+seen-other (suc (suc zero)) returns x = refl
+seen-other (suc (suc (suc kind))) returns x = refl
 
 module _ (scope : List ℕ) (at t : ℕ) where
   pub seen-told : t ≤ widest → (getD scope 5 0 ≡ 1 → ⊥) → SeenTyped scope at t (typed.Ty t)

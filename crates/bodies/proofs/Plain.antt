@@ -36,7 +36,7 @@ module _ (nums directory ends scope : List ℕ) (at : ℕ) where
 
   module _ (x y : Found) (f : FindsGlobal nums directory ends (getD nums (at + 1) 0) x) (e : x ≡ y) (Γ : Scope)
       (s : StandsScope nums directory ends scope Γ) where
-    shape-of : FoundShape nums y (globalAt (Γ .program) (getD nums (at + 1) 0))
+    pub shape-of : FoundShape nums y (globalAt (Γ .program) (getD nums (at + 1) 0))
     shape-of = rw e at (f .found (Γ .program) (s .end) (s .program))
 
   module _ (x : Found) (f : FindsGlobal nums directory ends (getD nums (at + 1) 0) x) where
@@ -62,7 +62,7 @@ module _ (nums directory ends scope : List ℕ) (at : ℕ) where
       header-of-variable = record { judged = λ Γ s. rw (shape-of x (Variable t) f e Γ s .1); most = tt }
 
     module _ (h : ℕ) (e : x ≡ Header h) where
-      header-found : (Γ : Scope) → StandsScope nums directory ends scope Γ
+      pub header-found : (Γ : Scope) → StandsScope nums directory ends scope Γ
           → HeaderFound nums h (globalAt (Γ .program) (getD nums (at + 1) 0))
       unfolding FoundShape
       header-found Γ s = shape-of x (Header h) f e Γ s
@@ -102,7 +102,7 @@ module _ (nums directory ends scope : List ℕ) (at : ℕ) where
       }
 
     module _ (e : x ≡ Nothing) where
-      nothing-found : (Γ : Scope) → StandsScope nums directory ends scope Γ
+      pub nothing-found : (Γ : Scope) → StandsScope nums directory ends scope Γ
           → globalAt (Γ .program) (getD nums (at + 1) 0) ≡ none
       unfolding FoundShape
       nothing-found Γ s = shape-of x Nothing f e Γ s

@@ -7,12 +7,12 @@ use native.Mathlib.Omega.{arith}
 use lib.ListN.{length, getD, getElem?}
 use lib.Dec.{eqb}
 use Rattle.rules.specs.Numbers.{mostBytes}
-use Rattle.rules.specs.Syntax.{Ty, Place, Expr, readOf, Args, placeIn, Stmt, empty, assign, callStmt, apply, return, exit}
-use Rattle.rules.specs.Form.{Res, ok, fault, _>>=_, named, need, callableBelow, Scope, writableIn, judgeHeaderAt, needTy, judgeGiven, mayCall, judgeExpr, judgeArgs, isApply, judgeStmt, returnsOn}
+use Rattle.rules.specs.Syntax.{Ty, Place, Expr, readOf, Args, placeIn, Stmt, empty, assign, callStmt, apply, return, exit, extract, verify}
+use Rattle.rules.specs.Form.{Res, ok, fault, _>>=_, named, need, callableBelow, Scope, writableIn, judgeExtracted, judgeGlobal, judgeHeaderAt, needTy, judgeGiven, mayCall, judgeExpr, judgeArgs, isApply, isState, judgeStmt, returnsOn}
 use Rattle.program.specs.Codes.{tyOf}
-use Rattle.program.specs.Stands.{Holds, StandsExpr, on-place, StandsStmt, on-empty, on-assign, on-if, on-block, on-call-stmt, on-apply, on-return-value, on-return, on-exit, on-set-valid, on-set-invalid}
+use Rattle.program.specs.Stands.{Holds, StandsExpr, on-place, StandsStmt, on-empty, on-assign, on-if, on-block, on-call-stmt, on-apply, on-return-value, on-return, on-exit, on-set-valid, on-set-invalid, on-extract, on-verify}
 use Rattle.program.specs.Scopes.{StandsScope}
-use Rattle.program.proofs.Views.{expr-begins, StmtView, BareView, AssignView, CallStmtView, NamedView, ReturnView, stmt-view, stmt-begins}
+use Rattle.program.proofs.Views.{expr-begins, StmtView, BareView, AssignView, CallStmtView, NamedView, ReturnView, VerifyView, stmt-view, stmt-begins}
 use Rattle.program.proofs.Members.{same-types}
 use Rattle.bodies.specs.declared.Typed.{Typed}
 use Rattle.bodies.specs.declared.Typed.the-variants as typed
@@ -23,16 +23,23 @@ use Rattle.bodies.specs.declared.Called.the-variants.{Returns, Uncalled}
 use Rattle.bodies.specs.Claims.{AsksExpr, JudgesExpr, toldStmt, JudgesStmt}
 use Rattle.bodies.specs.Leaves.{AsksName, AsksWritable, IsWritable, AsksLeaf, JudgesLeaf}
 use Rattle.bodies.specs.Calls.{StandsCall, judgeCall, toldCall, AsksCall, JudgesCall}
-use Rattle.bodies.specs.Forms.{Forms, ruled, assigned, FormsIn, calledIn, returnedIn, appliedIn, Applies, leftIn, MarksIn, AsksTagged, AsksSingle}
+use Rattle.bodies.specs.Forms.{Forms, ruled, ruledBoth, FormsIn, calledIn, returnedIn, appliedIn, Applies, leftIn, parsedIn, MarksIn, ExtractsIn, AsksTagged, AsksSingle}
+use Rattle.bodies.proofs.Typing.{bool-rule}
 use Rattle.bodies.proofs.Operating.{place-low, typed-is, fault-is}
 use Rattle.bodies.proofs.Judging.{call-then}
 use Rattle.bodies.proofs.Passing.{settled-as}
 
+then-again : {A B : Type 0} (x : Res A) (y : Res (Unit {0})) (b : B)
+    → (x >>= λ _. y >>= λ _. ok b) ≡ ((x >>= λ _. y) >>= λ _. ok b)
+unfolding _>>=_
+then-again (ok a) y b = refl
+then-again (fault number index) y b = refl
+
 assign-is : (Γ : Scope) (at : ℕ) (p : Place) (e : Expr) (t u : ℕ) (writes : Bool) (s : Stmt)
     → s ≡ assign at (at + 1) p e → judgeExpr Γ (readOf (at + 1) p) ≡ ok (tyOf t) → judgeExpr Γ e ≡ ok (tyOf u)
     → writes ≡ writableIn Γ (placeIn (readOf (at + 1) p))
-    → assigned at (eqb t u) writes ≡ (judgeStmt Γ s >>= λ _. ok (returnsOn s))
-unfolding assigned ruled judgeStmt judgeExpr returnsOn needTy writableIn placeIn _>>=_
+    → ruledBoth at (eqb t u) writes ≡ (judgeStmt Γ s >>= λ _. ok (returnsOn s))
+unfolding ruledBoth ruled judgeStmt judgeExpr returnsOn needTy writableIn placeIn _>>=_
 assign-is Γ at p e t u writes s i j k l =
     settled-as at (eqb t u) writes false ∙ rw (i, j, k, same-types t u, l)
 
@@ -112,7 +119,7 @@ module _ (nums directory ends scope : List ℕ) (depth at : ℕ) where
 
         pub assign-told : (u : ℕ) → b ≡ typed.Ty u → (writes : Bool) → IsWritable nums scope (at + 1) writes
             → (r : Formed)
-            → Forms r (assigned at (eqb t u) writes) → JudgesStmt nums directory ends scope depth at r
+            → Forms r (ruledBoth at (eqb t u) writes) → JudgesStmt nums directory ends scope depth at r
         assign-told u m writes i r f = record {
           judged = λ Γ s z h.
               let v : AssignView nums ends depth at s = assign-of s h (asks .is) in
@@ -134,6 +141,12 @@ pub ruleset assigning = (
   value-fault,
   assign-told,
 )
+
+verify-is : (Γ : Scope) (at t : ℕ) (c : Expr) (e : ℕ) (s : Stmt) → s ≡ verify at c e → judgeExpr Γ c ≡ ok (tyOf t)
+    → parsedIn at (eqb t 0) (Γ .body) ≡ (judgeStmt Γ s >>= λ _. ok (returnsOn s))
+unfolding parsedIn ruledBoth ruled judgeStmt returnsOn _>>=_
+verify-is Γ at t c e s i j =
+    then-again (need 7 at (eqb t 0)) (need 8 at (isState (Γ .body))) false ∙ rw (i, j, bool-rule at t)
 
 -- a call
 formed-call : (Γ : Scope) (at f : ℕ) (xs : Args)
@@ -228,6 +241,43 @@ module _ (nums directory ends scope : List ℕ) (depth at : ℕ) where
             rw (v .same, fault-is j Γ (v .value) z (v .stands) number index k);
       }
 
+  -- a verify
+  verify-of : (s : Stmt) → StandsStmt nums ends depth at s → getD nums at 0 ≡ 12 → VerifyView nums ends depth at s
+  unfolding StmtView
+  verify-of s h k = rw k at (stmt-view h)
+
+  module _ (asks : AsksTagged 12 nums directory ends scope depth at) where
+    pub verified-asks : AsksExpr nums directory ends scope (depth - 1) (at + 1)
+    verified-asks =
+        let v : VerifyView nums ends depth at (asks .asks .stmt)
+        = verify-of (asks .asks .stmt) (asks .asks .stands) (asks .is) in
+        record { scopeOf = asks .asks .scopeOf; expr = v .condition; seen = asks .asks .seen; stands = v .stands }
+
+    pub verified-small : at + 1 < mostBytes
+    verified-small = omega (arith, expr-begins (verified-asks .stands))
+
+    pub verify-deep : 0 < depth
+    verify-deep = stmt-begins (asks .asks .stands) .levels
+
+    module _ (a : Typed) (j : JudgesExpr nums directory ends scope (depth - 1) (at + 1) a) where
+      pub verified-told : (t : ℕ) → a ≡ typed.Ty t → (r : Formed) → FormsIn scope (parsedIn at (eqb t 0)) r
+          → JudgesStmt nums directory ends scope depth at r
+      verified-told t k r f = record {
+        judged = λ Γ s z h.
+            let v : VerifyView nums ends depth at s = verify-of s h (asks .is) in
+            f .judged (Γ .body) (z .body)
+            ∙ verify-is Γ at t (v .condition) (v .error) s (v .same) (typed-is j Γ (v .condition) z (v .stands) t k);
+      }
+
+      pub verified-fault : (number index : ℕ) → a ≡ typed.Fault number index
+          → JudgesStmt nums directory ends scope depth at (Faulty number index)
+      unfolding toldStmt judgeStmt _>>=_
+      verified-fault number index k = record {
+        judged = λ Γ s z h.
+            let v : VerifyView nums ends depth at s = verify-of s h (asks .is) in
+            rw (v .same, fault-is j Γ (v .condition) z (v .stands) number index k);
+      }
+
 pub ruleset holding = (
   call-stmt-asks,
   call-stmt-told,
@@ -237,21 +287,28 @@ pub ruleset holding = (
   return-deep,
   returned-told,
   returned-fault,
+  verified-asks,
+  verified-small,
+  verify-deep,
+  verified-told,
+  verified-fault,
 )
 
 -- an apply
-then-again : {A B : Type 0} (x : Res A) (y : Res (Unit {0})) (b : B)
-    → (x >>= λ _. y >>= λ _. ok b) ≡ ((x >>= λ _. y) >>= λ _. ok b)
-unfolding _>>=_
-then-again (ok a) y b = refl
-then-again (fault number index) y b = refl
-
 apply-is : (Γ : Scope) (at t n : ℕ) (s : Stmt) → s ≡ apply at t → n ≡ t
     → (named (suc at) (getElem? (Γ .program .tables) n) >>= λ _. appliedIn at (Γ .body))
     ≡ (judgeStmt Γ s >>= λ _. ok (returnsOn s))
 unfolding judgeStmt returnsOn appliedIn ruled
 apply-is Γ at t n s e f =
     rw (e, f) (then-again (named (suc at) (getElem? (Γ .program .tables) t)) (need 8 at (isApply (Γ .body))) false)
+
+-- an extract
+extract-is : (Γ : Scope) (at g n : ℕ) (s : Stmt) → s ≡ extract at g → n ≡ g
+    → (judgeGlobal Γ at n (judgeExtracted at) >>= λ _. ruled 8 at (isState (Γ .body)) false)
+    ≡ (judgeStmt Γ s >>= λ _. ok (returnsOn s))
+unfolding judgeStmt returnsOn ruled
+extract-is Γ at g n s e f =
+    rw (e, f) (then-again (judgeGlobal Γ at g (judgeExtracted at)) (need 8 at (isState (Γ .body))) false)
 
 -- by the tag
 record MarkOf (nums ends : List ℕ) (at : ℕ) (s : Stmt) : Type 0 where
@@ -262,19 +319,21 @@ record MarkOf (nums ends : List ℕ) (at : ℕ) (s : Stmt) : Type 0 where
 mark-of : {nums ends : List ℕ} {depth at : ℕ} {s : Stmt} → StandsStmt nums ends depth at s
     → (getD nums at 0 ≡ 0 → ⊥) → (getD nums at 0 ≡ 1 → ⊥) → (getD nums at 0 ≡ 2 → ⊥) → (getD nums at 0 ≡ 3 → ⊥)
     → (getD nums at 0 ≡ 4 → ⊥) → (getD nums at 0 ≡ 5 → ⊥) → (getD nums at 0 ≡ 6 → ⊥) → (getD nums at 0 ≡ 7 → ⊥)
-    → (getD nums at 0 ≡ 8 → ⊥) → MarkOf nums ends at s
+    → (getD nums at 0 ≡ 8 → ⊥) → (getD nums at 0 ≡ 11 → ⊥) → (getD nums at 0 ≡ 12 → ⊥) → MarkOf nums ends at s
 unfolding judgeStmt returnsOn
-mark-of (on-empty t) x₀ x₁ x₂ x₃ x₄ x₅ x₆ x₇ x₈ = absurd (x₀ (t .holds .is))
-mark-of (on-assign t g p e) x₀ x₁ x₂ x₃ x₄ x₅ x₆ x₇ x₈ = absurd (x₁ (t .holds .is))
-mark-of (on-if t c a b) x₀ x₁ x₂ x₃ x₄ x₅ x₆ x₇ x₈ = absurd (x₂ (t .holds .is))
-mark-of (on-block t n s) x₀ x₁ x₂ x₃ x₄ x₅ x₆ x₇ x₈ = absurd (x₃ (t .holds .is))
-mark-of (on-call-stmt t f n xs) x₀ x₁ x₂ x₃ x₄ x₅ x₆ x₇ x₈ = absurd (x₄ (t .holds .is))
-mark-of (on-apply t n) x₀ x₁ x₂ x₃ x₄ x₅ x₆ x₇ x₈ = absurd (x₅ (t .holds .is))
-mark-of (on-return-value t e) x₀ x₁ x₂ x₃ x₄ x₅ x₆ x₇ x₈ = absurd (x₆ (t .holds .is))
-mark-of (on-return t) x₀ x₁ x₂ x₃ x₄ x₅ x₆ x₇ x₈ = absurd (x₇ (t .holds .is))
-mark-of (on-exit t) x₀ x₁ x₂ x₃ x₄ x₅ x₆ x₇ x₈ = absurd (x₈ (t .holds .is))
-mark-of (on-set-valid t n) x₀ x₁ x₂ x₃ x₄ x₅ x₆ x₇ x₈ = record { name = _; holds = n; judged = λ Γ. refl }
-mark-of (on-set-invalid t n) x₀ x₁ x₂ x₃ x₄ x₅ x₆ x₇ x₈ = record { name = _; holds = n; judged = λ Γ. refl }
+mark-of (on-empty t) x₀ x₁ x₂ x₃ x₄ x₅ x₆ x₇ x₈ x₁₁ x₁₂ = absurd (x₀ (t .holds .is))
+mark-of (on-assign t g p e) x₀ x₁ x₂ x₃ x₄ x₅ x₆ x₇ x₈ x₁₁ x₁₂ = absurd (x₁ (t .holds .is))
+mark-of (on-if t c a b) x₀ x₁ x₂ x₃ x₄ x₅ x₆ x₇ x₈ x₁₁ x₁₂ = absurd (x₂ (t .holds .is))
+mark-of (on-block t n s) x₀ x₁ x₂ x₃ x₄ x₅ x₆ x₇ x₈ x₁₁ x₁₂ = absurd (x₃ (t .holds .is))
+mark-of (on-call-stmt t f n xs) x₀ x₁ x₂ x₃ x₄ x₅ x₆ x₇ x₈ x₁₁ x₁₂ = absurd (x₄ (t .holds .is))
+mark-of (on-apply t n) x₀ x₁ x₂ x₃ x₄ x₅ x₆ x₇ x₈ x₁₁ x₁₂ = absurd (x₅ (t .holds .is))
+mark-of (on-return-value t e) x₀ x₁ x₂ x₃ x₄ x₅ x₆ x₇ x₈ x₁₁ x₁₂ = absurd (x₆ (t .holds .is))
+mark-of (on-return t) x₀ x₁ x₂ x₃ x₄ x₅ x₆ x₇ x₈ x₁₁ x₁₂ = absurd (x₇ (t .holds .is))
+mark-of (on-exit t) x₀ x₁ x₂ x₃ x₄ x₅ x₆ x₇ x₈ x₁₁ x₁₂ = absurd (x₈ (t .holds .is))
+mark-of (on-set-valid t n) x₀ x₁ x₂ x₃ x₄ x₅ x₆ x₇ x₈ x₁₁ x₁₂ = record { name = _; holds = n; judged = λ Γ. refl }
+mark-of (on-set-invalid t n) x₀ x₁ x₂ x₃ x₄ x₅ x₆ x₇ x₈ x₁₁ x₁₂ = record { name = _; holds = n; judged = λ Γ. refl }
+mark-of (on-extract t n) x₀ x₁ x₂ x₃ x₄ x₅ x₆ x₇ x₈ x₁₁ x₁₂ = absurd (x₁₁ (t .holds .is))
+mark-of (on-verify t c e) x₀ x₁ x₂ x₃ x₄ x₅ x₆ x₇ x₈ x₁₁ x₁₂ = absurd (x₁₂ (t .holds .is))
 
 module _ (nums directory ends scope : List ℕ) (depth at : ℕ) where
   module _ (asks : AsksSingle nums directory ends scope depth at) where
@@ -291,11 +350,18 @@ module _ (nums directory ends scope : List ℕ) (depth at : ℕ) where
         (asks .asks .stands)) in
         v .holds .inside
 
+    pub extract-asks : getD nums at 0 ≡ 11 → AsksName nums directory ends scope at
+    unfolding StmtView
+    extract-asks k =
+        let v : NamedView nums ends depth at (asks .asks .stmt) (extract at) = rw k at (stmt-view
+        (asks .asks .stands)) in
+        record { scopeOf = asks .asks .scopeOf; seen = asks .asks .seen; inside = v .holds .inside }
+
     module _ (x₀ : getD nums at 0 ≡ 0 → ⊥) (x₁ : getD nums at 0 ≡ 1 → ⊥) (x₄ : getD nums at 0 ≡ 4 → ⊥)
         (x₅ : getD nums at 0 ≡ 5 → ⊥) (x₆ : getD nums at 0 ≡ 6 → ⊥) (x₇ : getD nums at 0 ≡ 7 → ⊥)
-        (x₈ : getD nums at 0 ≡ 8 → ⊥) where
+        (x₈ : getD nums at 0 ≡ 8 → ⊥) (x₁₁ : getD nums at 0 ≡ 11 → ⊥) (x₁₂ : getD nums at 0 ≡ 12 → ⊥) where
       marks : (s : Stmt) → StandsStmt nums ends depth at s → MarkOf nums ends at s
-      marks s h = mark-of h x₀ x₁ (asks .noIf) (asks .noBlock) x₄ x₅ x₆ x₇ x₈
+      marks s h = mark-of h x₀ x₁ (asks .noIf) (asks .noBlock) x₄ x₅ x₆ x₇ x₈ x₁₁ x₁₂
 
       pub mark-asks : AsksName nums directory ends scope at
       mark-asks = record {
@@ -328,6 +394,15 @@ module _ (nums directory ends scope : List ℕ) (depth at : ℕ) where
           f .judged ends Γ z ∙ apply-is Γ at (v .name) (getD nums (at + 1) 0) s (v .same) (v .holds .is);
     }
 
+    pub extract-told : getD nums at 0 ≡ 11 → ExtractsIn nums directory ends scope at r
+        → JudgesStmt nums directory ends scope depth at r
+    unfolding StmtView
+    extract-told k f = record {
+      judged = λ Γ s z h.
+          let v : NamedView nums ends depth at s (extract at) = rw k at (stmt-view h) in
+          f .judged Γ z ∙ extract-is Γ at (v .name) (getD nums (at + 1) 0) s (v .same) (v .holds .is);
+    }
+
     pub return-told : getD nums at 0 ≡ 7 → FormsIn scope (leftIn at) r
         → JudgesStmt nums directory ends scope depth at r
     unfolding StmtView leftIn ruled judgeStmt returnsOn
@@ -353,6 +428,8 @@ pub ruleset singling = (
   mark-told,
   empty-told,
   apply-told,
+  extract-asks,
+  extract-told,
   return-told,
   exit-told,
 )

@@ -3,13 +3,13 @@
 use mathlib.Core.Bool.{Bool, true, false, _&&_, _||_}
 use mathlib.Core.Path.{_≡_, refl, sym, ap, _∙_}
 use mathlib.Core.List.{List}
-use Prim.Native.Nat.{ℕ, zero, suc, _+_, _-_, _<_}
+use Prim.Native.Nat.{ℕ, _+_, _-_, _<_}
 use native.Mathlib.Omega.{arith}
 use lib.ListN.{length, getD}
 use lib.Dec.{eqb}
 use Rattle.rules.specs.Numbers.{mostBytes}
-use Rattle.rules.specs.Syntax.{bool, Expr, Stmt, ifElse, Stmts, stmt}
-use Rattle.rules.specs.Form.{Res, ok, fault, _>>=_, need, sameTy, needTy, Scope, judgeExpr, judgeStmt, judgeStmts, returnsOn, someReturns}
+use Rattle.rules.specs.Syntax.{Expr, Stmt, ifElse, Stmts, stmt}
+use Rattle.rules.specs.Form.{Res, ok, fault, _>>=_, need, Scope, judgeExpr, judgeStmt, judgeStmts, returnsOn, someReturns}
 use Rattle.program.specs.Codes.{tyOf, memberCount}
 use Rattle.program.specs.Stands.{StandsStmt, StandsStmts}
 use Rattle.program.specs.Scopes.{StandsScope}
@@ -20,7 +20,7 @@ use Rattle.bodies.specs.declared.Formed.{Formed}
 use Rattle.bodies.specs.declared.Formed.the-variants.{Fine, Faulty}
 use Rattle.bodies.specs.Claims.{AsksExpr, JudgesExpr, toldStmt, AsksStmt, JudgesStmt}
 use Rattle.bodies.specs.Forms.{Forms, ruled, chosenAs, AsksTagged, AsksSingle, AsksBranches, JudgesBranches, AsksStmts, JudgesStmts}
-use Rattle.bodies.proofs.Typing.{more}
+use Rattle.bodies.proofs.Typing.{bool-rule}
 use Rattle.bodies.proofs.Operating.{typed-is, fault-is}
 use Rattle.bodies.proofs.Judging.{rank}
 
@@ -119,11 +119,6 @@ module _ (nums directory ends scope : List ℕ) (depth at : ℕ) where
 pub ruleset branching = (first-branch, second-branch, branch-ends, first-faulty, second-faulty, branches-fine)
 
 -- an if, from its condition and its branches
-bool-rule : (at t : ℕ) → need 7 at (eqb t 0) ≡ needTy at bool (tyOf t)
-unfolding needTy sameTy tyOf
-bool-rule at zero = refl
-bool-rule at (suc t) = rw (more t)
-
 if-then : (x y n : Res (Unit {0})) (b : Bool)
     → ((x >>= λ _. y >>= λ _. ok b) >>= λ returns. n >>= λ _. ok returns) ≡ ((x >>= λ _. y >>= λ _. n) >>= λ _. ok b)
 unfolding _>>=_

@@ -45,6 +45,11 @@ bits-told at width n b r w e h = retold h (rw (e, bits-of width (w .least)))
 pub more : (n : ℕ) → eqb (suc n) 0 ≡ false
 more n = ne-eqb (suc n) 0 (λ e. absurd (omega (arith, e)))
 
+pub bool-rule : (at t : ℕ) → need 7 at (eqb t 0) ≡ needTy at bool (tyOf t)
+unfolding needTy sameTy tyOf
+bool-rule at zero = refl
+bool-rule at (suc t) = rw (more t)
+
 not-is : (at t : ℕ) → checkedTy at (eqb t 0) (tyOf 0) ≡ notTy at (tyOf t)
 unfolding checkedTy notTy needTy sameTy tyOf
 not-is at zero = refl

@@ -1,12 +1,12 @@
 -- What the judgement of statements asks and promises, from part to part.
-use mathlib.Core.Bool.{Bool, true, false, not, _&&_}
+use mathlib.Core.Bool.{Bool, true, false, _&&_}
 use mathlib.Core.Path.{_≡_}
 use mathlib.Core.List.{List}
 use Prim.Native.Nat.{ℕ, suc, _+_}
 use lib.Dec.{eqb}
 use lib.ListN.{getD, getElem?}
 use Rattle.rules.specs.Syntax.{Stmt, Stmts}
-use Rattle.rules.specs.Form.{Res, ok, _>>=_, named, need, judgeHeaderAt, Body, Scope, mayCall, judgeReturned, isApply, isFunction, judgeStmt, judgeStmts, returnsOn, someReturns}
+use Rattle.rules.specs.Form.{Res, ok, _>>=_, named, need, judgeExtracted, judgeGlobal, judgeHeaderAt, Body, Scope, mayCall, judgeReturned, isApply, isState, mayLeave, judgeStmt, judgeStmts, returnsOn, someReturns}
 use Rattle.program.specs.Codes.{tyOf, memberCount}
 use Rattle.program.specs.Stands.{StandsStmt, StandsStmts}
 use Rattle.program.specs.Scopes.{bodyNumbered, StandsScope}
@@ -22,10 +22,10 @@ pub record Forms (r : Formed) (is : Res Bool) : Type 0 where
 unfoldable pub ruled : ℕ → ℕ → Bool → Bool → Res Bool
 ruled number at holds returns = need number at holds >>= λ _. ok returns
 
--- a statement whose operands are judged, in a body of a kind
-unfoldable pub assigned : ℕ → Bool → Bool → Res Bool
-assigned at same writable = need 7 at same >>= λ _. ruled 8 at writable false
+unfoldable pub ruledBoth : ℕ → Bool → Bool → Res Bool
+ruledBoth at first second = need 7 at first >>= λ _. ruled 8 at second false
 
+-- a statement whose operands are judged, in a body of a kind
 unfoldable pub chosenAs : ℕ → ℕ → Res Bool → Res Bool
 chosenAs at t branches = branches >>= λ returns. ruled 7 at (eqb t 0) returns
 
@@ -47,11 +47,19 @@ pub record Applies (nums directory scope : List ℕ) (at : ℕ) (r : Formed) : T
       (Γ .body))
 
 unfoldable pub leftIn : ℕ → Body → Res Bool
-leftIn at b = ruled 8 at (not (isFunction b)) false
+leftIn at b = ruled 8 at (mayLeave b) false
+
+unfoldable pub parsedIn : ℕ → Bool → Body → Res Bool
+parsedIn at holds b = ruledBoth at holds (isState b)
 
 pub record MarksIn (nums directory ends scope : List ℕ) (at : ℕ) (r : Formed) : Type 0 where
   pub judged : (Γ : Scope) → StandsScope nums directory ends scope Γ
       → toldStmt r ≡ (judgeHeaderAt Γ at (getD nums (at + 1) 0) >>= λ _. ok false)
+
+pub record ExtractsIn (nums directory ends scope : List ℕ) (at : ℕ) (r : Formed) : Type 0 where
+  pub judged : (Γ : Scope) → StandsScope nums directory ends scope Γ
+      → toldStmt r ≡ (judgeGlobal Γ at (getD nums (at + 1) 0) (judgeExtracted at) >>= λ _. ruled 8 at
+      (isState (Γ .body)) false)
 
 -- a statement of a tag; one that holds no statement
 pub record AsksTagged (tag : ℕ) (nums directory ends scope : List ℕ) (depth at : ℕ) : Type 0 where

@@ -10,7 +10,7 @@ use Rattle.rules.specs.Numbers.{mostBytes}
 use Rattle.rules.specs.Words.{widest, sliceFits, sliceWidth, joinFits}
 use Rattle.rules.specs.Syntax.{Ty, bool, bits, Operator, local, parameter, global, field, header, Expr, Program, placeIn}
 use Rattle.rules.specs.Reading.{highestBound}
-use Rattle.rules.specs.Form.{Res, ok, _>>=_, need, fits, Shape, aVariable, aHeader, globalAt, Body, Scope, seesGlobals, writable, writableIn, shapeIn, judgeField, judgePlace, judgeHeaderAt, widthAt, needTy, judgeOperator, functionTy}
+use Rattle.rules.specs.Form.{Res, ok, _>>=_, need, fits, Shape, aVariable, aHeader, globalAt, Body, Scope, seesGlobals, writable, writableIn, shapeIn, judgeField, judgePlace, judgeHeaderAt, wholeBytes, widthAt, needTy, judgeOperator, functionTy, mayCall}
 use Rattle.program.specs.Codes.{tyOf, operatorNumber}
 use Rattle.program.specs.Stands.{Holds, StandsExpr, StandsWidths, StandsProgram}
 use Rattle.program.specs.Looks.{returnsOf}
@@ -23,6 +23,11 @@ use Rattle.bodies.specs.Claims.{toldTy, TyMost, AsksExpr, JudgesExpr}
 -- an answer is the rules'
 pub record Tells (r : Typed) (is : Res Ty) : Type 0 where
   pub judged : toldTy r ≡ is
+  pub most : TyMost r
+
+-- in a body of a kind
+pub record TellsIn (scope : List ℕ) (judge : Body → Res Ty) (r : Typed) : Type 0 where
+  pub judged : (b : Body) → bodyNumbered (getD scope 5 0) (getD scope 6 0) ≡ b → toldTy r ≡ judge b
   pub most : TyMost r
 
 -- a type where a rule holds
@@ -210,6 +215,17 @@ pub record FieldTyped (nums scope : List ℕ) (at header : ℕ) (r : Typed) : Ty
       (seesGlobals b) >>= λ _. ok t)
   pub most : TyMost r
 
+-- whether the header type at an index has whole bytes
+pub record AsksWidths (nums : List ℕ) (header : ℕ) : Type 0 where
+  pub numbers : length nums ≤ mostBytes
+  pub widths : List ℕ
+  pub count : Holds nums header (length widths)
+  pub stand : StandsWidths nums (header + 1) widths
+
+pub record IsWhole (nums : List ℕ) (header : ℕ) (r : Bool) : Type 0 where
+  pub is : (widths : List ℕ) → Holds nums header (length widths) → StandsWidths nums (header + 1) widths
+      → r ≡ wholeBytes widths
+
 -- whether the expression at an index is a place that may be written
 pub record AsksWritable (nums scope : List ℕ) (at : ℕ) : Type 0 where
   pub directory : List ℕ
@@ -240,6 +256,9 @@ pub record AsksOperands (nums directory ends scope : List ℕ) (depth at : ℕ) 
   pub inner : 7 ≤ getD nums at 0
   pub noCall : getD nums at 0 ≡ 13 → ⊥
 
--- the value of a call that is an expression
-unfoldable pub valueTy : ℕ → ℕ → ℕ → Res Ty
-valueTy at kind returns = functionTy at (returnsOf kind returns)
+-- the value of a call that is an expression, by what the callable returns
+unfoldable pub valueIn : ℕ → Body → Option Ty → Res Ty
+valueIn at b returns = need 8 at (mayCall b returns) >>= λ _. functionTy at returns
+
+unfoldable pub valueTy : ℕ → ℕ → ℕ → Body → Res Ty
+valueTy at kind returns b = valueIn at b (returnsOf kind returns)

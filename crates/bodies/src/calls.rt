@@ -1,7 +1,7 @@
 // What a call asks of its arguments and of what it calls.
 ghost use Prim.Native.Nat.{_≤_};
 ghost use Rattle.rules.specs.Words.{widest};
-ghost use Rattle.bodies.specs.Leaves.{Tells, valueTy};
+ghost use Rattle.bodies.specs.Leaves.{TellsIn, valueTy};
 ghost use Rattle.bodies.specs.Calls.{AsksWanted, IsWanted, Weighs, Settles};
 use super::Called;
 use super::Passed;
@@ -9,13 +9,15 @@ use super::Typed;
 use super::Wanted;
 use super::types::both;
 use super::types::either;
+use program::KIND;
+use program::STATE;
 
-// The type of a call that is an expression: it calls functions only.
-pub fn value_type(at: usize, kind: u64, returns: u64) -> Typed
+// The type of a call that is an expression: it calls functions only, and stands in no state.
+pub fn value_type(scope: &[u64; program::SCOPE], at: usize, kind: u64, returns: u64) -> Typed
     requires { ⌜ returns ≤ widest ⌝ }
-    ensures { λ r. ⌜ Tells r (valueTy at kind returns) ⌝ }
+    ensures { λ r. ⌜ TellsIn (now (scope .entry)) (valueTy at kind returns) r ⌝ }
 {
-    if kind == 0 {
+    if either(kind == 0, STATE <= scope[KIND]) {
         Typed::Fault {
             number: 8,
             index: at,

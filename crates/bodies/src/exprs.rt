@@ -185,7 +185,7 @@ pub fn judge_expr(
     } else if tag == 13 {
         let called = judge_call(nums, ends, directory, scope, depth, at);
         match called {
-            Called::Returns { kind, returns } => value_type(at, kind, returns),
+            Called::Returns { kind, returns } => value_type(scope, at, kind, returns),
             Called::Uncalled { number, index } => Typed::Fault { number, index },
         }
     } else {

@@ -1,12 +1,14 @@
 // What a statement asks once its parts are judged: 7 before 8.
 ghost use Rattle.bodies.specs.Claims.{toldStmt};
-ghost use Rattle.bodies.specs.Forms.{Forms, ruled, assigned, chosenAs, FormsIn, calledIn, returnedIn, appliedIn, leftIn};
+ghost use Rattle.bodies.specs.Forms.{Forms, ruled, ruledBoth, chosenAs, FormsIn, calledIn, returnedIn, appliedIn, leftIn, parsedIn};
 use super::Formed;
+use super::types::both;
 use super::types::either;
 use program::APPLY;
 use program::FUNCTION;
 use program::KIND;
 use program::RETURNS;
+use program::STATE;
 
 // Fine where a rule holds, and its refusal where it does not.
 fn rule(number: u64, at: usize, holds: bool, returns: bool) -> Formed
@@ -19,12 +21,12 @@ fn rule(number: u64, at: usize, holds: bool, returns: bool) -> Formed
     }
 }
 
-// An assignment whose sides are judged: one type, and a target that may be written.
-pub fn assign(at: usize, same: bool, writable: bool) -> Formed
-    ensures { λ r. ⌜ Forms r (assigned at same writable) ⌝ }
+// Two rules of a statement that returns nothing: 7 where the first does not hold, then 8 where the second does not.
+pub fn rules(at: usize, first: bool, second: bool) -> Formed
+    ensures { λ r. ⌜ Forms r (ruledBoth at first second) ⌝ }
 {
-    if same {
-        rule(8, at, writable, false)
+    if first {
+        rule(8, at, second, false)
     } else {
         Formed::Faulty {
             number: 7,
@@ -33,11 +35,12 @@ pub fn assign(at: usize, same: bool, writable: bool) -> Formed
     }
 }
 
-// A call that is a statement: a function calls functions only.
+// A call that is a statement: a function calls functions only, and a state calls nothing.
 pub fn called(scope: &[u64; program::SCOPE], at: usize, kind: u64, returns: u64) -> Formed
     ensures { λ r. ⌜ FormsIn (now (scope .entry)) (calledIn at kind returns) r ⌝ }
 {
-    let may = either(kind != 0, scope[KIND] != FUNCTION);
+    let some = either(kind != 0, scope[KIND] != FUNCTION);
+    let may = both(scope[KIND] < STATE, some);
     rule(8, at, may, false)
 }
 
@@ -59,14 +62,22 @@ pub fn returned(scope: &[u64; program::SCOPE], at: usize, t: u64) -> Formed
 pub fn applied(scope: &[u64; program::SCOPE], at: usize) -> Formed
     ensures { λ r. ⌜ FormsIn (now (scope .entry)) (appliedIn at) r ⌝ }
 {
-    rule(8, at, APPLY <= scope[KIND], false)
+    rule(8, at, scope[KIND] == APPLY, false)
 }
 
-// A return without a value, or an exit: not in functions.
+// A return without a value, or an exit: in actions and the apply body only.
 pub fn left(scope: &[u64; program::SCOPE], at: usize) -> Formed
     ensures { λ r. ⌜ FormsIn (now (scope .entry)) (leftIn at) r ⌝ }
 {
-    rule(8, at, scope[KIND] != FUNCTION, false)
+    let may = both(scope[KIND] != FUNCTION, scope[KIND] < STATE);
+    rule(8, at, may, false)
+}
+
+// A verify or an extract, whose own rule holds or not: in states only.
+pub fn parsed(scope: &[u64; program::SCOPE], at: usize, holds: bool) -> Formed
+    ensures { λ r. ⌜ FormsIn (now (scope .entry)) (parsedIn at holds) r ⌝ }
+{
+    rules(at, holds, STATE <= scope[KIND])
 }
 
 // An if with a condition of a type: a fault of its branches comes before its own.

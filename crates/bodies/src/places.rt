@@ -1,7 +1,7 @@
 // Names: locals, parameters, globals, fields and headers, and which places may be written.
 ghost use Prim.Native.Nat.{_≤_};
 ghost use Rattle.rules.specs.Words.{widest};
-ghost use Rattle.bodies.specs.Leaves.{AsksName, TypedIn, AsksSlot, SlotTyped, localTy, parameterTy, variableTy, fieldTy, headerTy, AsksProgram, FindsGlobal, FindsHeader, SeenTyped, AsksField, FieldTyped, AsksFieldName, AsksWritable, IsWritable, AsksLeaf, JudgesLeaf, IsWritableParameter};
+ghost use Rattle.bodies.specs.Leaves.{AsksName, TypedIn, AsksSlot, SlotTyped, localTy, parameterTy, variableTy, fieldTy, headerTy, AsksProgram, FindsGlobal, FindsHeader, SeenTyped, AsksField, FieldTyped, AsksFieldName, AsksWidths, IsWhole, AsksWritable, IsWritable, AsksLeaf, JudgesLeaf, IsWritableParameter};
 use super::Found;
 use super::Typed;
 use super::types::bits_type;
@@ -60,7 +60,7 @@ fn header_at(nums: &[u64], ends: &[u64], directory: &[u64; shape::SLOTS], h: usi
 }
 
 // What the global of a number is.
-fn global_at(nums: &[u64], ends: &[u64], directory: &[u64; shape::SLOTS], g: usize) -> Found
+pub fn global_at(nums: &[u64], ends: &[u64], directory: &[u64; shape::SLOTS], g: usize) -> Found
     requires { ⌜ AsksProgram (now nums) (now directory) (now ends) ⌝ }
     ensures { λ r. ⌜ FindsGlobal (now (nums .entry)) (now (directory .entry)) (now (ends .entry)) g r ⌝ }
 {
@@ -130,6 +130,22 @@ fn width_type(nums: &[u64], scope: &[u64; program::SCOPE], at: usize, header: us
             index: at + 2,
         }
     }
+}
+
+// Whether the fields of the header type that stands at an index have whole bytes together.
+pub fn whole_bytes(nums: &[u64], header: usize) -> bool
+    requires { ⌜ AsksWidths (now nums) header ⌝ }
+    ensures { λ r. ⌜ IsWhole (now (nums .entry)) header r ⌝ }
+{
+    let mut next = header + 1;
+    let mut left = nums[header];
+    let mut bits = 0;
+    while left != 0 {
+        bits += nums[next];
+        next += 1;
+        left -= 1;
+    }
+    bits % 8 == 0
 }
 
 // The type of the field whose global and number stand behind the tag.

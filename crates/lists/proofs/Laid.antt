@@ -8,11 +8,11 @@ use lib.ListN.{length, getD, drop, List·getD-append}
 use lib.Seq.{sets, sets-eq}
 use Rattle.rules.specs.Syntax.{Global, Program}
 use Rattle.rules.specs.Reading.{Got, got, bad, andThen, _>>=_, pure, mostGlobals}
-use Rattle.rules.specs.Lists.{Entry, Cell, mostEntries, slotsOf, readEntries, readStore, nothingLeft}
+use Rattle.rules.specs.Lists.{Entry, Cell, mostEntries, slotsOf, readEntries, readStore, readPacket, nothingLeft}
 use Rattle.program.specs.Stands.{StandsProgram}
 use Rattle.program.proofs.Found.{member-in}
 use Rattle.lists.specs.declared.Listed.the-variants.{Fine}
-use Rattle.lists.specs.Listing.{listing, startsFrom, behindEntries, offsetsFrom, listedOf, entriesLeft, offsetsLeft, ListsJudged}
+use Rattle.lists.specs.Listing.{Lists, readLast, listing, startsFrom, behindEntries, offsetsFrom, listedOf, entriesLeft, offsetsLeft, ListsJudged}
 use Rattle.lists.specs.Stands.{ListsStand}
 use Rattle.lists.proofs.Places.{PlacedAt, ListsAt, StandCells, no-cell, a-cell, placed-listing, entry-stands, cell-stands, last-offset, store-stands}
 
@@ -48,13 +48,13 @@ lists-stand nums directory ends entries entries′ offsets offsets′ store size
     go (listing P (drop end nums) end) refl (placed-listing P .placed nums end) (k .answer) (k .entriesAre)
     (k .offsetsAre)
   where
-    go : (x : Got (List Entry × List Cell)) → listing P (drop end nums) end ≡ x → PlacedAt (ListsAt P) nums end x
+    go : (x : Got Lists) → listing P (drop end nums) end ≡ x → PlacedAt (ListsAt P) nums end x
         → Fine store size ≡ listedOf end x → entries′ ≡ entriesLeft end x entries → offsets′ ≡ offsetsLeft P x offsets
         → ListsStand P end nums entries′ offsets′ store size
     go (bad number index) e p a b c = let z : _≡_ {A = ℕ} 0 1 = cc in absurd (omega arith)
     go (got lists left next) e p a b c =
-        let es : List Entry = lists .0 in
-        let cs : List Cell = lists .1 in
+        let es : List Entry = lists .entries in
+        let cs : List Cell = lists .cells in
         let m : store ≡ behindEntries (suc end) es = cc in
         let n : size ≡ length (slotsOf cs) = cc in
         let f : (i : ℕ) → i ≤ length es → getD entries′ i 0 ≡ getD (length es ∷ startsFrom (suc end) es) i 0
@@ -69,6 +69,7 @@ lists-stand nums directory ends entries entries′ offsets offsets′ store size
         record {
           entryList = es;
           cells = cs;
+          packet = lists .packet;
           left = left;
           next = next;
           read = e;
@@ -84,31 +85,47 @@ lists-stand nums directory ends entries entries′ offsets offsets′ store size
               rw (o g (omega (arith, member-in cs g x q, cells-counted stand)))
               (cell-stands 0 store (omega arith) stand g x q);
           last = omega (arith, o (length (P .globals)) (omega arith), last-offset 0 stand, n);
+          packetStands = λ t. rw (m, n) (p .1 .parsed t);
+          noPacket = p .1 .unparsed;
         }
 
 -- the lists as the judge reads them, whatever is made of them
-pub listing-made : {A : Type 0} (P : Program) (make : List Entry → List Cell → A) (left : List ℕ) (at : ℕ)
-    → (readEntries true P >>= λ es. readStore P >>= λ cells. nothingLeft >>= λ ended. pure (make es cells)) left at
-    ≡ (listing P >>= λ lists. pure (make (lists .0) (lists .1))) left at
-unfolding listing _>>=_ andThen pure
+pub listing-made : {A : Type 0} (P : Program) (make : List Entry → List Cell → List ℕ → A) (left : List ℕ) (at : ℕ)
+    → (readEntries true P >>= λ es. readStore P >>= λ cells. readPacket P >>= λ packet. nothingLeft >>= λ ended.
+    pure (make es cells packet)) left at
+    ≡ (listing P >>= λ lists. pure (make (lists .entries) (lists .cells) (lists .packet))) left at
+unfolding listing readLast _>>=_ andThen pure
 listing-made {A} P make left at = first (readEntries true P left at)
   where
-    both : Got (List Entry × List Cell) → Got A
-    both x = andThen x (λ lists. pure (make (lists .0) (lists .1)))
+    all : Got Lists → Got A
+    all x = andThen x (λ lists. pure (make (lists .entries) (lists .cells) (lists .packet)))
 
-    third : (es : List Entry) (cells : List Cell) (x : Got (Unit {0}))
-        → andThen x (λ ended. pure (make es cells)) ≡ both (andThen x (λ ended. pure (es, cells)))
-    third es cells (got ended left next) = refl
+    made : List Entry → List Cell → Got (List ℕ) → Got Lists
+    made es cells x = andThen x (λ packet. pure (record { entries = es; cells = cells; packet = packet }))
+
+    fourth : (es : List Entry) (cells : List Cell) (packet : List ℕ) (x : Got (Unit {0}))
+        → andThen x (λ ended. pure (make es cells packet))
+        ≡ all (made es cells (andThen x (λ ended. pure packet)))
+    fourth es cells packet (got ended left next) = refl
+    fourth es cells packet (bad number index) = refl
+
+    third : (es : List Entry) (cells : List Cell) (x : Got (List ℕ))
+        → andThen x (λ packet. nothingLeft >>= λ ended. pure (make es cells packet))
+        ≡ all (made es cells (andThen x (λ packet. nothingLeft >>= λ ended. pure packet)))
+    third es cells (got packet left next) = fourth es cells packet (nothingLeft left next)
     third es cells (bad number index) = refl
 
     second : (es : List Entry) (x : Got (List Cell))
-        → andThen x (λ cells. nothingLeft >>= λ ended. pure (make es cells))
-        ≡ both (andThen x (λ cells. nothingLeft >>= λ ended. pure (es, cells)))
-    second es (got cells left next) = third es cells (nothingLeft left next)
+        → andThen x (λ cells. readPacket P >>= λ packet. nothingLeft >>= λ ended. pure (make es cells packet))
+        ≡ all (andThen x (λ cells. readLast P >>= λ packet.
+        pure (record { entries = es; cells = cells; packet = packet })))
+    second es (got cells left next) = third es cells (readPacket P left next)
     second es (bad number index) = refl
 
     first : (x : Got (List Entry))
-        → andThen x (λ es. readStore P >>= λ cells. nothingLeft >>= λ ended. pure (make es cells))
-        ≡ both (andThen x (λ es. readStore P >>= λ cells. nothingLeft >>= λ ended. pure (es, cells)))
+        → andThen x (λ es. readStore P >>= λ cells. readPacket P >>= λ packet. nothingLeft >>= λ ended.
+        pure (make es cells packet))
+        ≡ all (andThen x (λ es. readStore P >>= λ cells. readLast P >>= λ packet.
+        pure (record { entries = es; cells = cells; packet = packet })))
     first (got es left next) = second es (readStore P left next)
     first (bad number index) = refl

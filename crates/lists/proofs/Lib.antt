@@ -6,6 +6,7 @@ mod Tables
 mod Rows
 mod Fields
 mod Globals
+mod Packets
 mod Together
 pub mod Laid
 pub mod Outcomes

@@ -1,6 +1,6 @@
 -- Where the lists that are read stand: each reader from an index on gives what stands there, and leaves the numbers
 -- from the index behind it on.
-use mathlib.Core.Bool.{Bool, true, false}
+use mathlib.Core.Bool.{Bool, true, false, false≢true}
 use mathlib.Core.Option.{Option, none, some}
 use mathlib.Core.Path.{_≡_, refl, sym, _∙_, ap}
 use mathlib.Core.List.{List, [], _∷_, _++_}
@@ -8,17 +8,18 @@ use Prim.Native.Nat.{ℕ, zero, suc, _+_, _≤_, _<_}
 use native.Mathlib.Omega.{arith}
 use native.Mathlib.Numerals.{add-one}
 use lib.ListN.{length, getD, getElem?, drop, length-append}
+use lib.Seq.{drop-cons}
 use lib.Dec.{ltb, leb, eqb}
 use borrow.Author.Tests.{ltb-true, ltb-false, leb-true}
 use Rattle.rules.specs.Syntax.{bool, KeyKind, exact, lpm, ternary, Key, Parameter, Global, Program}
-use Rattle.rules.specs.Reading.{Got, got, bad, Reader, andThen, _>>=_, pure, meaning, lookedUp, within, repeat}
+use Rattle.rules.specs.Reading.{Got, got, bad, Reader, andThen, _>>=_, pure, meaning, lookedUp, within, repeat, hasParser}
 use Rattle.rules.specs.Form.{andLook, onlyIf, fits, Shape, aVariable, aHeader, shapeIn}
-use Rattle.rules.specs.Lists.{Pattern, Entry, Cell, mostEntries, passing, asked, keyWidth, actionAt, numbered, markOf, slotsOfCell, slotsOf}
-use Rattle.rules.specs.Lists.{readPattern, readPatterns, readArguments, readEntry, readEntries, readFields, readShape, readCell, readCells, readStore, nothingLeft}
+use Rattle.rules.specs.Lists.{Pattern, Entry, Cell, mostEntries, mostPacket, passing, isByte, asked, keyWidth, actionAt, numbered, markOf, slotsOfCell, slotsOf}
+use Rattle.rules.specs.Lists.{readPattern, readPatterns, readArguments, readEntry, readEntries, readFields, readShape, readCell, readCells, readStore, readBytes, readPacket, nothingLeft}
 use Rattle.rules.proofs.Readers.{looked-in, looked-out}
 use Rattle.program.specs.Stands.{Holds}
-use Rattle.lists.specs.Listing.{patternSize, patternsSize, entrySize, startsFrom, behindEntries, shapeSize, offsetsFrom, listing}
-use Rattle.lists.specs.Stands.{HoldsAll, StandsPattern, on-exact, on-lpm, on-ternary, StandsPatterns, on-none, on-pattern, StandsEntry, StandsCell}
+use Rattle.lists.specs.Listing.{patternSize, patternsSize, entrySize, startsFrom, behindEntries, shapeSize, offsetsFrom, Lists, readLast, listing}
+use Rattle.lists.specs.Stands.{HoldsAll, StandsPattern, on-exact, on-lpm, on-ternary, StandsPatterns, on-none, on-pattern, StandsEntry, StandsCell, StandsPacket}
 
 -- what a reader gives from an index on, and the index behind it
 unfoldable pub PlacedAt : {A : Type 0} → (List ℕ → ℕ → ℕ → A → Type 0) → List ℕ → ℕ → Got A → Type 0
@@ -238,15 +239,15 @@ placed-repeat P (suc count) = placed-then (placed-entry P) λ e. placed-then (pl
     }
 
 -- the list of them, its count first
-within-most : (most m n : ℕ) → within 0 most m ≡ some n → n ≤ most
+within-found : (most m n : ℕ) → within 0 most m ≡ some n → (m ≡ n) × (n ≤ most)
 unfolding within
-within-most most m n e = go (leb m most) refl (leb 0 m) refl
+within-found most m n e = go (leb m most) refl (leb 0 m) refl
   where
-    go : (b : Bool) → leb m most ≡ b → (c : Bool) → leb 0 m ≡ c → n ≤ most
+    go : (b : Bool) → leb m most ≡ b → (c : Bool) → leb 0 m ≡ c → (m ≡ n) × (n ≤ most)
     go true f true l =
         let s : within 0 most m ≡ some m = rw (within, l, f) in
         let same : m ≡ n = cc in
-        rw (← same) (leb-true m most f)
+        (same, rw (← same) (leb-true m most f))
     go false f true l =
         let s : within 0 most m ≡ none = rw (within, l, f) in
         let z : _≡_ {A = ℕ} 0 1 = cc in
@@ -268,7 +269,7 @@ placed-entries P = placed-then (placed-looked 10 (within 0 mostEntries)) λ n. p
     let e : mid ≡ suc at = s .after ∙ add-one at in
     record {
       stand = rw e at (q .stand);
-      few = rw (q .counted) (within-most mostEntries (getD nums at 0) n (s .names));
+      few = rw (q .counted) (within-found mostEntries (getD nums at 0) n (s .names) .1);
       after = rw e at (q .after);
     })
     (placed-repeat P n)
@@ -333,25 +334,111 @@ pub placed-store : (P : Program) → Placed (CellsAt P (P .globals)) (readStore 
 unfolding readStore
 placed-store P = placed-cells P (P .globals)
 
-left-none : (nums : List ℕ) (at : ℕ) (left : List ℕ) → drop at nums ≡ left
-    → PlacedAt (λ nums at next (x : Unit {0}). next ≡ at) nums at (nothingLeft left at)
+-- the packet
+placed-bytes : (count : ℕ) → Placed (NumbersAt count) (repeat count (passing 16 isByte))
+unfolding repeat
+placed-bytes zero = placed-pure _ no-numbers
+placed-bytes (suc count) = placed-then (placed-passing 16 isByte) λ n. placed-then (placed-bytes count) λ ns.
+    placed-pure _ λ nums next mid q at s. more-numbers s q
+
+pub record BytesAt (nums : List ℕ) (at next : ℕ) (packet : List ℕ) : Type 0 where
+  pub count : Holds nums at (length packet)
+  pub few : length packet ≤ mostPacket
+  pub holds : HoldsAll nums (at + 1) packet
+  pub after : next ≡ at + 1 + length packet
+
+placed-byte-list : Placed BytesAt readBytes
+unfolding readBytes
+placed-byte-list = placed-then (placed-looked 16 (within 0 mostPacket)) λ n. placed-as
+    (λ nums mid next packet q at s. record {
+      count = record {
+        inside = s .inside;
+        is = within-found mostPacket (getD nums at 0) n (s .names) .0 ∙ sym (q .counted);
+      };
+      few = rw (q .counted) (within-found mostPacket (getD nums at 0) n (s .names) .1);
+      holds = rw (s .after) at (q .holds);
+      after = omega (arith, s .after, q .after);
+    })
+    (placed-bytes n)
+
+-- of a program's version
+pub record PacketAt (P : Program) (nums : List ℕ) (at next : ℕ) (packet : List ℕ) : Type 0 where
+  pub parsed : hasParser (P .version) ≡ true → BytesAt nums at next packet
+  pub unparsed : hasParser (P .version) ≡ false → packet ≡ []
+
+pub placed-packet : (P : Program) → Placed (PacketAt P) (readPacket P)
+unfolding readPacket
+placed-packet P = go (hasParser (P .version)) refl
+  where
+    go : (b : Bool) → hasParser (P .version) ≡ b
+        → Placed (PacketAt P) (elim b [ true ↦ readBytes | false ↦ pure [] ])
+    go true e = placed-as
+        (λ nums at next packet s. record {
+          parsed = λ t. s;
+          unparsed = λ f. let z : true ≡ false = sym e ∙ f in absurd (false≢true (sym z));
+        })
+        placed-byte-list
+    go false e = placed-pure _ λ nums at.
+        record { parsed = λ t. let z : false ≡ true = sym e ∙ t in absurd (false≢true z); unparsed = λ f. refl }
+
+-- nothing behind it
+pub record EndsAt (nums : List ℕ) (at next : ℕ) (ended : Unit {0}) : Type 0 where
+  pub here : next ≡ at
+  pub none : drop at nums ≡ []
+
+left-none : (nums : List ℕ) (at : ℕ) (left : List ℕ) → drop at nums ≡ left → PlacedAt EndsAt nums at (nothingLeft left at)
 unfolding nothingLeft PlacedAt
-left-none nums at [] e = (sym e, refl)
+left-none nums at [] e = (sym e, record { here = refl; none = e })
 left-none nums at (n ∷ left) e = tt
 
--- both lists
-pub record ListsAt (P : Program) (nums : List ℕ) (at next : ℕ) (lists : List Entry × List Cell) : Type 0 where
-  pub entries : StandEntries P nums (suc at) (lists .0)
-  pub few : length (lists .0) ≤ mostEntries
-  pub cells : StandCells P nums (behindEntries (suc at) (lists .0)) (P .globals) (lists .1)
+-- numbers behind which nothing is left are all that is left
+holds-rest : (nums : List ℕ) (at : ℕ) (ns : List ℕ) → HoldsAll nums at ns → drop (at + length ns) nums ≡ []
+    → ns ≡ drop at nums
+unfolding HoldsAll
+holds-rest nums at [] h e =
+    let same : at + 0 ≡ at = omega arith in
+    sym (rw same at e)
+holds-rest nums at (n ∷ ns) h e =
+    let same : at + suc (length ns) ≡ at + 1 + length ns = omega arith in
+    rw (drop-cons nums at 0 (h .0 .inside), h .0 .is, holds-rest nums (at + 1) ns (h .1) (rw same at e), add-one at)
+
+pub record LastAt (P : Program) (nums : List ℕ) (at next : ℕ) (packet : List ℕ) : Type 0 where
+  pub parsed : hasParser (P .version) ≡ true → StandsPacket nums at packet
+  pub unparsed : hasParser (P .version) ≡ false → packet ≡ []
+
+pub placed-last : (P : Program) → Placed (LastAt P) (readLast P)
+unfolding readLast
+placed-last P = placed-then (placed-packet P) λ packet.
+    placed-then {S = EndsAt} (record { placed = λ nums at. left-none nums at (drop at nums) refl })
+    λ ended. placed-pure _ λ nums next mid e at s. record {
+      parsed = λ t. record {
+        count = s .parsed t .count;
+        few = s .parsed t .few;
+        rest = holds-rest nums (at + 1) packet (s .parsed t .holds) (rw (s .parsed t .after) at (e .none));
+      };
+      unparsed = s .unparsed;
+    }
+
+-- all lists
+pub record ListsAt (P : Program) (nums : List ℕ) (at next : ℕ) (lists : Lists) : Type 0 where
+  pub entries : StandEntries P nums (suc at) (lists .entries)
+  pub few : length (lists .entries) ≤ mostEntries
+  pub cells : StandCells P nums (behindEntries (suc at) (lists .entries)) (P .globals) (lists .cells)
+  pub parsed : hasParser (P .version) ≡ true
+      → StandsPacket nums (behindEntries (suc at) (lists .entries) + length (slotsOf (lists .cells))) (lists .packet)
+  pub unparsed : hasParser (P .version) ≡ false → lists .packet ≡ []
 
 pub placed-listing : (P : Program) → Placed (ListsAt P) (listing P)
 unfolding listing
 placed-listing P = placed-then (placed-entries P) λ es. placed-then (placed-store P) λ cells.
-    placed-then {S = λ nums at next (x : Unit {0}). next ≡ at}
-    (record { placed = λ nums at. left-none nums at (drop at nums) refl })
-    λ ended. placed-pure _ λ nums next d w c v at s.
-    record { entries = s .stand; few = s .few; cells = rw (s .after) at (v .stand) }
+    placed-then (placed-last P) λ packet. placed-pure _ λ nums next d w c v at s.
+    record {
+      entries = s .stand;
+      few = s .few;
+      cells = rw (s .after) at (v .stand);
+      parsed = λ t. rw (v .after, s .after) at (w .parsed t);
+      unparsed = w .unparsed;
+    }
 
 -- an entry stands where it begins
 pub entry-stands : (P : Program) (nums : List ℕ) (at : ℕ) (es : List Entry) → StandEntries P nums at es

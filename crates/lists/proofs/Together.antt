@@ -1,23 +1,22 @@
--- The lists together: the entries, the store behind them, and nothing behind that.
+-- The lists together: the entries, the store behind them, and the packet, with nothing behind that.
 use mathlib.Core.Bool.{true}
 use mathlib.Core.Path.{_≡_}
-use mathlib.Core.List.{List, []}
+use mathlib.Core.List.{List}
 use Prim.Native.Nat.{ℕ, _-_, _≤_, _<_}
 use native.Mathlib.Omega.{arith}
-use lib.ListN.{length, getD, drop, drop-of-length-le}
-use lib.Seq.{drop-cons}
+use lib.ListN.{length, getD, drop}
 use Rattle.rules.specs.Syntax.{Program}
 use Rattle.rules.specs.Reading.{bad, andThen, _>>=_, pure}
-use Rattle.rules.specs.Lists.{slotsOf, readEntries, readCells, readStore, nothingLeft}
+use Rattle.rules.specs.Lists.{slotsOf, readEntries, readCells, readStore}
 use Rattle.shape.specs.declared.Scan.{Scan}
 use Rattle.shape.specs.declared.Scan.the-variants.{Past, Fault}
 use Rattle.shape.specs.Walks.{Laid, Lays}
 use Rattle.program.specs.Stands.{StandsProgram}
 use Rattle.lists.specs.declared.Listed.the-variants as listed
 use Rattle.program.specs.Keys.{WidthsOf}
-use Rattle.lists.specs.Listing.{listing, listedOf, entriesLeft, offsetsLeft, AsksLists, JudgesLists}
-use Rattle.lists.specs.Parts.{layEntries, JudgesEntryList, AsksCells, layOffsets, JudgesCells}
-use Rattle.lists.proofs.Places.{EntryListAt, placed-entries, CellsAt, placed-cells}
+use Rattle.lists.specs.Listing.{readLast, listing, listedOf, entriesLeft, offsetsLeft, AsksLists, JudgesLists}
+use Rattle.lists.specs.Parts.{layEntries, JudgesEntryList, AsksCells, layOffsets, JudgesCells, JudgesLast}
+use Rattle.lists.proofs.Places.{EntryListAt, placed-entries, CellsAt, placed-cells, LastAt, placed-last}
 use Rattle.lists.proofs.Steps.{Read, past-read, fault-read}
 
 -- a program's end is where its entries begin
@@ -85,43 +84,57 @@ module _ (nums directory ends widths entries starts : List ℕ) (a : Scan)
             pub lists-length : AsksLists nums directory ends widths → store ≤ last
             lists-length h = omega (arith, read-cells (h .program) (h .end) (h .stands) .stands .after)
 
-            -- a number left over
-            pub lists-left : last < length nums
-                → JudgesLists nums directory ends widths entries entries offsets offsets (listed.Fault 12 last)
-            unfolding listing readStore nothingLeft _>>=_ andThen listedOf entriesLeft offsetsLeft
-            lists-left l = record {
-              judged = λ P end s known.
-                  let d : Read (EntryListAt P) (readEntries true P) nums (endOf directory) store
-                  = read-entries P end s known in
-                  let e : Read (CellsAt P (P .globals)) (readCells P (P .globals)) nums store last
-                  = read-cells P end s in
-                  rw (← s .ending) (record {
-                    answer = rw (d .gave, e .gave, drop-cons nums last 0 l);
-                    entriesAre = rw (d .gave, e .gave, drop-cons nums last 0 l);
-                    offsetsAre = rw (d .gave, e .gave, drop-cons nums last 0 l);
-                  });
-            }
+            module _ (c : Scan) (u : JudgesLast nums last c) where
+              -- a fault of the packet, or a number left over
+              pub lists-no-packet : (f i : ℕ) → c ≡ Fault f i
+                  → JudgesLists nums directory ends widths entries entries offsets offsets (listed.Fault f i)
+              unfolding listing readStore _>>=_ andThen listedOf entriesLeft offsetsLeft
+              lists-no-packet f i t = record {
+                judged = λ P end s known.
+                    let d : Read (EntryListAt P) (readEntries true P) nums (endOf directory) store
+                    = read-entries P end s known in
+                    let e : Read (CellsAt P (P .globals)) (readCells P (P .globals)) nums store last
+                    = read-cells P end s in
+                    let g : readLast P (drop last nums) last ≡ bad f i
+                    = fault-read (readLast P) nums last f i c (u .judged P (s .version)) t in
+                    rw (← s .ending) (record {
+                      answer = rw (d .gave, e .gave, g);
+                      entriesAre = rw (d .gave, e .gave, g);
+                      offsetsAre = rw (d .gave, e .gave, g);
+                    });
+              }
 
-            -- nothing left over
-            pub lists-fine : length nums ≤ last
-                → JudgesLists nums directory ends widths entries starts offsets slots
-                (listed.Fine store (last - store))
-            unfolding listing readStore nothingLeft pure _>>=_ andThen listedOf entriesLeft offsetsLeft Laid layEntries
-                layOffsets
-            lists-fine l = record {
-              judged = λ P end s known.
-                  let d : Read (EntryListAt P) (readEntries true P) nums (endOf directory) store
-                  = read-entries P end s known in
-                  let e : Read (CellsAt P (P .globals)) (readCells P (P .globals)) nums store last
-                  = read-cells P end s in
-                  let n : drop last nums ≡ [] = drop-of-length-le nums l in
-                  let o : store - store ≡ 0 = omega arith in
-                  let m : last - store ≡ length (slotsOf (e .value)) = omega (arith, e .stands .after) in
-                  rw (← s .ending) (record {
-                    answer = rw (d .gave, e .gave, n, m, ← d .stands .after);
-                    entriesAre = rw (d .gave, e .gave, n) (rw (d .gave) at (w .judged P end s known .laid));
-                    offsetsAre = rw (d .gave, e .gave, n) (rw (e .gave, o) at (store-judged P end s .laid));
-                  });
-            }
+              -- neither
+              pub lists-fine : (next : ℕ) → c ≡ Past next
+                  → JudgesLists nums directory ends widths entries starts offsets slots
+                  (listed.Fine store (last - store))
+              unfolding listing readStore pure _>>=_ andThen listedOf entriesLeft offsetsLeft Laid layEntries layOffsets
+              lists-fine next t = record {
+                judged = λ P end s known.
+                    let d : Read (EntryListAt P) (readEntries true P) nums (endOf directory) store
+                    = read-entries P end s known in
+                    let e : Read (CellsAt P (P .globals)) (readCells P (P .globals)) nums store last
+                    = read-cells P end s in
+                    let g : Read (LastAt P) (readLast P) nums last next
+                    = past-read nums last next c (placed-last P) (u .judged P (s .version)) t in
+                    let o : store - store ≡ 0 = omega arith in
+                    let m : last - store ≡ length (slotsOf (e .value)) = omega (arith, e .stands .after) in
+                    rw (← s .ending) (record {
+                      answer = rw (d .gave, e .gave, g .gave, m, ← d .stands .after);
+                      entriesAre = rw (d .gave, e .gave, g .gave) (rw (d .gave) at (w .judged P end s known .laid));
+                      offsetsAre = rw (d .gave, e .gave, g .gave) (rw (e .gave, o) at (store-judged P end s .laid));
+                    });
+              }
 
-pub ruleset together = (lists-store, lists-no-entries, lists-no-store, lists-length, lists-left, lists-fine)
+pub lists-numbers : (nums directory ends widths : List ℕ) → AsksLists nums directory ends widths → 0 < length nums
+lists-numbers nums directory ends widths h = h .stands .version .inside
+
+pub ruleset together = (
+  lists-store,
+  lists-numbers,
+  lists-no-entries,
+  lists-no-store,
+  lists-length,
+  lists-no-packet,
+  lists-fine,
+)

@@ -1,5 +1,6 @@
 -- The lists behind a program, and what their judge answers and leaves in the slots lent to it (document 01, refusals
--- 10, 11 and 12): the entries, the store, and nothing more, strictly in file order, as the rules read them.
+-- 10, 11 and 12; document 02, E2, refusal 16): the entries, the store, the packet, and nothing more, strictly in file
+-- order, as the rules read them.
 use mathlib.Core.Bool.{true}
 use mathlib.Core.Option.{Option, none, some}
 use mathlib.Core.Path.{_≡_}
@@ -10,18 +11,27 @@ use lib.Seq.{sets}
 use Rattle.rules.specs.Syntax.{Global, Program}
 use Rattle.rules.specs.Reading.{Got, got, bad, Reader, _>>=_, pure}
 use Rattle.rules.specs.Form.{Shape, aVariable, aHeader, shapeIn}
-use Rattle.rules.specs.Lists.{Pattern, exactly, prefixed, masked, Entry, Cell, readEntries, readStore, nothingLeft, slotsOf}
+use Rattle.rules.specs.Lists.{Pattern, exactly, prefixed, masked, Entry, Cell, readEntries, readStore, readPacket, nothingLeft, slotsOf}
 use Rattle.program.specs.Keys.{WidthsOf}
 use Rattle.program.specs.Stands.{StandsProgram}
 use Rattle.lists.specs.declared.Listed.{Listed}
 use Rattle.lists.specs.declared.Listed.the-variants.{Fine, Fault}
 
-unfoldable pub listing : Program → Reader (List Entry × List Cell)
+pub record Lists : Type 0 where
+  pub entries : List Entry
+  pub cells : List Cell
+  pub packet : List ℕ
+
+-- what stands behind the store
+unfoldable pub readLast : Program → Reader (List ℕ)
+readLast P = readPacket P >>= λ packet. nothingLeft >>= λ ended. pure packet
+
+unfoldable pub listing : Program → Reader Lists
 listing P = do
   entries ← readEntries true P
   cells ← readStore P
-  ended ← nothingLeft
-  pure (entries, cells)
+  packet ← readLast P
+  pure (record { entries = entries; cells = cells; packet = packet })
 
 -- how many numbers a pattern has, and an entry: its table, its patterns, its action's position, its arguments
 unfoldable pub patternSize : Pattern → ℕ
@@ -57,17 +67,18 @@ offsetsFrom P offset [] = offset ∷ []
 offsetsFrom P offset (g ∷ gs) = offset ∷ offsetsFrom P (offset + shapeSize (shapeIn P (g .ty))) gs
 
 -- the cases of the answer: where the store begins and how many numbers it has; a fault with its number and its index
-unfoldable pub listedOf : ℕ → Got (List Entry × List Cell) → Listed
-listedOf end (got lists left next) = Fine (behindEntries (suc end) (lists .0)) (length (slotsOf (lists .1)))
+unfoldable pub listedOf : ℕ → Got Lists → Listed
+listedOf end (got lists left next) = Fine (behindEntries (suc end) (lists .entries)) (length (slotsOf (lists .cells)))
 listedOf end (bad number index) = Fault number index
 
 -- what is left in the slots lent: the count of the entries and where each begins; the offsets of the globals and the
 -- store's length. Slots beyond are as found, and after a fault all are
-unfoldable pub entriesLeft : ℕ → Got (List Entry × List Cell) → List ℕ → List ℕ
-entriesLeft end (got lists left next) slots = sets slots 0 (length (lists .0) ∷ startsFrom (suc end) (lists .0))
+unfoldable pub entriesLeft : ℕ → Got Lists → List ℕ → List ℕ
+entriesLeft end (got lists left next) slots =
+    sets slots 0 (length (lists .entries) ∷ startsFrom (suc end) (lists .entries))
 entriesLeft end (bad number index) slots = slots
 
-unfoldable pub offsetsLeft : Program → Got (List Entry × List Cell) → List ℕ → List ℕ
+unfoldable pub offsetsLeft : Program → Got Lists → List ℕ → List ℕ
 offsetsLeft P (got lists left next) slots = sets slots 0 (offsetsFrom P 0 (P .globals))
 offsetsLeft P (bad number index) slots = slots
 

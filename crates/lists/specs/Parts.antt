@@ -13,15 +13,15 @@ use Rattle.rules.specs.Words.{widest, prefixFits, maskFits}
 use Rattle.rules.specs.Syntax.{header, KeyKind, exact, lpm, ternary, Global, Parameter, Callable, Key, Table, Program}
 use Rattle.rules.specs.Reading.{Reader, _>>=_, pure, lookedUp, repeat, mostTables, mostKeys, mostActions}
 use Rattle.rules.specs.Form.{shapeIn}
-use Rattle.rules.specs.Lists.{Pattern, exactly, prefixed, masked, Entry, Cell, passing, keyWidth, actionAt, numbered, readPattern, readPatterns, readArguments, readEntry, readEntries, readFields, readCell, readCells}
+use Rattle.rules.specs.Lists.{Pattern, exactly, prefixed, masked, Entry, Cell, passing, keyWidth, actionAt, numbered, readPattern, readPatterns, readArguments, readEntry, readEntries, readFields, readCell, readCells, readPacket}
 use Rattle.shape.specs.declared.Scan.{Scan}
 use Rattle.shape.specs.declared.Scan.the-variants.{Fault}
 use Rattle.shape.specs.Scans.{scanOf}
 use Rattle.shape.specs.Walks.{Lays}
 use Rattle.program.specs.Codes.{keyKindNumber}
-use Rattle.program.specs.Stands.{HoldsWithin, StandsWidths, StandsParameters, StandsNumerals, StandsKeys, StandsProgram}
+use Rattle.program.specs.Stands.{Holds, HoldsWithin, StandsWidths, StandsParameters, StandsNumerals, StandsKeys, StandsProgram}
 use Rattle.program.specs.Keys.{WidthsOf}
-use Rattle.lists.specs.Listing.{startsFrom, offsetsFrom}
+use Rattle.lists.specs.Listing.{readLast, startsFrom, offsetsFrom}
 
 -- what stands behind a pattern's value: nothing; a prefix length; a mask
 unfoldable pub readLimit : KeyKind → ℕ → ℕ → Reader Pattern
@@ -185,3 +185,10 @@ pub record JudgesCells (nums directory ends : List ℕ) (g count store at : ℕ)
     : Type 0 where
   pub judged : (P : Program) (end : ℕ) → StandsProgram nums directory ends P end → g + count ≡ length (P .globals)
       → Lays (readCells P (drop g (P .globals))) (layOffsets P g (at - store)) nums at found filled r
+
+-- the packet of a program of the version that the first number tells, and what stands behind the store
+pub record JudgesPacket (nums : List ℕ) (at : ℕ) (r : Scan) : Type 0 where
+  pub judged : (P : Program) → Holds nums 0 (P .version) → r ≡ scanOf (readPacket P) nums at
+
+pub record JudgesLast (nums : List ℕ) (at : ℕ) (r : Scan) : Type 0 where
+  pub judged : (P : Program) → Holds nums 0 (P .version) → r ≡ scanOf (readLast P) nums at

@@ -1,13 +1,14 @@
 -- Where the lists that are read stand in the numbers: an entry's numbers from its index on, a global's from its offset
--- in the store on. The runner looks at entries and store through this.
+-- in the store on, the packet's behind the store. The runner looks at entries, store and packet through this.
+use mathlib.Core.Bool.{true, false}
 use mathlib.Core.Option.{some}
 use mathlib.Core.Path.{_≡_}
 use mathlib.Core.List.{List, [], _∷_}
 use Prim.Native.Nat.{ℕ, suc, _+_, _≤_}
 use lib.ListN.{length, getD, getElem?, drop}
 use Rattle.rules.specs.Syntax.{KeyKind, exact, lpm, ternary, Key, Callable, Table, Program}
-use Rattle.rules.specs.Reading.{got}
-use Rattle.rules.specs.Lists.{Pattern, exactly, prefixed, masked, Entry, Cell, mostEntries, actionAt, slotsOfCell, slotsOf}
+use Rattle.rules.specs.Reading.{got, hasParser}
+use Rattle.rules.specs.Lists.{Pattern, exactly, prefixed, masked, Entry, Cell, mostEntries, mostPacket, actionAt, slotsOfCell, slotsOf}
 use Rattle.program.specs.Stands.{Holds}
 use Rattle.lists.specs.Listing.{listing, patternSize, patternsSize, behindEntries, offsetsFrom}
 
@@ -47,14 +48,22 @@ pub record StandsEntry (P : Program) (nums : List ℕ) (at : ℕ) (e : Entry) : 
 unfoldable pub StandsCell : List ℕ → ℕ → Cell → Type 0
 StandsCell nums at c = HoldsAll nums at (slotsOfCell c)
 
+-- the packet of a file that has a parser: its count, and its bytes, which are all that is left
+pub record StandsPacket (nums : List ℕ) (at : ℕ) (packet : List ℕ) : Type 0 where
+  pub count : Holds nums at (length packet)
+  pub few : length packet ≤ mostPacket
+  pub rest : packet ≡ drop (at + 1) nums
+
 -- the lists behind a program that ends before an index, where they are fine: what is read, and that it stands where the
 -- slots tell
 pub record ListsStand (P : Program) (end : ℕ) (nums entries offsets : List ℕ) (store size : ℕ) : Type 0 where
   pub entryList : List Entry
   pub cells : List Cell
+  pub packet : List ℕ
   pub left : List ℕ
   pub next : ℕ
-  pub read : listing P (drop end nums) end ≡ got (entryList, cells) left next
+  pub read : listing P (drop end nums) end
+      ≡ got (record { entries = entryList; cells = cells; packet = packet }) left next
   pub few : length entryList ≤ mostEntries
   pub count : getD entries 0 0 ≡ length entryList
   pub entry : (i : ℕ) (e : Entry) → getElem? entryList i ≡ some e → StandsEntry P nums (getD entries (suc i) 0) e
@@ -64,3 +73,5 @@ pub record ListsStand (P : Program) (end : ℕ) (nums entries offsets : List ℕ
   pub offset : (g : ℕ) → g ≤ length (P .globals) → getD offsets g 0 ≡ getD (offsetsFrom P 0 (P .globals)) g 0
   pub cell : (g : ℕ) (c : Cell) → getElem? cells g ≡ some c → StandsCell nums (store + getD offsets g 0) c
   pub last : getD offsets (length (P .globals)) 0 ≡ size
+  pub packetStands : hasParser (P .version) ≡ true → StandsPacket nums (store + size) packet
+  pub noPacket : hasParser (P .version) ≡ false → packet ≡ []

@@ -1,4 +1,4 @@
--- What carries it: the lists are the entries, the store behind them, and nothing behind that.
+-- What carries it: the lists are the entries, the store behind them, and the packet, with nothing behind that.
 use Rattle.lists.proofs.Together.{together}
 use borrow.Author.Needs.{needs}
 use Rattle.lists.proofs.judge_lists.Statement.{statement}
@@ -22,8 +22,17 @@ cells-at-requires c κs = search (together, needs)
 enum-known-last : tie.Need-enum-known-last
 enum-known-last c = search (together, needs)
 
-sub-t36 : tie.Need-sub-t36
-sub-t36 c = search (together, needs)
+last-at-requires : tie.Need-last-at-requires
+last-at-requires c κs = search (together, needs)
+
+enum-told : tie.Need-enum-told
+enum-told c = search (together, needs)
+
+sub-t37 : tie.Need-sub-t37
+sub-t37 c = search (together, needs)
+
+enum-known-rest : tie.Need-enum-known-rest
+enum-known-rest c = search (together, needs)
 
 enum-known-last-2 : tie.Need-enum-known-last-2
 enum-known-last-2 c = search (together, needs)
@@ -53,7 +62,10 @@ judge-lists-spec =
     element-copy-out-globals
     cells-at-requires
     enum-known-last
-    sub-t36
+    last-at-requires
+    enum-told
+    sub-t37
+    enum-known-rest
     enum-known-last-2
     enum-known-behind-2
     returns

@@ -10,6 +10,12 @@ element-copy-out-either c = search (ruling, needs)
 either-requires : tie.Need-either-requires
 either-requires c κs = search (ruling, needs)
 
+element-copy-out-both : tie.Need-element-copy-out-both
+element-copy-out-both c = search (ruling, needs)
+
+both-requires : tie.Need-both-requires
+both-requires c κs = search (ruling, needs)
+
 rule-requires : tie.Need-rule-requires
 rule-requires c κs = search (ruling, needs)
 
@@ -17,4 +23,12 @@ returns : tie.Need-returns
 returns c = search (ruling, needs)
 
 pub called-spec : {M : Type 1} → statement M
-called-spec = tie.close (tie.spec element-copy-out-either either-requires rule-requires returns)
+called-spec =
+    tie.close
+    (tie.spec
+    element-copy-out-either
+    either-requires
+    element-copy-out-both
+    both-requires
+    rule-requires
+    returns)

@@ -37,8 +37,8 @@ add-writable-at c = search (assigning, needs)
 writable-at-requires : tie.Need-writable-at-requires
 writable-at-requires c κs = search (assigning, needs)
 
-assign-requires : tie.Need-assign-requires
-assign-requires c κs = search (assigning, needs)
+rules-requires : tie.Need-rules-requires
+rules-requires c κs = search (assigning, needs)
 
 enum-known-value-2 : tie.Need-enum-known-value-2
 enum-known-value-2 c = search (assigning, needs)
@@ -70,7 +70,7 @@ judge-assign-spec =
     enum-known-value
     add-writable-at
     writable-at-requires
-    assign-requires
+    rules-requires
     enum-known-value-2
     enum-known-target-2
     returns

@@ -28,6 +28,12 @@ left-requires c κs = search (singling, needs)
 left-requires-2 : tie.Need-left-requires-2
 left-requires-2 c κs = search (singling, needs)
 
+judge-extract-requires : tie.Need-judge-extract-requires
+judge-extract-requires c κs = search (singling, needs)
+
+judge-verify-requires : tie.Need-judge-verify-requires
+judge-verify-requires c κs = search (singling, needs)
+
 judge-mark-requires : tie.Need-judge-mark-requires
 judge-mark-requires c κs = search (singling, needs)
 
@@ -55,6 +61,12 @@ returns-7 c = search (singling, needs)
 returns-8 : tie.Need-returns-8
 returns-8 c = search (singling, needs)
 
+returns-9 : tie.Need-returns-9
+returns-9 c = search (singling, needs)
+
+returns-10 : tie.Need-returns-10
+returns-10 c = search (singling, needs)
+
 pub judge-single-spec : {M : Type 1} → statement M
 judge-single-spec =
     tie.close
@@ -67,6 +79,8 @@ judge-single-spec =
     judge-return-requires
     left-requires
     left-requires-2
+    judge-extract-requires
+    judge-verify-requires
     judge-mark-requires
     returns
     returns-2
@@ -75,4 +89,6 @@ judge-single-spec =
     returns-5
     returns-6
     returns-7
-    returns-8)
+    returns-8
+    returns-9
+    returns-10)
