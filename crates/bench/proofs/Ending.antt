@@ -1,7 +1,7 @@
 -- How the run of an accepted file ends that is lent the slots that it asks for.
 use mathlib.Core.Bool.{true}
 use mathlib.Core.Path.{_≡_, refl, _∙_}
-use mathlib.Core.List.{List, [], _∷_}
+use mathlib.Core.List.{List, [], _∷_, _++_}
 use Prim.Native.Nat.{ℕ, _≤_}
 use lib.Dec.{leb}
 use lib.ListN.{length}
@@ -18,14 +18,14 @@ use Rattle.rules.proofs.Accepted.{Ends, accepted-ends}
 use Rattle.rules.proofs.Room.{accepted-not-full}
 use Rattle.bench.specs.Runs.{RunsFile}
 
--- done or exit as by the rules, steps within the ceiling, and in the result slots a store that fits
+-- done, exit or reject as by the rules, steps within the ceiling, and in the result slots a store that fits
 pub record EndsWell (b : Bench) (results results′ : List ℕ) (r : RunAnswer) : Type 0 where
   pub signal : Signal
   pub steps : ℕ
   pub store : List Cell
   pub outcome : runBench workingSlots b ≡ ended signal steps (ceilingOf (b .program)) (slotsOf store)
   pub answer : ofRun r
-      ≡ ofSignal signal ∷ steps ∷ ceilingOf (b .program) ∷ length (slotsOf store) ∷ []
+      ≡ ofSignal signal ++ steps ∷ ceilingOf (b .program) ∷ length (slotsOf store) ∷ []
   pub within : steps ≤ ceilingOf (b .program)
   pub fits : StoreFits (b .program) store
   pub left : results′ ≡ filled (slotsOf store) results
@@ -42,7 +42,7 @@ module _ (bytes results results′ working working′ : List ℕ) (r : RunAnswer
       rw (j, runWith, one, two) refl
 
   well : (o : Out (List Cell) Signal) → Ends (b .program) o
-      → runProgram workingSlots (b .program) (b .entries) (b .store) ≡ o → (o ≡ full → ⊥) → EndsWell b results results′ r
+      → runProgram workingSlots (b .program) (b .entries) (b .store) (b .packet) ≡ o → (o ≡ full → ⊥) → EndsWell b results results′ r
   unfolding runSays runLeavesResults runBench outcomeOf toldByRun toldWith resultsAfter
   well o (accepts.ends signal store seen q f) e n = record {
     signal = signal;
@@ -57,5 +57,5 @@ module _ (bytes results results′ working working′ : List ℕ) (r : RunAnswer
   well o accepts.fills e n = absurd (n refl)
 
   pub ends-well : EndsWell b results results′ r
-  ends-well = well (runProgram workingSlots (b .program) (b .entries) (b .store)) (accepted-ends workingSlots bytes b j)
+  ends-well = well (runProgram workingSlots (b .program) (b .entries) (b .store) (b .packet)) (accepted-ends workingSlots bytes b j)
       refl (accepted-not-full bytes b j)

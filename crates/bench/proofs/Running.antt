@@ -54,8 +54,8 @@ goes-of : (P : Program) (o : Out (List Cell) Signal) → Ends P o → (o ≡ ful
 goes-of P o (accepts.ends signal cells seen q f) n b = goes {seen = seen} (omega (arith, q, b))
 goes-of P o accepts.fills n b = absurd (n refl)
 
-told-four : (x : ℕ) {a b c a′ b′ c′ : ℕ} → a ≡ a′ → b ≡ b′ → c ≡ c′
-    → x ∷ a ∷ b ∷ c ∷ [] ≡ x ∷ a′ ∷ b′ ∷ c′ ∷ []
+told-four : (x : List ℕ) {a b c a′ b′ c′ : ℕ} → a ≡ a′ → b ≡ b′ → c ≡ c′
+    → x ++ a ∷ b ∷ c ∷ [] ≡ x ++ a′ ∷ b′ ∷ c′ ∷ []
 told-four x e f g = rw (e, f, g) refl
 
 module _ {bytes nums directory ends : List ℕ} {ceiling store size : ℕ}
@@ -69,8 +69,11 @@ module _ {bytes nums directory ends : List ℕ} {ceiling store size : ℕ}
   abbrev cells : List Cell
   cells = p .leaves .lists .cells
 
+  abbrev packet : List ℕ
+  packet = p .leaves .lists .packet
+
   abbrev file : Bench
-  file = record { program = P; entries = es; store = cells }
+  file = record { program = P; entries = es; store = cells; packet = packet }
 
   judged-is : judged bytes ≡ accepted file
   unfolding judged judgedStream placed
@@ -79,12 +82,12 @@ module _ {bytes nums directory ends : List ℕ} {ceiling store size : ℕ}
   known : BenchOk file
   known = judged-ok bytes file judged-is
 
-  run-goes : Goes 0 (programRun P es cells)
-  run-goes = goes-of P (programRun P es cells) (accepted-ends workingSlots bytes file judged-is)
+  run-goes : Goes 0 (programRun P es cells packet)
+  run-goes = goes-of P (programRun P es cells packet) (accepted-ends workingSlots bytes file judged-is)
       (accepted-not-full bytes file judged-is) (known .bounded)
 
   ready : (slots frame : List ℕ) → length slots ≡ storeSlots → size + length frame ≡ workingSlots
-      → Ready nums directory ends slots frame store size P es cells
+      → Ready nums directory ends slots frame store size P es cells packet
   ready slots frame n r = record {
     end = p .leaves .end;
     stands = program-kept (p .prepared) (p .leaves .stands);
@@ -117,7 +120,7 @@ module _ {bytes nums directory ends : List ℕ} {ceiling store size : ℕ}
       record { says = rw o refl; resultsAre = rw o refl; workingAre = rw o refl }
 
   -- enough of them
-  module _ {signal : Signal} (slots : List ℕ) (r : RanWhole slots P (programRun P es cells) signal) where
+  module _ {signal : Signal} (slots : List ℕ) (r : RanWhole slots P (programRun P es cells packet) signal) where
     size-is : size ≡ length (slotsOf (r .cells))
     size-is = p .leaves .lists .sizeIs ∙ store-length P cells (r .cells) (known .store-fits) (r .fits)
 
@@ -168,13 +171,14 @@ module _ (nums directory ends results working : List ℕ) (ceiling store size : 
     frames-room : size + length frames ≡ workingSlots
     frames-room = omega (arith, mid-len size workingSlots working (a .frames), small)
 
-    pub lent-asks : (slots frame : List ℕ) → slots ≡ replicate 545 0 → frame ≡ frames
+    pub lent-asks : (slots frame : List ℕ) → slots ≡ replicate 546 0 → frame ≡ frames
         → AsksRun nums directory ends slots frame store size
     lent-asks slots frame e q = rw (e, q) (record {
       program = P (a .asks .passed);
       entryList = es (a .asks .passed);
       cells = cells (a .asks .passed);
-      ready = ready (a .asks .passed) (replicate 545 0) frames refl frames-room;
+      packet = packet (a .asks .passed);
+      ready = ready (a .asks .passed) (replicate 546 0) frames refl frames-room;
       going = run-goes (a .asks .passed);
     })
 
@@ -188,10 +192,10 @@ module _ (nums directory ends results working : List ℕ) (ceiling store size : 
     lent-whole = a .frames
 
     module _ (slots : List ℕ) (signal : Signal)
-        (r : RunsWhole nums directory ends (replicate 545 0) slots frames store size signal) where
+        (r : RunsWhole nums directory ends (replicate 546 0) slots frames store size signal) where
       ran : {bytes : List ℕ} (p : Passed bytes nums directory ends ceiling store size)
-          → RanWhole slots (P p) (programRun (P p) (es p) (cells p)) signal
-      ran p = r .runs (P p) (es p) (cells p) (ready p (replicate 545 0) frames refl frames-room) (run-goes p)
+          → RanWhole slots (P p) (programRun (P p) (es p) (cells p) (packet p)) signal
+      ran p = r .runs (P p) (es p) (cells p) (packet p) (ready p (replicate 546 0) frames refl frames-room) (run-goes p)
 
       pub lent-copies : AsksCopy slots results 0 size
       lent-copies = record {
@@ -200,7 +204,7 @@ module _ (nums directory ends results working : List ℕ) (ceiling store size : 
         room = a .room;
       }
 
-      pub lent-count : length slots ≡ 545
+      pub lent-count : length slots ≡ 546
       lent-count = ran (a .asks .passed) .store .count
 
       pub lent-counter : counterSlot < length slots

@@ -8,27 +8,27 @@ use Rattle.rules.specs.Syntax.{Program}
 use Rattle.rules.specs.Reading.{Got, got, bad, Reader, andThen, _>>=_, pure, readProgram}
 use Rattle.rules.specs.Form.{Res, ok, fault, need, judgeProgram}
 use Rattle.rules.specs.Ceiling.{mostSteps, ceilingOf}
-use Rattle.rules.specs.Lists.{Entry, Cell, readEntries, readStore, nothingLeft}
-use Rattle.rules.specs.Answers.{Bench, checked, judging}
-use Rattle.lists.specs.Listing.{listing, listedOf}
+use Rattle.rules.specs.Lists.{Entry, Cell, readEntries, readStore, readPacket, nothingLeft}
+use Rattle.rules.specs.Answers.{Bench, checked, judgingProgram, judging}
+use Rattle.lists.specs.Listing.{Lists, listing, listedOf}
 use Rattle.lists.proofs.Laid.{listing-made}
 use Rattle.judge.specs.Verdicts.{ofVerdict, toldBy, judgingSays, afterLists, afterCeiling, afterForm, afterShape}
 
-abbrev pub bench : Program → List Entry → List Cell → Bench
-bench P entries store = record { program = P; entries = entries; store = store }
+abbrev pub bench : Program → List Entry → List Cell → List ℕ → Bench
+bench P entries store packet = record { program = P; entries = entries; store = store; packet = packet }
 
 -- what `judging` reads behind a program that is fine
 unfoldable pub behind : Program → Reader Bench
-behind P = readEntries true P >>= λ entries. readStore P >>= λ store. nothingLeft >>= λ ended. pure
-    (bench P entries store)
+behind P = readEntries true P >>= λ entries. readStore P >>= λ store. readPacket P >>= λ packet.
+    nothingLeft >>= λ ended. pure (bench P entries store packet)
 
 lists-say : (P : Program) (left : List ℕ) (end : ℕ)
     → ofVerdict (afterLists (ceilingOf P) (listedOf end (listing P left end))) ≡ toldBy (behind P left end)
 unfolding ofVerdict afterLists listedOf toldBy behind bench _>>=_ andThen pure
 lists-say P left end = go (listing P left end) ∙ rw (← listing-made P (bench P) left end)
   where
-    go : (x : Got (List Entry × List Cell)) → ofVerdict (afterLists (ceilingOf P) (listedOf end x))
-        ≡ toldBy (andThen x (λ lists. pure (bench P (lists .0) (lists .1))))
+    go : (x : Got Lists) → ofVerdict (afterLists (ceilingOf P) (listedOf end x))
+        ≡ toldBy (andThen x (λ lists. pure (bench P (lists .entries) (lists .cells) (lists .packet))))
     go (got lists rest next) = refl
     go (bad number index) = refl
 
@@ -46,7 +46,7 @@ form-says P left end (ok fine) = ceiling-says P left end (leb (ceilingOf P) most
 form-says P left end (fault number index) = refl
 
 pub passes-say : (nums : List ℕ) → ofVerdict (afterShape (readProgram nums 0)) ≡ judgingSays nums
-unfolding judgingSays judging behind bench _>>=_ andThen afterShape ofVerdict toldBy
+unfolding judgingSays judging judgingProgram behind bench _>>=_ andThen afterShape ofVerdict toldBy
 passes-say nums = go (readProgram nums 0)
   where
     go : (x : Got Program) → ofVerdict (afterShape x) ≡ toldBy (andThen x (λ P.

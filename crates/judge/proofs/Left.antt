@@ -10,8 +10,8 @@ use Rattle.rules.specs.Syntax.{Program}
 use Rattle.rules.specs.Reading.{Got, got, bad, andThen, _>>=_, pure, readProgram, mostGlobals}
 use Rattle.rules.specs.Form.{Res, ok, fault, need, judgeProgram}
 use Rattle.rules.specs.Ceiling.{mostSteps, ceilingOf}
-use Rattle.rules.specs.Lists.{Entry, Cell, mostEntries}
-use Rattle.rules.specs.Answers.{checked, judging}
+use Rattle.rules.specs.Lists.{mostEntries}
+use Rattle.rules.specs.Answers.{checked, judgingProgram, judging}
 use Rattle.rules.proofs.Readers.{Kept, keeps-program}
 use Rattle.shape.specs.Ends.{ScansProgram}
 use Rattle.shape.specs.Scans.{forget, scanOf}
@@ -21,7 +21,7 @@ use Rattle.program.specs.Keys.{WidthsOf}
 use Rattle.form.proofs.Laid.{keys-laid}
 use Rattle.lists.specs.declared.Listed.{Listed}
 use Rattle.lists.specs.declared.Listed.the-variants.{Fine, Fault}
-use Rattle.lists.specs.Listing.{listing, listedOf, ListsJudged}
+use Rattle.lists.specs.Listing.{Lists, listing, listedOf, ListsJudged}
 use Rattle.lists.specs.Stands.{ListsStand}
 use Rattle.lists.proofs.Laid.{listing-made, lists-stand}
 use Rattle.judge.specs.declared.Verdict.{Verdict}
@@ -38,7 +38,8 @@ pub record Leaves (nums directory ends widths entries offsets : List ℕ) (ceili
   pub ceilingIs : ceiling ≡ ceilingOf program
   pub wide : WidthsOf program widths
   pub lists : ListsStand program end nums entries offsets store size
-  pub judged : judging nums 0 ≡ got (bench program (lists .entryList) (lists .cells)) (lists .left) (lists .next)
+  pub judged : judging nums 0 ≡ got (bench program (lists .entryList) (lists .cells) (lists .packet)) (lists .left)
+      (lists .next)
 
 -- an accepted file passed each pass
 module _ (ceiling store size : ℕ) (P : Program) (left : List ℕ) (end : ℕ) where
@@ -63,17 +64,17 @@ module _ (ceiling store size : ℕ) (P : Program) (left : List ℕ) (end : ℕ) 
   after-form (fault number index) e = let z : _≡_ {A = ℕ} 0 1 = cc in absurd (omega arith)
 
 -- the rules read the same
-behind-is : (P : Program) (left : List ℕ) (end : ℕ) (lists : List Entry × List Cell) (rest : List ℕ) (next : ℕ)
+behind-is : (P : Program) (left : List ℕ) (end : ℕ) (lists : Lists) (rest : List ℕ) (next : ℕ)
     → listing P left end ≡ got lists rest next
-    → behind P left end ≡ got (bench P (lists .0) (lists .1)) rest next
+    → behind P left end ≡ got (bench P (lists .entries) (lists .cells) (lists .packet)) rest next
 unfolding behind _>>=_ andThen pure
 behind-is P left end lists rest next e = listing-made P (bench P) left end ∙ rw e refl
 
-judging-is : (nums : List ℕ) (P : Program) (left : List ℕ) (end : ℕ) (lists : List Entry × List Cell) (rest : List ℕ)
+judging-is : (nums : List ℕ) (P : Program) (left : List ℕ) (end : ℕ) (lists : Lists) (rest : List ℕ)
     (next : ℕ) → readProgram nums 0 ≡ got P left end → judgeProgram P ≡ ok tt → leb (ceilingOf P) mostSteps ≡ true
     → listing P left end ≡ got lists rest next
-    → judging nums 0 ≡ got (bench P (lists .0) (lists .1)) rest next
-unfolding judging behind checked need _>>=_ andThen
+    → judging nums 0 ≡ got (bench P (lists .entries) (lists .cells) (lists .packet)) rest next
+unfolding judging judgingProgram behind checked need _>>=_ andThen
 judging-is nums P left end lists rest next read formed bounded listed =
     rw (read, formed, bounded) (behind-is P left end lists rest next listed)
 
@@ -119,6 +120,10 @@ module _ (nums directory directory′ ends ends′ widths widths′ entries entr
             ceilingIs = l .0;
             wide = rw (j .widthsAre, read) (keys-laid nums directory′ ends′ P end s widths (a .keys) (f .0));
             lists = stand;
-            judged = judging-is nums P (drop end nums) end (stand .entryList, stand .cells) (stand .left) (stand .next) read
+            judged = judging-is nums P (drop end nums) end (record {
+              entries = stand .entryList;
+              cells = stand .cells;
+              packet = stand .packet;
+            }) (stand .left) (stand .next) read
                 (f .0) (b .0) (stand .read);
           }

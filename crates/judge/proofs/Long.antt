@@ -8,9 +8,8 @@ use lib.Seq.{length-sets}
 use Rattle.rules.specs.Syntax.{Table, Program}
 use Rattle.rules.specs.Reading.{Got, got, bad, mostKeys, readProgram}
 use Rattle.rules.specs.Form.{Res, ok, fault, judgeProgram}
-use Rattle.rules.specs.Lists.{Entry, Cell}
 use Rattle.form.specs.Claims.{keyWidths, layTables, widthsLeft}
-use Rattle.lists.specs.Listing.{startsFrom, offsetsFrom, listing, entriesLeft, offsetsLeft}
+use Rattle.lists.specs.Listing.{Lists, startsFrom, offsetsFrom, listing, entriesLeft, offsetsLeft}
 use Rattle.judge.specs.declared.Verdict.{Verdict}
 use Rattle.judge.specs.Verdicts.{widthsAfter, listsJudged, entriesAfter, offsetsAfter, JudgesNumbers}
 
@@ -34,12 +33,12 @@ widths-long (bad number index) widths = refl
 
 -- the entries' and the globals' places
 module _ (P : Program) (slots : List ℕ) where
-  starts-long : (end : ℕ) (x : Got (List Entry × List Cell)) → length (entriesLeft end x slots) ≡ length slots
+  starts-long : (end : ℕ) (x : Got Lists) → length (entriesLeft end x slots) ≡ length slots
   unfolding entriesLeft
-  starts-long end (got lists left next) = length-sets slots 0 (length (lists .0) ∷ startsFrom (suc end) (lists .0))
+  starts-long end (got lists left next) = length-sets slots 0 (length (lists .entries) ∷ startsFrom (suc end) (lists .entries))
   starts-long end (bad number index) = refl
 
-  places-long : (x : Got (List Entry × List Cell)) → length (offsetsLeft P x slots) ≡ length slots
+  places-long : (x : Got Lists) → length (offsetsLeft P x slots) ≡ length slots
   unfolding offsetsLeft
   places-long (got lists left next) = length-sets slots 0 (offsetsFrom P 0 (P .globals))
   places-long (bad number index) = refl

@@ -1,5 +1,6 @@
 // The judge: from the list of numbers to the ceiling and the store's length, or to the first fault. The passes go in
-// document 01's order: shape (5, 4), form (6, 7, 8), the ceiling (9), entries, store and what is left over (10, 11, 12).
+// document 01's order: shape (5, 4), form (6, 7, 8), the ceiling (9), entries, store, packet and what is left over (10,
+// 11, 16, 12).
 // Beside the answer it leaves what the runner wants to know.
 
 ghost use Rattle.judge.specs.Verdicts.{AsksJudge, JudgesNumbers};
@@ -22,7 +23,7 @@ pub enum Verdict {
     },
 }
 
-// The ceiling, then entries and store, of a program whose form is fine.
+// The ceiling, then entries, store and packet, of a program whose form is fine.
 fn judge_bounded(
     nums: &[u64],
     ends: &[u64],

@@ -1,15 +1,16 @@
 -- The limits of the lists hold of every program that was read, and so a store that fits it has so many numbers at most.
-use mathlib.Core.Path.{_≡_, refl, ap}
+use mathlib.Core.Bool.{Bool, true, false, false≢true}
+use mathlib.Core.Path.{_≡_, refl, sym, ap}
 use Prim.Native.Nat.{ℕ, zero, suc, _+_, _*_, _≤_}
 use native.Mathlib.Omega.{arith}
 use mathlib.Core.List.{List, [], _∷_}
 use lib.ListN.{length, length-append}
-use Rattle.rules.specs.Syntax.{GlobalTy, variable, header, HeaderTy, Global, Callable, Program}
-use Rattle.rules.specs.Reading.{Reader, repeat, listOf, mostHeaders, mostFields, mostGlobals, mostCallables, mostParameters, mostLocals, readHeader, readCallable, readAfterVersion, readProgram}
+use Rattle.rules.specs.Syntax.{GlobalTy, variable, header, HeaderTy, Global, Callable, ParserState, Program}
+use Rattle.rules.specs.Reading.{Got, got, bad, Reader, pure, repeat, listOf, hasParser, mostStates, readState, readStates, mostHeaders, mostFields, mostGlobals, mostCallables, mostParameters, mostLocals, readHeader, readCallable, readAfterVersion, readProgram}
 use Rattle.rules.specs.Form.{aVariable, aHeader, shapeIn}
 use Rattle.rules.specs.Lists.{Cell, slotsOfCell, slotsOf}
 use Rattle.rules.proofs.Predicates.{All2, nil, cons, All, none-left, also, look-all, IfSome, ifSome, if-then, from-some}
-use Rattle.rules.proofs.Readers.{Gives, gives-then, gives-with, gives-pure, gives-as, gives-between, gives-list}
+use Rattle.rules.proofs.Readers.{Given, Gives, gives-then, gives-with, gives-pure, gives-as, gives-between, gives-list}
 use Rattle.rules.proofs.Fits.{GlobalFits, globalFits, StoreFits, numbersIn, cell-length}
 
 -- the most slots of a call and of a global, and the most that a run can take
@@ -34,6 +35,7 @@ pub record Limited (P : Program) : Type 0 where
   pub globals : length (P .globals) ≤ mostGlobals
   pub callables : length (P .callables) ≤ mostCallables
   pub slots : All CallableLimited (P .callables)
+  pub parserless : hasParser (P .version) ≡ false → P .states ≡ []
 
 -- a program that was read
 gives-all : {A : Type 0} {Q : A → Type 0} (n : ℕ) {one : Reader A} → Gives Q one
@@ -49,6 +51,12 @@ unfolding listOf
 gives-members least most h = gives-with (gives-between least most) λ n m.
     gives-as (λ xs e. (rw (e .0) m, e .1)) (gives-all n h)
 
+-- what cannot be needs no proof
+no-case : {A : Type 0} (Q : A → Type 0) (x : Got A) → Given (λ a. true ≡ false → Q a) x
+unfolding Given
+no-case Q (got a left at) = λ e. absurd (false≢true (sym e))
+no-case Q (bad number at) = tt
+
 module _ (version : ℕ) where
   gives-header : Gives HeaderLimited (readHeader version)
   unfolding readHeader
@@ -60,13 +68,24 @@ module _ (version : ℕ) where
       gives-with (gives-list 0 mostParameters _) λ ps h. gives-with (gives-list 0 mostLocals _) λ ls k.
       gives-then _ λ body. gives-pure _ _ (omega arith)
 
+  gives-states : Gives (λ ss. hasParser version ≡ false → ss ≡ []) (readStates version)
+  unfolding readStates
+  gives-states = go (hasParser version)
+    where
+      go : (b : Bool) → Gives {A = List ParserState} (λ ss. b ≡ false → ss ≡ []) (elim b [
+        | true ↦ listOf 1 mostStates (readState version)
+        | false ↦ pure []
+      ])
+      go true = record { given = λ left at. no-case (λ ss. ss ≡ []) (listOf 1 mostStates (readState version) left at) }
+      go false = gives-pure _ [] λ _. refl
+
 pub gives-limited : Gives Limited readProgram
 unfolding readProgram readAfterVersion
 gives-limited = gives-then _ λ version. gives-with (gives-members 0 mostHeaders (gives-header version)) λ hs h.
     gives-with (gives-list 0 mostGlobals _) λ gs g.
-    gives-with (gives-members 0 mostCallables (gives-callable version)) λ cs c. gives-then _ λ ts. gives-then _ λ ss.
+    gives-with (gives-members 0 mostCallables (gives-callable version)) λ cs c. gives-then _ λ ts. gives-with (gives-states version) λ ss x.
     gives-then _ λ body.
-    gives-pure _ _ (record { headers = h .1; globals = g; callables = c .0; slots = c .1 })
+    gives-pure _ _ (record { headers = h .1; globals = g; callables = c .0; slots = c .1; parserless = x })
 
 -- a store that fits such a program
 shape-limited : (P : Program) → Limited P → (t : GlobalTy)
