@@ -2,15 +2,14 @@
 ghost use mathlib.Core.Path.{_≡_};
 ghost use Prim.Native.Nat.{_<_};
 ghost use lib.ListN.{length};
-ghost use Rattle.rules.specs.Reading.{repeat, hasParser};
+ghost use Rattle.rules.specs.Reading.{repeat};
 ghost use Rattle.rules.specs.Lists.{passing, isByte, readBytes};
 ghost use Rattle.shape.specs.Scans.{scanOf};
 ghost use Rattle.lists.specs.Parts.{JudgesPacket, JudgesLast};
 use super::values::value_at;
 use shape::Scan;
+use shape::limits::has_parser;
 
-// The first version whose files have a parser.
-const FIRST_WITH_PARSER: u64 = 2;
 // The refusal of a bad or missing number of the packet.
 const PACKET: u64 = 16;
 // The refusal of numbers left over.
@@ -19,13 +18,6 @@ const LEFT_OVER: u64 = 12;
 const MOST_PACKET: u64 = 512;
 // A byte is a number of eight bits.
 const BYTE: u64 = 8;
-
-// Whether the files of a version have a parser.
-fn has_parser(version: u64) -> bool
-    ensures { λ r. ⌜ r ≡ hasParser version ⌝ }
-{
-    FIRST_WITH_PARSER <= version
-}
 
 // So many bytes, one after the other.
 fn bytes_at(nums: &[u64], count: u64, at: usize) -> Scan
