@@ -3,6 +3,7 @@
 use second::answer::judged;
 use second::census;
 use second::example::{self, Example};
+use second::shape::LATEST;
 use std::collections::BTreeSet;
 
 fn corpus() -> Vec<(String, Example)> {
@@ -25,7 +26,7 @@ fn each_example_has_its_answer() {
 fn the_corpus_has_every_construct_in_a_file_that_runs() {
     let good = corpus().into_iter().filter_map(|(_, example)| judged(&example.bytes).ok());
     let seen: BTreeSet<String> = good.flat_map(|(program, ..)| census::of(&program)).collect();
-    assert_eq!(seen, census::all());
+    assert_eq!(seen, census::all(LATEST));
 }
 
 #[test]

@@ -5,6 +5,7 @@ use second::census;
 use second::generate::{bench_file, deepest_files};
 use second::inputs::{store_numbers, store_of};
 use second::numbers::{Number, MOST_BYTES};
+use second::shape::LATEST;
 use second::tree::Program;
 use std::collections::{BTreeMap, BTreeSet};
 
@@ -85,6 +86,7 @@ fn every_refusal_and_both_signals_occur_often() {
             Answer::Refused(refusal) => refusal.number.to_string(),
             Answer::Finished { signal: Signal::Done, .. } => "done".to_string(),
             Answer::Finished { signal: Signal::Exit, .. } => "exit".to_string(),
+            Answer::Finished { signal: Signal::Reject(_), .. } => "reject".to_string(),
             other => panic!("{other:?}"),
         };
         *counts.entry(name).or_default() += 1;
@@ -99,5 +101,5 @@ fn every_refusal_and_both_signals_occur_often() {
 fn every_construct_occurs_in_good_files() {
     let good = files().filter_map(|bytes| judged(&bytes).ok());
     let seen: BTreeSet<String> = good.flat_map(|(program, ..)| census::of(&program)).collect();
-    assert_eq!(seen, census::all());
+    assert_eq!(seen, census::all(LATEST));
 }

@@ -32,6 +32,10 @@ fn tags(part: Part) -> &'static [u64] {
         Part::Return => &[7],
         Part::Exit => &[8],
         Part::SetValid => &[9, 10],
+        Part::Extract => &[11],
+        Part::Verify => &[12],
+        Part::CallInState => &[4, 13],
+        Part::BarredInState => &[5, 6, 7, 8],
         _ => &[],
     }
 }

@@ -6,14 +6,14 @@ use second::answer::{judged, Refusal};
 use second::example;
 use second::generate::bench_file;
 use second::numbers::{self, MOST_BYTES};
-use second::shape;
+use second::shape::{self, LATEST};
 use sheet::make::make;
 use sheet::show::show;
 use wild::wild_file;
 
 /// Whether a file passes refusals 1 to 5.
 fn passes(bytes: &[u8]) -> bool {
-    numbers::read(bytes).is_ok_and(|numbers| shape::read(&numbers, bytes.len()).is_ok())
+    numbers::read(bytes).is_ok_and(|numbers| shape::read(&numbers, bytes.len(), LATEST).is_ok())
 }
 
 /// Show a file and make it again; whether it could be shown.

@@ -1,4 +1,4 @@
-//! Header types, globals, callables, tables and the apply body, from text to numbers.
+//! Header types, globals, callables, tables and the apply body, from text to numbers. The states are read elsewhere.
 
 use super::names::declare;
 use super::tags::statement::BLOCK;
@@ -16,6 +16,7 @@ impl<'a> Maker<'a> {
         self.list(Self::global)?;
         self.list(Self::callable)?;
         self.list(Self::table)?;
+        self.states()?;
         if !self.text.takes_word("apply") {
             return self.text.expected(&format!("'apply' ({ORDER})"));
         }
@@ -92,7 +93,7 @@ impl<'a> Maker<'a> {
     fn is_declaration(&self, of_function: bool) -> bool {
         let type_length = if self.text.token() == Token::Word("bit") { 4 } else { 1 };
         let opens = self.text.ahead(type_length + 1) == Token::Symbol("(");
-        (self.is_plain_type() || self.text.is_name()) && opens == of_function
+        (self.is_plain_type() || self.text.is_name()) && opens == of_function && !self.is_state()
     }
 
     fn global(&mut self) -> Read<bool> {
@@ -166,11 +167,16 @@ impl<'a> Maker<'a> {
         self.text.semicolon().map(|()| true)
     }
 
-    /// The statements of a body: a block, unless there is exactly one.
     fn body(&mut self) -> Read<()> {
+        self.body_up_to(|maker| maker.text.token() == Token::Symbol("}"))?;
+        self.text.expect("}")
+    }
+
+    /// The statements of a body: a block, unless there is exactly one.
+    pub fn body_up_to(&mut self, end: impl Fn(&Self) -> bool) -> Read<()> {
         let (start, at) = (self.items.len(), self.text.at());
         let mut count = 0;
-        while !self.text.takes("}") {
+        while !end(self) {
             self.statement()?;
             count += 1;
         }
