@@ -212,7 +212,7 @@ pub enum StatementForm {
 /// How many bytes a header's fields take, if they take whole bytes.
 pub fn whole_bytes(widths: &[u32]) -> Option<usize> {
     let bits: u32 = widths.iter().sum();
-    (bits % 8 == 0).then_some(bits as usize / 8)
+    bits.is_multiple_of(8).then_some(bits as usize / 8)
 }
 
 /// The member that a number names, if it names one.

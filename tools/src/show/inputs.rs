@@ -149,7 +149,7 @@ impl Writer<'_> {
 
     /// What separates the number of a list at an index from the one before.
     fn next_number(&mut self, index: usize) {
-        if index % NUMBERS_A_LINE == 0 {
+        if index.is_multiple_of(NUMBERS_A_LINE) {
             self.page.new_line();
         } else {
             self.page.write(" ");
