@@ -2,8 +2,9 @@
 
 use crate::inputs::{self, Inputs};
 use crate::run::{self, End, Limits};
+use crate::shape::{self, LATEST};
 use crate::tree::Program;
-use crate::{ceiling, judge, numbers, shape, unjudged};
+use crate::{ceiling, judge, numbers, unjudged};
 
 /// The first fault found: its number, and the byte offset that it is charged to.
 #[derive(Clone, Copy, Debug, PartialEq, Eq)]
@@ -22,6 +23,19 @@ impl Refusal {
 pub enum Signal {
     Done,
     Exit,
+    /// The parser's end, with its error.
+    Reject(u64),
+}
+
+impl Signal {
+    /// What the signal is told as, before the run's numbers.
+    pub fn as_numbers(self) -> Vec<u64> {
+        match self {
+            Signal::Done => vec![1],
+            Signal::Exit => vec![2],
+            Signal::Reject(error) => vec![4, error],
+        }
+    }
 }
 
 #[derive(Clone, Debug, PartialEq, Eq)]
@@ -41,21 +55,31 @@ pub enum Answer {
 
 /// Judge a file and run it, as the marking program does.
 pub fn marked(bytes: &[u8]) -> Answer {
-    marked_within(bytes, Limits::default())
+    marked_up_to(bytes, LATEST)
+}
+
+/// The same where files are read up to another version.
+pub fn marked_up_to(bytes: &[u8], latest: u64) -> Answer {
+    finish_judged(judged_up_to(bytes, latest), Limits::default())
 }
 
 /// The same with working slots and patience of the caller's choice.
 pub fn marked_within(bytes: &[u8], limits: Limits) -> Answer {
-    match judged(bytes) {
-        Ok((program, inputs, ceiling)) => finish(run::run(&program, inputs, limits), ceiling),
-        Err(refusal) => Answer::Refused(refusal),
-    }
+    finish_judged(judged(bytes), limits)
 }
 
-/// The judge: refusals 1 to 12 in their order, or the program, its inputs and its ceiling.
-pub fn judged(bytes: &[u8]) -> Result<(Program, Inputs, u64), Refusal> {
+/// What the judge hands to the runner: the program, its inputs and its ceiling.
+pub type Judged = Result<(Program, Inputs, u64), Refusal>;
+
+/// The judge: refusals 1 to 12 and 16 in their order, or what it hands on.
+pub fn judged(bytes: &[u8]) -> Judged {
+    judged_up_to(bytes, LATEST)
+}
+
+/// The same where files are read up to another version.
+pub fn judged_up_to(bytes: &[u8], latest: u64) -> Judged {
     let numbers = numbers::read(bytes)?;
-    let (program, rest) = shape::read(&numbers, bytes.len())?;
+    let (program, rest) = shape::read(&numbers, bytes.len(), latest)?;
     judge::judge(&program)?;
     let ceiling = ceiling::judge(&program)?;
     let inputs = inputs::judge(&program, rest, bytes.len())?;
@@ -64,14 +88,26 @@ pub fn judged(bytes: &[u8]) -> Result<(Program, Inputs, u64), Refusal> {
 
 /// Run a file with refusals 1 to 5 asked and nothing else.
 pub fn unjudged(bytes: &[u8]) -> Answer {
+    unjudged_up_to(bytes, LATEST)
+}
+
+/// The same where files are read up to another version.
+pub fn unjudged_up_to(bytes: &[u8], latest: u64) -> Answer {
     let read = numbers::read(bytes);
-    let shaped = read.as_ref().map_err(|refusal| *refusal).and_then(|numbers| shape::read(numbers, bytes.len()));
-    match shaped {
+    let shape = |numbers| shape::read(numbers, bytes.len(), latest);
+    match read.as_ref().map_err(|refusal| *refusal).and_then(|numbers| shape(numbers)) {
         Err(refusal) => Answer::Refused(refusal),
         Ok((program, rest)) => match unjudged::cut(&program, rest) {
             Some(inputs) => finish(run::run(&program, inputs, Limits::default()), 0),
             None => Answer::Stuck,
         },
+    }
+}
+
+fn finish_judged(judged: Judged, limits: Limits) -> Answer {
+    match judged {
+        Ok((program, inputs, ceiling)) => finish(run::run(&program, inputs, limits), ceiling),
+        Err(refusal) => Answer::Refused(refusal),
     }
 }
 
@@ -91,8 +127,9 @@ impl Answer {
             Answer::Refused(refusal) => format!("refused {} {}\n", refusal.number, refusal.place),
             Answer::Finished { signal, steps, ceiling, store } => {
                 let word = match signal {
-                    Signal::Done => "done",
-                    Signal::Exit => "exit",
+                    Signal::Done => "done".to_string(),
+                    Signal::Exit => "exit".to_string(),
+                    Signal::Reject(error) => format!("reject {error}"),
                 };
                 format!("{word} {steps} {ceiling}\n{}\n", blanks_between(store))
             }
@@ -101,17 +138,14 @@ impl Answer {
         }
     }
 
-    /// The answer as a list: 0 and the refusal, 1 (done) or 2 (exit) and the run's numbers, or 3 (stuck).
-    /// A run that was given up has no such list.
+    /// The answer as a list: 0 and the refusal, 1 (done) or 2 (exit) and the run's numbers, 3 (stuck), or 4 (reject), its
+    /// error and the run's numbers. A run that was given up has no such list.
     pub fn as_numbers(&self) -> Option<Vec<u64>> {
         match self {
             Answer::Refused(refusal) => Some(vec![0, u64::from(refusal.number), refusal.place as u64]),
             Answer::Finished { signal, steps, ceiling, store } => {
-                let first = match signal {
-                    Signal::Done => 1,
-                    Signal::Exit => 2,
-                };
-                let mut list = vec![first, *steps, *ceiling];
+                let mut list = signal.as_numbers();
+                list.extend([*steps, *ceiling]);
                 list.extend(store);
                 Some(list)
             }

@@ -1,11 +1,12 @@
 //! The ceiling, the most steps that a run can take: refusal 9.
 
 use crate::answer::Refusal;
+use crate::numbers::Number;
 use crate::tree::*;
 
 pub const MOST_STEPS: u64 = 1_000_000;
 
-/// The apply body's ceiling, or 9. Exact up to `MOST_STEPS`; each body is counted once.
+/// The program's ceiling, or 9. Exact up to `MOST_STEPS`; each body is counted once.
 pub fn judge(program: &Program) -> Result<u64, Refusal> {
     let ceiling = of(program);
     if ceiling > MOST_STEPS {
@@ -15,14 +16,16 @@ pub fn judge(program: &Program) -> Result<u64, Refusal> {
     }
 }
 
-/// The apply body's ceiling in a well formed program; a sum too large for a word stays at the largest word.
+/// The ceiling of the parser's dearest path and the apply body in a well formed program; a sum too large for a word stays
+/// at the largest word.
 pub fn of(program: &Program) -> u64 {
     let mut bodies = Vec::new();
     for callable in &program.callables {
         let ceiling = Counter { program, bodies: &bodies }.statement(&callable.body);
         bodies.push(ceiling);
     }
-    Counter { program, bodies: &bodies }.statement(&program.apply_body)
+    let counter = Counter { program, bodies: &bodies };
+    counter.parser().saturating_add(counter.statement(&program.apply_body))
 }
 
 struct Counter<'a> {
@@ -32,6 +35,30 @@ struct Counter<'a> {
 }
 
 impl Counter<'_> {
+    /// The ceiling from the first state on. A state leads to later ones only, so the last one is counted first.
+    fn parser(&self) -> u64 {
+        let states = &self.program.states;
+        let mut ceilings = vec![0; states.len()];
+        for (number, state) in states.iter().enumerate().rev() {
+            ceilings[number] = self.state(state, &ceilings);
+        }
+        ceilings.first().copied().unwrap_or(0)
+    }
+
+    /// A state's ceiling, where those of the states that it leads to are known.
+    fn state(&self, state: &State, ceilings: &[u64]) -> u64 {
+        let ceiling = |next: &Number| ceilings[next.value as usize];
+        let followed = match &state.transition {
+            Transition::None | Transition::Accept | Transition::Reject(_) => 0,
+            Transition::Next(next) => ceiling(next),
+            Transition::Select { expression, pairs } => {
+                let dearest = pairs.iter().map(|pair| ceiling(&pair.state)).max().unwrap_or(0);
+                self.expression(expression).saturating_add(dearest)
+            }
+        };
+        self.statement(&state.statement).saturating_add(followed).saturating_add(1)
+    }
+
     fn expression(&self, expression: &Expression) -> u64 {
         use ExpressionForm::*;
         let operands = match &expression.form {
@@ -53,7 +80,7 @@ impl Counter<'_> {
     fn statement(&self, statement: &Statement) -> u64 {
         use StatementForm::*;
         let parts = match &statement.form {
-            Empty | Return | Exit | SetValid(_) | SetInvalid(_) => 0,
+            Empty | Return | Exit | SetValid(_) | SetInvalid(_) | Extract(_) => 0,
             Assign { value, .. } => self.expression(value),
             If { condition, then_branch, else_branch } => {
                 let larger = self.statement(then_branch).max(self.statement(else_branch));
@@ -63,6 +90,7 @@ impl Counter<'_> {
             Call(call) => self.call(call),
             Apply(table) => self.apply(&self.program.tables[table.value as usize]),
             ReturnValue(value) => self.expression(value),
+            Verify { condition, .. } => self.expression(condition),
         };
         parts.saturating_add(1)
     }

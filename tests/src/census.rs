@@ -3,9 +3,14 @@
 use crate::tree::*;
 use std::collections::BTreeSet;
 
-/// The names of all constructs that a program can be made of.
-pub fn all() -> BTreeSet<String> {
-    let groups = [("expression", 13), ("operator", 13), ("statement", 10), ("direction", 3), ("key kind", 2)];
+/// The names of all constructs that a program of a version up to the latest one can be made of.
+pub fn all(latest: u64) -> BTreeSet<String> {
+    let mut groups = vec![("expression", 13), ("operator", 13), ("direction", 3), ("key kind", 2)];
+    if latest < FIRST_WITH_PARSER {
+        groups.push(("statement", 10));
+    } else {
+        groups.extend([("statement", 12), ("transition", 4)]);
+    }
     groups.iter().flat_map(|&(group, last)| (0..=last).map(move |number| format!("{group} {number}"))).collect()
 }
 
@@ -21,6 +26,10 @@ pub fn of(program: &Program) -> BTreeSet<String> {
     for key in program.tables.iter().flat_map(|table| &table.keys) {
         census.note("key kind", key.kind as usize);
         census.expression(&key.expression);
+    }
+    for state in &program.states {
+        census.statement(&state.statement);
+        census.transition(&state.transition);
     }
     census.statement(&program.apply_body);
     census.seen
@@ -60,6 +69,20 @@ impl Census {
         operands.into_iter().for_each(|operand| self.expression(operand));
     }
 
+    fn transition(&mut self, transition: &Transition) {
+        let tag = match transition {
+            Transition::None => 0,
+            Transition::Accept => 1,
+            Transition::Reject(_) => 2,
+            Transition::Next(_) => 3,
+            Transition::Select { expression, .. } => {
+                self.expression(expression);
+                4
+            }
+        };
+        self.note("transition", tag);
+    }
+
     fn statement(&mut self, statement: &Statement) {
         use StatementForm::*;
         let tag = match &statement.form {
@@ -92,6 +115,11 @@ impl Census {
             Exit => 8,
             SetValid(_) => 9,
             SetInvalid(_) => 10,
+            Extract(_) => 11,
+            Verify { condition, .. } => {
+                self.expression(condition);
+                12
+            }
         };
         self.note("statement", tag);
     }

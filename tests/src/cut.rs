@@ -1,4 +1,4 @@
-//! The numbers behind a program that nobody judged, cut into entries and store as far as they can be, fit or not.
+//! The numbers behind a program that nobody judged, cut into entries, store and packet as far as they can be, fit or not.
 
 use crate::numbers::Number;
 use crate::tree::*;
@@ -42,6 +42,23 @@ pub enum Variable {
     Header { mark: Number, fields: Vec<Number> },
 }
 
+/// The packet that the numbers begin with.
+pub struct Packet<'a> {
+    /// How many bytes there should be; none where the numbers have ended already.
+    pub count: Option<Number>,
+    /// Those that are there.
+    pub bytes: &'a [Number],
+    /// What stands behind them.
+    pub rest: &'a [Number],
+}
+
+impl Packet<'_> {
+    /// Whether there are as many bytes as the count says.
+    pub fn is_all_there(&self) -> bool {
+        self.count.is_some_and(|count| count.value == self.bytes.len() as u64)
+    }
+}
+
 impl Entries<'_> {
     /// Whether there are as many as the count says, each with its arguments.
     pub fn are_all_there(&self) -> bool {
@@ -83,6 +100,16 @@ pub fn store<'a>(program: &Program, rest: &'a [Number]) -> Store<'a> {
         variables.push(variable);
     }
     Store { variables, rest: cutter.rest }
+}
+
+/// The packet of a program with a parser, up to the numbers' end.
+pub fn packet(numbers: &[Number]) -> Packet<'_> {
+    let mut cutter = Cutter { rest: numbers };
+    let count = cutter.number();
+    let wanted = count.map_or(0, |count| count.value);
+    let there = usize::try_from(wanted).map_or(cutter.rest.len(), |wanted| wanted.min(cutter.rest.len()));
+    let (bytes, rest) = cutter.rest.split_at(there);
+    Packet { count, bytes, rest }
 }
 
 struct Cutter<'a> {

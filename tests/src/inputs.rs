@@ -1,4 +1,4 @@
-//! Entries and store: refusals 10, 11 and 12, strictly in file order.
+//! Entries, store and packet: refusals 10, 11, 16 and 12, strictly in file order.
 
 use crate::answer::Refusal;
 use crate::judge::key_type;
@@ -7,10 +7,13 @@ use crate::tree::*;
 use crate::value::{fits, largest, Value};
 
 pub const MOST_ENTRIES: u64 = 64;
+pub const MOST_PACKET: u64 = 512;
 
 pub struct Inputs {
     pub entries: Vec<Entry>,
     pub store: Vec<Variable>,
+    /// The packet's bytes; none for a program without a parser.
+    pub packet: Vec<u8>,
 }
 
 pub struct Entry {
@@ -84,16 +87,24 @@ fn mask_fits(value: u64, mask: u64, width: u32) -> bool {
     mask <= largest(width) && value & !mask == 0
 }
 
-/// Entries and store of a well formed program, with no number left over.
+/// Entries, store and packet of a well formed program, with no number left over.
 pub fn judge(program: &Program, rest: &[Number], length: usize) -> Result<Inputs, Refusal> {
     let mut reader = Reader { rest, length, refusal: 10 };
     let entries = reader.entries(program)?;
     reader.refusal = 11;
     let store = reader.store(program)?;
+    reader.refusal = 16;
+    let packet = reader.packet(program)?;
     match reader.rest.first() {
         Some(left_over) => Err(Refusal::at(12, left_over.place)),
-        None => Ok(Inputs { entries, store }),
+        None => Ok(Inputs { entries, store, packet }),
     }
+}
+
+/// Store and packet that the numbers begin with, if they do; each header of the globals has a type.
+pub fn store_and_packet_of(program: &Program, rest: &[Number]) -> Option<(Vec<Variable>, Vec<u8>)> {
+    let mut reader = Reader { rest, length: 0, refusal: 11 };
+    Some((reader.store(program).ok()?, reader.packet(program).ok()?))
 }
 
 /// The store that the numbers begin with, if they do; each header of the globals has a type.
@@ -172,6 +183,15 @@ impl Reader<'_> {
                 Ok(Variable::Header { valid, fields })
             }
         }
+    }
+
+    /// The packet that stands behind the store, if the program has a parser.
+    fn packet(&mut self, program: &Program) -> Result<Vec<u8>, Refusal> {
+        if !program.has_parser() {
+            return Ok(Vec::new());
+        }
+        let count = self.number(|count| count <= MOST_PACKET)?;
+        (0..count).map(|_| self.read(|number| u8::try_from(number).ok())).collect()
     }
 
     fn field(&mut self, width: u32, valid: bool) -> Result<Value, Refusal> {

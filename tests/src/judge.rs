@@ -18,6 +18,9 @@ pub fn judge(program: &Program) -> Judged<()> {
     for table in &program.tables {
         judge_table(program, table)?;
     }
+    for (number, state) in program.states.iter().enumerate() {
+        judge_state(program, number, state)?;
+    }
     Scope::outside(program).statement(&program.apply_body)
 }
 
@@ -92,27 +95,60 @@ pub fn is_for_tables(callable: &Callable) -> bool {
     callable.kind == CallableKind::Action && callable.parameters.iter().all(undirected)
 }
 
+fn judge_state(program: &Program, number: usize, state: &State) -> Judged<()> {
+    let scope = Scope::in_state(program);
+    scope.statement(&state.statement)?;
+    match &state.transition {
+        Transition::None | Transition::Accept | Transition::Reject(_) => Ok(()),
+        Transition::Next(next) => judge_next(program, number, *next),
+        Transition::Select { expression, pairs } => {
+            pairs.iter().try_for_each(|pair| judge_next(program, number, pair.state))?;
+            let width = scope.bits(expression, expression.place)?;
+            let judge_value = |value: Number| require(fits(value.value, Type::Bits(width)), 7, value.place);
+            pairs.iter().try_for_each(|pair| judge_value(pair.value))
+        }
+    }
+}
+
+/// A state leads to later ones only.
+fn judge_next(program: &Program, number: usize, next: Number) -> Judged<()> {
+    name(&program.states, next)?;
+    require(next.value > number as u64, 6, next.place)
+}
+
 /// What the construct at hand may name, and where it stands.
 struct Scope<'a> {
     program: &'a Program,
     /// The callables that may be reached by number.
     reach: &'a [Callable],
-    /// The callable around; none for keys and the apply body.
-    holder: Option<&'a Callable>,
+    holder: Holder<'a>,
     parameters: &'a [Parameter],
     locals: &'a [Type],
 }
 
+/// What a construct stands in.
+enum Holder<'a> {
+    Callable(&'a Callable),
+    /// A state's statement, or its select.
+    State,
+    /// A key or the apply body.
+    Neither,
+}
+
 impl<'a> Scope<'a> {
     fn outside(program: &'a Program) -> Self {
-        Scope { program, reach: &program.callables, holder: None, parameters: &[], locals: &[] }
+        Scope { program, reach: &program.callables, holder: Holder::Neither, parameters: &[], locals: &[] }
+    }
+
+    fn in_state(program: &'a Program) -> Self {
+        Scope { holder: Holder::State, ..Scope::outside(program) }
     }
 
     fn inside(program: &'a Program, number: usize, callable: &'a Callable) -> Self {
         Scope {
             program,
             reach: &program.callables[..number],
-            holder: Some(callable),
+            holder: Holder::Callable(callable),
             parameters: &callable.parameters,
             locals: &callable.locals,
         }
@@ -123,10 +159,18 @@ impl<'a> Scope<'a> {
     }
 
     fn returns(&self) -> Option<Type> {
-        match self.holder?.kind {
-            CallableKind::Action => None,
-            CallableKind::Function(kind) => Some(kind),
+        match self.holder {
+            Holder::Callable(Callable { kind: CallableKind::Function(kind), .. }) => Some(*kind),
+            _ => None,
         }
+    }
+
+    fn is_state(&self) -> bool {
+        matches!(self.holder, Holder::State)
+    }
+
+    fn only_in_state(&self, place: usize) -> Judged<()> {
+        require(self.is_state(), 8, place)
     }
 
     fn not_in_function(&self, place: usize) -> Judged<()> {
@@ -200,27 +244,40 @@ impl<'a> Scope<'a> {
     }
 
     fn header(&self, global: Number, place: usize) -> Judged<()> {
+        self.widths(global, place)?;
+        self.not_in_function(place)
+    }
+
+    /// The field widths of a global that has to be a header.
+    fn widths(&self, global: Number, place: usize) -> Judged<&[u32]> {
         match name(&self.program.globals, global)?.kind {
             GlobalKind::Plain(_) => Err(Refusal::at(7, place)),
-            GlobalKind::Header(_) => self.not_in_function(place),
+            GlobalKind::Header(header) => Ok(&self.program.headers[header]),
         }
     }
 
+    fn extract(&self, global: Number, place: usize) -> Judged<()> {
+        let widths = self.widths(global, place)?;
+        require(whole_bytes(widths).is_some(), 7, place)?;
+        self.only_in_state(place)
+    }
+
     fn function_call(&self, call: &Call, place: usize) -> Judged<Type> {
-        let (callee, unwritable) = self.call(call, place)?;
+        let (callee, misplaced) = self.call(call, place)?;
         match callee.kind {
-            CallableKind::Function(kind) => require(!unwritable, 8, place).map(|()| kind),
+            CallableKind::Function(kind) => require(!misplaced, 8, place).map(|()| kind),
             CallableKind::Action => Err(Refusal::at(8, place)),
         }
     }
 
     fn call_statement(&self, call: &Call, place: usize) -> Judged<()> {
-        let (callee, unwritable) = self.call(call, place)?;
+        let (callee, misplaced) = self.call(call, place)?;
         let action_in_function = self.in_function() && callee.kind == CallableKind::Action;
-        require(!action_in_function && !unwritable, 8, place)
+        require(!action_in_function && !misplaced, 8, place)
     }
 
-    /// The callee of a call without 6 and 7, and whether it writes to an argument that is no writable place.
+    /// The callee of a call without 6 and 7, and whether the call may not stand here whatever its callee's kind: it is in
+    /// a state, or it writes to an argument that is no writable place.
     fn call(&self, call: &Call, place: usize) -> Judged<(&Callable, bool)> {
         let callee = name(self.reach, call.callable)?;
         let kinds = call.arguments.iter().map(|argument| self.expression(argument)).collect::<Judged<Vec<_>>>()?;
@@ -228,7 +285,7 @@ impl<'a> Scope<'a> {
         require(kinds == wanted, 7, place)?;
         let mut pairs = callee.parameters.iter().zip(&call.arguments);
         let unwritable = pairs.any(|(parameter, argument)| parameter.direction.writes() && !self.writable(argument));
-        Ok((callee, unwritable))
+        Ok((callee, unwritable || self.is_state()))
     }
 
     /// Whether an expression that has no fault of its own is a writable place.
@@ -263,15 +320,20 @@ impl<'a> Scope<'a> {
             Call(call) => self.call_statement(call, place),
             Apply(table) => {
                 name(&self.program.tables, *table)?;
-                require(self.holder.is_none(), 8, place)
+                require(matches!(self.holder, Holder::Neither), 8, place)
             }
             ReturnValue(value) => {
                 let kind = self.expression(value)?;
                 let wanted = self.returns().ok_or(Refusal::at(8, place))?;
                 require(kind == wanted, 7, place)
             }
-            Return | Exit => self.not_in_function(place),
+            Return | Exit => require(!self.in_function() && !self.is_state(), 8, place),
             SetValid(global) | SetInvalid(global) => self.header(*global, place),
+            Extract(global) => self.extract(*global, place),
+            Verify { condition, .. } => {
+                require(self.expression(condition)? == Type::Bool, 7, place)?;
+                self.only_in_state(place)
+            }
         }
     }
 }

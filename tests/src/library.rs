@@ -1,7 +1,7 @@
 //! The proved operations, as C calls them, and what they have to answer by an answer of this interpreter. No part of the
 //! interpreter: it is what the interpreter is set beside.
 
-use crate::answer::{Answer, Refusal, Signal};
+use crate::answer::{Answer, Refusal};
 
 /// The five numbers of a call's answer.
 pub type Numbers = [u64; 5];
@@ -55,10 +55,15 @@ pub fn refused(refusal: Refusal) -> Numbers {
     [0, u64::from(refusal.number), refusal.place as u64, 0, 0]
 }
 
+/// Whether the judge gives a refusal of this number.
+fn is_judges(refusal: &Refusal) -> bool {
+    matches!(refusal.number, 1..=12 | 16)
+}
+
 /// What the judge has to answer; none if this is no answer to a judged file.
 pub fn judge_says(answer: &Answer) -> Option<Numbers> {
     match answer {
-        Answer::Refused(refusal) if refusal.number <= 12 => Some(refused(*refusal)),
+        Answer::Refused(refusal) if is_judges(refusal) => Some(refused(*refusal)),
         Answer::Finished { ceiling, store, .. } => Some([1, *ceiling, store.len() as u64, 0, 0]),
         _ => None,
     }
@@ -67,13 +72,12 @@ pub fn judge_says(answer: &Answer) -> Option<Numbers> {
 /// What a run with all the slots that it asks for has to answer; none if this is no answer to a judged file.
 pub fn run_says(answer: &Answer) -> Option<Numbers> {
     match answer {
-        Answer::Refused(refusal) if refusal.number <= 12 => Some(refused(*refusal)),
+        Answer::Refused(refusal) if is_judges(refusal) => Some(refused(*refusal)),
         Answer::Finished { signal, steps, ceiling, store } => {
-            let first = match signal {
-                Signal::Done => 1,
-                Signal::Exit => 2,
-            };
-            Some([first, *steps, *ceiling, store.len() as u64, 0])
+            let mut numbers = [0; 5];
+            let told = [signal.as_numbers(), vec![*steps, *ceiling, store.len() as u64]].concat();
+            numbers[..told.len()].copy_from_slice(&told);
+            Some(numbers)
         }
         _ => None,
     }

@@ -6,11 +6,16 @@ use crate::inputs::{store_numbers, Entry, Inputs, Variable};
 use crate::judge::is_for_tables;
 use crate::numbers::Number;
 use crate::tree::*;
-use crate::value::Value;
+use crate::value::{largest, Value};
 use std::cmp::Reverse;
 
 pub const WORKING_SLOTS: usize = 8192;
 const PATIENCE: u64 = 2_000_000;
+
+/// The errors of rejects that state none.
+const PACKET_TOO_SHORT: u64 = 1;
+const NO_MATCH: u64 = 2;
+const NO_TRANSITION: u64 = 3;
 
 /// How many working slots there are, and after how many steps the interpreter gives up.
 #[derive(Clone, Copy)]
@@ -33,15 +38,15 @@ pub enum End {
     TooLong,
 }
 
-/// Run the apply body over the store.
+/// Run the parser over the packet and the store, then the apply body over the store.
 pub fn run(program: &Program, inputs: Inputs, limits: Limits) -> End {
     let taken = store_numbers(&inputs.store).len();
-    let Inputs { entries, store } = inputs;
-    let mut runner = Runner { program, entries: &entries, store, steps: 0, taken, limits };
-    let mut frame = Frame { holder: None, parameters: Vec::new(), locals: Vec::new() };
-    let signal = match runner.execute(&mut frame, &program.apply_body) {
-        Ok(_) => Signal::Done,
+    let Inputs { entries, store, packet } = inputs;
+    let mut runner = Runner { program, entries: &entries, store, unread: &packet, steps: 0, taken, limits };
+    let signal = match runner.parse_and_apply() {
+        Ok(()) => Signal::Done,
         Err(Halt::Exit) => Signal::Exit,
+        Err(Halt::Reject(error)) => Signal::Reject(error),
         Err(Halt::Full) => return End::Full,
         Err(Halt::Stuck) => return End::Stuck,
         Err(Halt::TooLong) => return End::TooLong,
@@ -52,6 +57,8 @@ pub fn run(program: &Program, inputs: Inputs, limits: Limits) -> End {
 /// What ends the whole run at once.
 enum Halt {
     Exit,
+    /// With its error.
+    Reject(u64),
     Full,
     Stuck,
     TooLong,
@@ -66,9 +73,10 @@ enum Flow {
     ReturnValue(Value),
 }
 
-/// A body at work; the apply body and the keys have no callable around them, no parameter and no local.
+/// A body at work; states, the apply body and the keys have no callable around them, no parameter and no local.
 struct Frame<'a> {
     holder: Option<Holder<'a>>,
+    in_state: bool,
     parameters: Vec<Value>,
     locals: Vec<Value>,
 }
@@ -80,6 +88,11 @@ struct Holder<'a> {
 }
 
 impl Frame<'_> {
+    /// A frame with no callable around it.
+    fn outside(in_state: bool) -> Self {
+        Frame { holder: None, in_state, parameters: Vec::new(), locals: Vec::new() }
+    }
+
     /// What the body returns, in a function.
     fn returns(&self) -> Option<Type> {
         match self.holder?.callable.kind {
@@ -90,6 +103,10 @@ impl Frame<'_> {
 
     fn in_function(&self) -> bool {
         self.returns().is_some()
+    }
+
+    fn may_end(&self) -> bool {
+        !self.in_function() && !self.in_state
     }
 
     fn is_writable(&self, slot: Slot) -> bool {
@@ -113,6 +130,8 @@ struct Runner<'a> {
     program: &'a Program,
     entries: &'a [Entry],
     store: Vec<Variable>,
+    /// The packet's bytes that no extract has taken.
+    unread: &'a [u8],
     steps: u64,
     /// The working slots in use: the store's and those of the calls at work.
     taken: usize,
@@ -134,6 +153,63 @@ impl<'a> Runner<'a> {
             Err(Halt::TooLong)
         } else {
             Ok(())
+        }
+    }
+
+    fn parse_and_apply(&mut self) -> Ran<()> {
+        let program = self.program;
+        let mut state = (!program.states.is_empty()).then_some(0);
+        while let Some(number) = state {
+            state = self.state(number)?;
+        }
+        self.execute(&mut Frame::outside(false), &program.apply_body).map(|_| ())
+    }
+
+    /// A state of the parser. It answers the next one; none if it accepts.
+    fn state(&mut self, number: usize) -> Ran<Option<usize>> {
+        let State { statement, transition } = &self.program.states[number];
+        let mut frame = Frame::outside(true);
+        self.step()?;
+        self.execute(&mut frame, statement)?;
+        let next = match transition {
+            Transition::None => return Err(Halt::Reject(NO_TRANSITION)),
+            Transition::Accept => return Ok(None),
+            Transition::Reject(error) => return Err(Halt::Reject(*error)),
+            Transition::Next(next) => *next,
+            Transition::Select { expression, pairs } => self.select(&mut frame, expression, pairs)?,
+        };
+        let later = covered(index(&self.program.states, next).filter(|&next| next > number))?;
+        Ok(Some(later))
+    }
+
+    /// The state beside the first value that is equal; all values have to fit.
+    fn select(&mut self, frame: &mut Frame<'a>, expression: &'a Expression, pairs: &[Pair]) -> Ran<Number> {
+        let (width, key) = covered(self.evaluate(frame, expression)?.bits())?;
+        require(pairs.iter().all(|pair| pair.value.value <= largest(width)))?;
+        let equal = pairs.iter().find(|pair| pair.value.value == key);
+        equal.map(|pair| pair.state).ok_or(Halt::Reject(NO_MATCH))
+    }
+
+    /// Fill a header from the next unread bits; a packet that is too short changes none.
+    fn extract(&mut self, frame: &Frame<'a>, global: Number) -> Ran<()> {
+        require(frame.in_state)?;
+        let index = self.header(frame, global)?;
+        let Variable::Header { valid, fields } = &mut self.store[index] else { return Err(Halt::Stuck) };
+        let widths: Vec<u32> = fields.iter().filter_map(|field| field.bits()).map(|(width, _)| width).collect();
+        let length = covered(whole_bytes(&widths))?;
+        let (taken, unread) = self.unread.split_at_checked(length).ok_or(Halt::Reject(PACKET_TOO_SHORT))?;
+        self.unread = unread;
+        *valid = true;
+        *fields = fields_of(taken, &widths);
+        Ok(())
+    }
+
+    fn verify(&mut self, frame: &mut Frame<'a>, condition: &'a Expression, error: u64) -> Ran<()> {
+        require(frame.in_state)?;
+        if self.truth(frame, condition)? {
+            Ok(())
+        } else {
+            Err(Halt::Reject(error))
         }
     }
 
@@ -268,6 +344,7 @@ impl<'a> Runner<'a> {
 
     /// A call: arguments, body, writing back. It answers the value that a function returned.
     fn call(&mut self, frame: &mut Frame<'a>, call: &'a Call, for_value: bool) -> Ran<Option<Value>> {
+        require(!frame.in_state)?;
         let callee = self.callee(frame, call.callable)?;
         let function_wanted = for_value || frame.in_function();
         require(!function_wanted || callee.callable.kind != CallableKind::Action)?;
@@ -305,7 +382,7 @@ impl<'a> Runner<'a> {
             return Err(Halt::Full);
         }
         self.taken += slots;
-        let mut frame = Frame { holder: Some(callee), parameters, locals };
+        let mut frame = Frame { holder: Some(callee), in_state: false, parameters, locals };
         let flow = self.execute(&mut frame, &callee.callable.body)?;
         self.taken -= slots;
         let returned = match flow {
@@ -335,15 +412,17 @@ impl<'a> Runner<'a> {
                 return Ok(Flow::ReturnValue(value));
             }
             Return => {
-                require(!frame.in_function())?;
+                require(frame.may_end())?;
                 return Ok(Flow::Return);
             }
             Exit => {
-                require(!frame.in_function())?;
+                require(frame.may_end())?;
                 return Err(Halt::Exit);
             }
             SetValid(global) => self.mark_header(frame, *global, true)?,
             SetInvalid(global) => self.mark_header(frame, *global, false)?,
+            Extract(global) => self.extract(frame, *global)?,
+            Verify { condition, error } => self.verify(frame, condition, *error)?,
         }
         Ok(Flow::On)
     }
@@ -367,7 +446,7 @@ impl<'a> Runner<'a> {
     }
 
     fn apply(&mut self, frame: &mut Frame<'a>, table: Number) -> Ran<()> {
-        require(frame.holder.is_none())?;
+        require(frame.holder.is_none() && !frame.in_state)?;
         let number = covered(index(&self.program.tables, table))?;
         let table = &self.program.tables[number];
         let mut keys = Vec::new();
@@ -402,6 +481,16 @@ impl<'a> Runner<'a> {
 
 fn index<T>(members: &[T], number: Number) -> Option<usize> {
     named(members, number.value).map(|_| number.value as usize)
+}
+
+/// Fields of these widths out of bytes, the highest bit first.
+fn fields_of(bytes: &[u8], widths: &[u32]) -> Vec<Value> {
+    let mut bits = bytes.iter().flat_map(|byte| (0..8).rev().map(move |bit| u64::from(byte >> bit & 1)));
+    let mut field = |&width: &u32| {
+        let value = bits.by_ref().take(width as usize).fold(0, |value, bit| value << 1 | bit);
+        Value::Bits { width, value }
+    };
+    widths.iter().map(&mut field).collect()
 }
 
 fn count(table: &Table, kind: KeyKind) -> usize {

@@ -5,20 +5,22 @@ use crate::numbers::Number;
 use crate::tree::*;
 use std::fmt;
 
+/// Files are read up to this version. Version 2 can be read here, and waits until all others can read it too.
+pub const LATEST: u64 = 1;
 pub const DEEPEST: usize = 32;
 
 type Shaped<T> = Result<T, Refusal>;
 
-/// The program, and the numbers after its apply body.
-pub fn read(numbers: &[Number], length: usize) -> Shaped<(Program, &[Number])> {
-    let mut reader = Reader::new(numbers, length);
+/// The program of a version up to the latest one, and the numbers after its apply body.
+pub fn read(numbers: &[Number], length: usize, latest: u64) -> Shaped<(Program, &[Number])> {
+    let mut reader = Reader::new(numbers, length, latest);
     let program = reader.program()?;
     Ok((program, reader.rest))
 }
 
 /// What may stand at the place where the scan refuses the numbers, if it does.
-pub fn wanted(numbers: &[Number], length: usize) -> Option<Wanted> {
-    let mut reader = Reader::new(numbers, length);
+pub fn wanted(numbers: &[Number], length: usize, latest: u64) -> Option<Wanted> {
+    let mut reader = Reader::new(numbers, length, latest);
     reader.program().err().map(|_| reader.wanted)
 }
 
@@ -47,13 +49,17 @@ struct Reader<'a> {
     rest: &'a [Number],
     /// The stream's length in bytes: the place of a number that is missing.
     length: usize,
+    /// The latest version that is read.
+    latest: u64,
+    /// The program's version, once it is read.
+    version: u64,
     /// What the number that was asked for last may be.
     wanted: Wanted,
 }
 
 impl<'a> Reader<'a> {
-    fn new(numbers: &'a [Number], length: usize) -> Self {
-        Reader { rest: numbers, length, wanted: Wanted::Any("the first number") }
+    fn new(numbers: &'a [Number], length: usize, latest: u64) -> Self {
+        Reader { rest: numbers, length, latest, version: 0, wanted: Wanted::Any("the first number") }
     }
 
     fn number(&mut self, wanted: Wanted) -> Shaped<Number> {
@@ -95,12 +101,14 @@ impl<'a> Reader<'a> {
     }
 
     fn program(&mut self) -> Shaped<Program> {
-        self.listed("the version", 1, 1)?;
+        self.version = self.listed("the version", 1, self.latest)?.value;
         Ok(Program {
+            version: self.version,
             headers: self.members("the count of header types", 0, 8, Self::header)?,
             globals: self.members("the count of globals", 0, 32, Self::global)?,
             callables: self.members("the count of callables", 0, 16, Self::callable)?,
             tables: self.members("the count of tables", 0, 8, Self::table)?,
+            states: self.states()?,
             apply_body: self.statement(1)?,
         })
     }
@@ -166,6 +174,48 @@ impl<'a> Reader<'a> {
             _ => KeyKind::Ternary,
         };
         Ok(Key { place: number.place, kind, expression: self.expression(1)? })
+    }
+
+    fn has_parser(&self) -> bool {
+        self.version >= FIRST_WITH_PARSER
+    }
+
+    /// The parser; a version without one has no list of states either.
+    fn states(&mut self) -> Shaped<Vec<State>> {
+        if self.has_parser() {
+            self.members("the count of states", 1, 16, Self::state)
+        } else {
+            Ok(Vec::new())
+        }
+    }
+
+    fn state(&mut self) -> Shaped<State> {
+        Ok(State { statement: self.statement(1)?, transition: self.transition()? })
+    }
+
+    fn transition(&mut self) -> Shaped<Transition> {
+        Ok(match self.listed("a transition's tag", 0, 4)?.value {
+            0 => Transition::None,
+            1 => Transition::Accept,
+            2 => Transition::Reject(self.error()?),
+            3 => Transition::Next(self.state_number()?),
+            _ => Transition::Select {
+                expression: self.expression(1)?,
+                pairs: self.members("the count of a select's pairs", 0, 16, Self::pair)?,
+            },
+        })
+    }
+
+    fn pair(&mut self) -> Shaped<Pair> {
+        Ok(Pair { value: self.any("a select's value")?, state: self.state_number()? })
+    }
+
+    fn state_number(&mut self) -> Shaped<Number> {
+        self.any("a state's number")
+    }
+
+    fn error(&mut self) -> Shaped<u64> {
+        Ok(self.listed("an error", 0, 255)?.value)
     }
 
     /// A tag of a construct at this depth: too deep comes before out of its list.
@@ -234,7 +284,8 @@ impl<'a> Reader<'a> {
 
     fn statement(&mut self, depth: usize) -> Shaped<Statement> {
         use StatementForm::*;
-        let tag = self.tag(depth, "a statement's tag", 0, 10)?;
+        let last = if self.has_parser() { 12 } else { 10 };
+        let tag = self.tag(depth, "a statement's tag", 0, last)?;
         let form = match tag.value {
             0 => Empty,
             1 => Assign { target: self.target(depth + 1)?, value: self.expression(depth + 1)? },
@@ -250,7 +301,9 @@ impl<'a> Reader<'a> {
             7 => Return,
             8 => Exit,
             9 => SetValid(self.global_number()?),
-            _ => SetInvalid(self.global_number()?),
+            10 => SetInvalid(self.global_number()?),
+            11 => Extract(self.global_number()?),
+            _ => Verify { condition: self.expression(depth + 1)?, error: self.error()? },
         };
         Ok(Statement { place: tag.place, form })
     }

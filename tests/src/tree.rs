@@ -8,13 +8,25 @@ pub enum Type {
     Bits(u32),
 }
 
+/// From this version on a program has a parser.
+pub const FIRST_WITH_PARSER: u64 = 2;
+
 pub struct Program {
+    pub version: u64,
     /// Each header type is its field widths.
     pub headers: Vec<Vec<u32>>,
     pub globals: Vec<Global>,
     pub callables: Vec<Callable>,
     pub tables: Vec<Table>,
+    /// The parser; none in a version without one.
+    pub states: Vec<State>,
     pub apply_body: Statement,
+}
+
+impl Program {
+    pub fn has_parser(&self) -> bool {
+        self.version >= FIRST_WITH_PARSER
+    }
 }
 
 pub struct Global {
@@ -84,6 +96,31 @@ pub enum KeyKind {
     Exact,
     Lpm,
     Ternary,
+}
+
+/// A state of the parser.
+pub struct State {
+    pub statement: Statement,
+    pub transition: Transition,
+}
+
+/// What follows a state's statement.
+pub enum Transition {
+    None,
+    Accept,
+    /// A reject with its error.
+    Reject(u64),
+    Next(Number),
+    Select {
+        expression: Expression,
+        pairs: Vec<Pair>,
+    },
+}
+
+/// A value of a select, and the state that it leads to.
+pub struct Pair {
+    pub value: Number,
+    pub state: Number,
 }
 
 pub struct Expression {
@@ -168,6 +205,14 @@ pub enum StatementForm {
     Exit,
     SetValid(Number),
     SetInvalid(Number),
+    Extract(Number),
+    Verify { condition: Expression, error: u64 },
+}
+
+/// How many bytes a header's fields take, if they take whole bytes.
+pub fn whole_bytes(widths: &[u32]) -> Option<usize> {
+    let bits: u32 = widths.iter().sum();
+    bits.is_multiple_of(8).then_some(bits as usize / 8)
 }
 
 /// The member that a number names, if it names one.

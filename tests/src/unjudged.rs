@@ -1,12 +1,12 @@
 //! The inputs of a program that nobody judged: cut out of the numbers where they can be.
 
 use crate::cut;
-use crate::inputs::{store_of, Entry, Inputs, Pattern, MOST_ENTRIES};
+use crate::inputs::{store_and_packet_of, Entry, Inputs, Pattern, MOST_ENTRIES};
 use crate::numbers::Number;
 use crate::tree::*;
 
-/// Entries as they stand, fit or not, and a store that fits; numbers left over are ignored.
-/// None where a number names nothing, where numbers run out, or where the store does not fit.
+/// Entries as they stand, fit or not, and a store and a packet that fit; numbers left over are ignored.
+/// None where a number names nothing, where numbers run out, or where store or packet do not fit.
 pub fn cut(program: &Program, rest: &[Number]) -> Option<Inputs> {
     if program.globals.iter().any(|global| is_of_missing_type(program, global)) {
         return None;
@@ -16,8 +16,8 @@ pub fn cut(program: &Program, rest: &[Number]) -> Option<Inputs> {
         return None;
     }
     let entries = cut.members.iter().map(entry).collect::<Option<_>>()?;
-    let store = store_of(program, cut.rest)?;
-    Some(Inputs { entries, store })
+    let (store, packet) = store_and_packet_of(program, cut.rest)?;
+    Some(Inputs { entries, store, packet })
 }
 
 fn is_of_missing_type(program: &Program, global: &Global) -> bool {

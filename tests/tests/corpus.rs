@@ -3,6 +3,8 @@
 use second::answer::judged;
 use second::census;
 use second::example::{self, Example};
+use second::shape::LATEST;
+use second::tree::FIRST_WITH_PARSER;
 use std::collections::BTreeSet;
 
 fn corpus() -> Vec<(String, Example)> {
@@ -25,17 +27,18 @@ fn each_example_has_its_answer() {
 fn the_corpus_has_every_construct_in_a_file_that_runs() {
     let good = corpus().into_iter().filter_map(|(_, example)| judged(&example.bytes).ok());
     let seen: BTreeSet<String> = good.flat_map(|(program, ..)| census::of(&program)).collect();
-    assert_eq!(seen, census::all());
+    assert_eq!(seen, census::all(LATEST));
 }
 
 #[test]
-fn the_corpus_has_every_refusal_and_both_signals() {
+fn the_corpus_has_every_refusal_and_every_signal() {
     let first_words = |example: &Example| example.expected.split_whitespace().take(2).collect::<Vec<_>>().join(" ");
     let seen: BTreeSet<String> = corpus().iter().map(|(_, example)| first_words(example)).collect();
-    for refusal in 1..=12 {
+    let of_version_2 = LATEST >= FIRST_WITH_PARSER;
+    for refusal in (1..=12).chain(of_version_2.then_some(16)) {
         assert!(seen.contains(&format!("refused {refusal}")), "no refusal {refusal}");
     }
-    for signal in ["done", "exit"] {
+    for signal in ["done", "exit"].into_iter().chain(of_version_2.then_some("reject")) {
         assert!(seen.iter().any(|words| words.starts_with(signal)), "no {signal}");
     }
 }

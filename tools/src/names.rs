@@ -11,6 +11,7 @@ pub enum Sort {
     Parameter,
     Local,
     Table,
+    State,
 }
 
 impl Sort {
@@ -23,6 +24,7 @@ impl Sort {
             Sort::Parameter => 'p',
             Sort::Local => 'l',
             Sort::Table => 't',
+            Sort::State => 's',
         }
     }
 

@@ -2,24 +2,36 @@
 
 mod wild;
 
-use second::answer::{marked, Answer};
+use second::answer::{marked_up_to, Answer};
 use second::example;
-use second::generate::bench_file;
+use second::generate::bench_file_up_to;
 use second::numbers::MOST_BYTES;
-use sheet::explain::explain;
+use sheet::explain::explain_up_to;
 use sheet::paint::Paint;
 use wild::wild_file;
 
+/// Files are read up to this version; those of version 1 are explained the same whatever it is.
+const LATEST: u64 = 2;
+
+fn marked(bytes: &[u8]) -> Answer {
+    marked_up_to(bytes, LATEST)
+}
+
 fn explanation(bytes: &[u8]) -> String {
-    explain(bytes, &marked(bytes), Paint::NONE)
+    explain_up_to(bytes, &marked(bytes), Paint::NONE, LATEST)
 }
 
 /// The corpus, generated files and files that keep to few rules.
 fn files() -> Vec<Vec<u8>> {
-    let corpus = example::corpus().expect("the corpus").into_iter().map(|(_, example)| example.bytes);
-    let small = (0..4_000).map(|number| bench_file(21, number, 160));
-    let large = (0..400).map(|number| bench_file(22, number, MOST_BYTES));
-    corpus.chain(small).chain(large).chain((0..4_000).map(wild_file)).collect()
+    let (corpus, version_2) = (example::corpus(), example::corpus_of_version_2());
+    let examples = corpus.expect("the corpus").into_iter().chain(version_2.expect("the examples"));
+    let mut files: Vec<Vec<u8>> = examples.map(|(_, example)| example.bytes).collect();
+    for version in 1..=LATEST {
+        files.extend((0..4_000).map(|number| bench_file_up_to(21, number, 160, version)));
+        files.extend((0..400).map(|number| bench_file_up_to(22, number, MOST_BYTES, version)));
+        files.extend((0..4_000).map(|seed| wild_file(seed, version)));
+    }
+    files
 }
 
 /// Files that the second interpreter refuses with such numbers, and the numbers.
@@ -41,8 +53,8 @@ fn an_explanation_begins_with_the_result_lines() {
 }
 
 #[test]
-fn each_refusal_from_6_to_12_has_a_mark_in_the_text() {
-    let files = refused(6, 12);
+fn each_refusal_of_a_file_with_a_text_has_a_mark_in_it() {
+    let files = refused(6, 16);
     assert!(files.len() > 4_000, "{}", files.len());
     for (_, bytes) in files {
         let explanation = explanation(&bytes);

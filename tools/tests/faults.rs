@@ -138,8 +138,8 @@ fn entries_and_store() {
     check_behind("entries { t (1, 2/3, 3 &&& 4): actions[2](); }", "x:4:42: expected ';'");
     let dots = "x:4:44: expected '...', since that action has no known parameters, not '}'";
     check_behind("entries { t (1, 2/3, 3 &&& 4): actions[2]; }", dots);
-    check_behind("entries { ... }", "x:4:1: entries that end in '...' say their count: entries 5 {");
-    check_behind("entries 1 { }", "x:4:1: only entries that end in '...' say their count");
+    check_behind("entries { ... }", "x:4:1: a list that ends in '...' says its count: entries 5 {");
+    check_behind("entries 1 { }", "x:4:1: only a list that ends in '...' says its count");
     check_behind("store { }", "x:4:1: expected 'entries', not 'store'");
     check_behind("entries { }", "x:4:12: expected 'store', not the end");
     check_behind("entries { } store { } more", "x:4:23: expected the end, not 'more'");

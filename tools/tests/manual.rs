@@ -4,13 +4,16 @@
 //! bench file; `numbers`, `shown` and `explained` are what the last file consists of, is shown as and is explained by;
 //! `bad` is a text that cannot be read, and `fault` what is told of it.
 
-use second::answer::marked;
+use second::answer::marked_up_to;
 use second::numbers;
-use sheet::explain::explain;
-use sheet::make::make;
+use sheet::explain::explain_up_to;
+use sheet::make::make_up_to;
 use sheet::paint::Paint;
-use sheet::show::show;
+use sheet::show::show_up_to;
+use sheet::source::Fault;
 
+/// The page describes files up to this version.
+const LATEST: u64 = 2;
 const PAGE: &str = include_str!("../../docs/SHEETS.md");
 
 struct Block {
@@ -47,6 +50,14 @@ fn hexadecimal(text: &str) -> Vec<u8> {
     }
 }
 
+fn make(text: &str) -> Result<Vec<u8>, Fault> {
+    make_up_to(text, LATEST)
+}
+
+fn shown(bytes: &[u8]) -> String {
+    show_up_to(bytes, LATEST).expect("a file with a text").text
+}
+
 fn made(text: &str, line: usize) -> Vec<u8> {
     make(text).unwrap_or_else(|fault| panic!("line {line}: {}", fault.told("text", text)))
 }
@@ -74,8 +85,8 @@ fn each_block_of_the_page_holds() {
             }
             "text" => continue,
             "numbers" => (format!("{:?}", numbers::write(&decimal(&text))), format!("{bytes:?}")),
-            "shown" => (text, show(&bytes).expect("a file with a text").text),
-            "explained" => (text, explain(&bytes, &marked(&bytes), Paint::NONE)),
+            "shown" => (text, shown(&bytes)),
+            "explained" => (text, explain_up_to(&bytes, &marked_up_to(&bytes, LATEST), Paint::NONE, LATEST)),
             "fault" => (text, make(&bad).expect_err("a text that cannot be read").told("text", &bad)),
             other => panic!("line {line}: a block of kind '{other}'"),
         };
@@ -84,10 +95,10 @@ fn each_block_of_the_page_holds() {
 }
 
 #[test]
-fn each_refusal_from_1_to_12_is_explained() {
+fn each_refusal_of_the_judge_is_explained() {
     let explained: Vec<String> =
         blocks().into_iter().filter(|block| block.kind == "explained").map(|block| block.text).collect();
-    for number in 1..=12 {
+    for number in (1..=12).chain([16]) {
         let first_words = format!("refused {number} ");
         assert!(explained.iter().any(|text| text.starts_with(&first_words)), "no refusal {number}");
     }
@@ -115,21 +126,22 @@ fn same_words(one: &str, other: &str) -> bool {
     one.split_whitespace().eq(other.split_whitespace())
 }
 
-/// Each row's text makes its numbers behind those of the frame, and is shown as it stands.
-fn check_rows(head: &str, least: usize, frame: impl Fn(&str) -> String, frame_numbers: &[u64]) {
+/// Each row's text makes its numbers between those of the frame, and is shown as it stands.
+fn check_rows(head: &str, least: usize, frame: impl Fn(&str) -> String, before: &[u64], behind: &[u64]) {
     let rows = rows(head);
     assert!(rows.len() >= least, "{} rows of {head}", rows.len());
     for (text, numbers) in rows {
         let whole = frame(&text);
         let bytes = made(&whole, 0);
-        assert_eq!(bytes, numbers::write(&[frame_numbers, &numbers].concat()), "{text}");
-        assert!(same_words(&show(&bytes).expect("a text").text, &whole), "{text}");
+        assert_eq!(bytes, numbers::write(&[before, &numbers, behind].concat()), "{text}");
+        assert!(same_words(&shown(&bytes), &whole), "{text}");
     }
 }
 
 #[test]
 fn the_tables_of_constructs_hold() {
-    check_rows("Expression", 34, |text| format!("apply {{ return {text}; }}"), &[1, 0, 0, 0, 0, 6]);
-    check_rows("Statement", 14, |text| format!("apply {{ {text} }}"), &[1, 0, 0, 0, 0]);
-    check_rows("Body", 5, |text| format!("apply {text}"), &[1, 0, 0, 0, 0]);
+    check_rows("Expression", 34, |text| format!("apply {{ return {text}; }}"), &[1, 0, 0, 0, 0, 6], &[]);
+    check_rows("Statement", 14, |text| format!("apply {{ {text} }}"), &[1, 0, 0, 0, 0], &[]);
+    check_rows("Body", 5, |text| format!("apply {text}"), &[1, 0, 0, 0, 0], &[]);
+    check_rows("State", 9, |text| format!("state s0 {text} apply {{ ; }}"), &[2, 0, 0, 0, 0, 1], &[0]);
 }

@@ -3,9 +3,9 @@
 mod wild;
 
 use second::example;
-use second::generate::bench_file;
+use second::generate::bench_file_up_to;
 use second::numbers;
-use sheet::show::{show, Mark, Part};
+use sheet::show::{show_up_to, Mark, Part};
 use std::collections::BTreeMap;
 use wild::wild_file;
 
@@ -32,6 +32,10 @@ fn tags(part: Part) -> &'static [u64] {
         Part::Return => &[7],
         Part::Exit => &[8],
         Part::SetValid => &[9, 10],
+        Part::Extract => &[11],
+        Part::Verify => &[12],
+        Part::CallInState => &[4, 13],
+        Part::BarredInState => &[5, 6, 7, 8],
         _ => &[],
     }
 }
@@ -62,7 +66,8 @@ fn agrees(mark: &Mark, text: &str, number: u64) -> bool {
         Part::Callable => text.starts_with("action ") == (number == 0),
         Part::DefaultCount => text.matches(',').count() as u64 + u64::from(text != "()") == number,
         Part::EntryCount => text == "entries" || text == format!("entries {number}"),
-        Part::Key => true,
+        Part::PacketCount => text == "packet" || text == format!("packet {number}"),
+        Part::Key | Part::Selected => true,
         Part::Default | Part::Position => text.starts_with(['a', 'f']) && said(text).is_none_or(|said| said == number),
         part if !tags(part).is_empty() => tags(part).contains(&number),
         _ => said(text).or_else(|| said(&text[1..])) == Some(number),
@@ -70,7 +75,7 @@ fn agrees(mark: &Mark, text: &str, number: u64) -> bool {
 }
 
 fn check(name: &str, bytes: &[u8]) {
-    let Ok(sheet) = show(bytes) else { return };
+    let Ok(sheet) = show_up_to(bytes, 2) else { return };
     let numbers = numbers::read(bytes).expect("numbers");
     let values: BTreeMap<usize, u64> = numbers.iter().map(|number| (number.place, number.value)).collect();
     for mark in &sheet.marks {
@@ -89,8 +94,13 @@ fn marks_stand_under_their_numbers() {
     for (name, example) in example::corpus().expect("the corpus") {
         check(&name, &example.bytes);
     }
+    for (name, example) in example::corpus_of_version_2().expect("the examples") {
+        check(&name, &example.bytes);
+    }
     for number in 0..4_000 {
-        check(&format!("generated file {number}"), &bench_file(51, number, 200));
-        check(&format!("wild file {number}"), &wild_file(number));
+        for version in [1, 2] {
+            check(&format!("generated file {number}"), &bench_file_up_to(51, number, 200, version));
+            check(&format!("wild file {number}"), &wild_file(number, version));
+        }
     }
 }

@@ -71,6 +71,7 @@ fn answer_name(answer: &Answer) -> String {
         Answer::Refused(refusal) => format!("refused {:2}", refusal.number),
         Answer::Finished { signal: Signal::Done, .. } => "done".to_string(),
         Answer::Finished { signal: Signal::Exit, .. } => "exit".to_string(),
+        Answer::Finished { signal: Signal::Reject(_), .. } => "reject".to_string(),
         Answer::Stuck => "stuck".to_string(),
         Answer::TooLong => "too long".to_string(),
     }

@@ -185,7 +185,7 @@ impl Builder<'_> {
     fn call_for_value(&mut self, scope: &Scope, kind: Type, depth: usize) -> bool {
         let any = self.slips();
         let candidates = self.callees(scope, |signature| any || signature.returns() == Some(kind));
-        if candidates.is_empty() {
+        if candidates.is_empty() || (scope.in_state && !any) {
             return false;
         }
         let callee = self.random.choose(&candidates);
@@ -195,7 +195,7 @@ impl Builder<'_> {
     }
 
     /// The wanted callables that can be called here: affordable, and with a place for each parameter written back.
-    fn callees(&self, scope: &Scope, wanted: impl Fn(&Signature) -> bool) -> Vec<usize> {
+    pub fn callees(&self, scope: &Scope, wanted: impl Fn(&Signature) -> bool) -> Vec<usize> {
         let left = self.allowance.saturating_sub(self.ceiling);
         let has_place = |parameter: &Parameter| {
             !parameter.direction.writes() || !scope.writable_places(&self.declared, parameter.kind).is_empty()
@@ -208,7 +208,7 @@ impl Builder<'_> {
     }
 
     /// Callable and arguments of a call; a place is often an argument twice.
-    fn call(&mut self, scope: &Scope, callee: usize, depth: usize) {
+    pub fn call(&mut self, scope: &Scope, callee: usize, depth: usize) {
         let parameters = self.declared.callables[callee].parameters.clone();
         self.ceiling += self.declared.callables[callee].ceiling;
         self.draft.push_name(callee, scope.reach);
@@ -254,6 +254,10 @@ impl Builder<'_> {
         self.ceiling += 1;
         if !self.has_room(depth) {
             self.assign(scope, depth);
+        } else if scope.in_state {
+            self.state_statement(scope, depth);
+        } else if self.draft.has_parser() && self.slips() {
+            self.extract_or_verify(scope, depth);
         } else if self.random.chance(self.plan.repeats) {
             self.repeat(scope, depth);
         } else {
@@ -276,11 +280,11 @@ impl Builder<'_> {
         }
     }
 
-    fn statement_tag(&mut self, tag: u64) {
-        self.draft.push(tag, 0, 10);
+    pub fn statement_tag(&mut self, tag: u64) {
+        self.draft.push(tag, 0, self.draft.last_statement_tag());
     }
 
-    fn assign(&mut self, scope: &Scope, depth: usize) {
+    pub fn assign(&mut self, scope: &Scope, depth: usize) {
         let slip = self.slips();
         let targets = scope.targets(&self.declared, slip);
         if targets.is_empty() {
@@ -292,14 +296,14 @@ impl Builder<'_> {
         self.expression(scope, kind, depth + 1);
     }
 
-    fn choice(&mut self, scope: &Scope, depth: usize) {
+    pub fn choice(&mut self, scope: &Scope, depth: usize) {
         self.statement_tag(2);
         self.expression(scope, Type::Bool, depth + 1);
         self.statement(scope, depth + 1);
         self.statement(scope, depth + 1);
     }
 
-    fn block(&mut self, scope: &Scope, depth: usize) {
+    pub fn block(&mut self, scope: &Scope, depth: usize) {
         let count = self.random.between(0, 5);
         self.statement_tag(3);
         self.draft.push(count, 0, 64);
@@ -355,7 +359,7 @@ impl Builder<'_> {
         self.draft.push_name(table, self.declared.tables.len());
     }
 
-    fn set_header(&mut self, scope: &Scope, depth: usize) {
+    pub fn set_header(&mut self, scope: &Scope, depth: usize) {
         let Some(header) = self.header(scope) else { return self.assign(scope, depth) };
         let tag = self.random.between(9, 10);
         self.statement_tag(tag);

@@ -87,12 +87,26 @@ fn items(numbers: &[u64]) -> Vec<Item> {
     numbers.iter().map(|&value| Item { value, least: 0, most: value, free: false }).collect()
 }
 
-/// A short statement takes the place of another one: returns, exits, calls and applies where they may not stand.
+/// A short statement takes the place of another one: returns, exits, calls, applies, extracts and verifies where they may
+/// not stand.
 fn replace_statement(random: &mut Random, draft: &mut Draft) {
-    let short: [&[u64]; 10] =
-        [&[0], &[7], &[8], &[6, 0, 1], &[6, 1, 8, 7], &[5, 0], &[9, 0], &[10, 0], &[4, 0, 0], &[1, 3, 0, 3, 0]];
+    let all: [&[u64]; 12] = [
+        &[0],
+        &[7],
+        &[8],
+        &[6, 0, 1],
+        &[6, 1, 8, 7],
+        &[5, 0],
+        &[9, 0],
+        &[10, 0],
+        &[4, 0, 0],
+        &[1, 3, 0, 3, 0],
+        &[11, 0],
+        &[12, 0, 0, 7],
+    ];
+    let short = if draft.has_parser() { &all } else { &all[..10] };
     if let Some(old) = subtree(random, draft, Sort::Statement) {
-        put(draft, old, items(random.choose(&short)));
+        put(draft, old, items(random.choose(short)));
     }
 }
 

@@ -1,5 +1,7 @@
 //! A bench file in the making: its numbers, the list that each one is from, and where its subtrees stand.
 
+use crate::tree::FIRST_WITH_PARSER;
+
 /// A number and the list it is from.
 #[derive(Clone, Copy)]
 pub struct Item {
@@ -24,13 +26,31 @@ pub struct Subtree {
     pub end: usize,
 }
 
-#[derive(Default)]
 pub struct Draft {
+    /// The version that it is made for, whatever its first number becomes.
+    pub version: u64,
     pub items: Vec<Item>,
     pub subtrees: Vec<Subtree>,
 }
 
 impl Draft {
+    pub fn new(version: u64) -> Draft {
+        Draft { version, items: Vec::new(), subtrees: Vec::new() }
+    }
+
+    pub fn has_parser(&self) -> bool {
+        self.version >= FIRST_WITH_PARSER
+    }
+
+    /// The last tag of a statement.
+    pub fn last_statement_tag(&self) -> u64 {
+        if self.has_parser() {
+            12
+        } else {
+            10
+        }
+    }
+
     pub fn len(&self) -> usize {
         self.items.len()
     }

@@ -1,4 +1,4 @@
-//! Entries that overlap and tie, and a store that fits.
+//! Entries that overlap and tie, and a store that fits. The packet is made elsewhere.
 
 use super::program::{largest_number, Builder};
 use super::scope::*;
@@ -9,12 +9,15 @@ use crate::value::largest;
 pub type Store = Vec<Vec<u64>>;
 
 impl Builder<'_> {
-    /// Entries and store after the program.
+    /// Entries, store and packet after the program.
     pub fn inputs(&mut self) {
         let store = self.store();
         self.entries(&store);
         for (index, numbers) in store.iter().enumerate() {
             self.push_variable(self.declared.globals[index], numbers);
+        }
+        if self.draft.has_parser() {
+            self.packet();
         }
     }
 

@@ -9,8 +9,10 @@ mod plan;
 mod program;
 mod random;
 mod scope;
+mod states;
 
 use crate::numbers::MOST_BYTES;
+use crate::shape::LATEST;
 pub use deepest::deepest_files;
 use draft::Draft;
 use program::Builder;
@@ -18,8 +20,15 @@ pub use random::Random;
 
 /// The bench file of a seed and a number; `largest` limits its bytes, where no fault lengthens it.
 pub fn bench_file(seed: u64, number: u64, largest: usize) -> Vec<u8> {
-    let mut random = Random::new(Random::new(seed).word() ^ number);
-    let mut draft = new_draft(&mut random, largest);
+    bench_file_up_to(seed, number, largest, LATEST)
+}
+
+/// The same with files of each version up to another one. Those of version 1 are the same whatever the latest one is.
+pub fn bench_file_up_to(seed: u64, number: u64, largest: usize, latest: u64) -> Vec<u8> {
+    let start = Random::new(seed).word() ^ number;
+    let version = Random::new(!start).between(1, latest);
+    let mut random = Random::new(start);
+    let mut draft = new_draft(&mut random, largest, version);
     let faults = random.choose(&[0, 0, 0, 0, 0, 0, 0, 1, 1, 2]) + u64::from(random.chance(5));
     for _ in 0..faults {
         if !draft.is_empty() {
@@ -34,11 +43,11 @@ pub fn bench_file(seed: u64, number: u64, largest: usize) -> Vec<u8> {
 }
 
 /// A file of at most so many bytes, well formed but for slips.
-fn new_draft(random: &mut Random, largest: usize) -> Draft {
+fn new_draft(random: &mut Random, largest: usize, version: u64) -> Draft {
     let most = largest.min(MOST_BYTES);
     loop {
-        let plan = plan::plan(random, most);
-        let mut builder = Builder::new(random, plan);
+        let plan = plan::plan(random, most, version);
+        let mut builder = Builder::new(random, plan, version);
         builder.program();
         builder.inputs();
         let draft = builder.draft;

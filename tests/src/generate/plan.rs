@@ -1,6 +1,7 @@
 //! What a generated file is like: how large, and what it is made of.
 
 use super::random::Random;
+use crate::tree::FIRST_WITH_PARSER;
 
 /// From the first number to the second.
 #[derive(Clone, Copy)]
@@ -29,6 +30,8 @@ pub struct Plan {
     pub parameters: Range,
     pub locals: Range,
     pub tables: Range,
+    /// In a version with a parser.
+    pub states: Range,
     pub entries: Range,
     /// The members of the apply body.
     pub members: Range,
@@ -55,6 +58,7 @@ const MIXED: Plan = Plan {
     parameters: Range(0, 3),
     locals: Range(0, 2),
     tables: Range(0, 2),
+    states: Range(1, 3),
     entries: Range(0, 6),
     members: Range(1, 5),
     body: 24,
@@ -105,6 +109,7 @@ const LARGE: Plan = Plan {
     headers: Range(0, 3),
     callables: Range(0, 9),
     tables: Range(0, 4),
+    states: Range(1, 8),
     entries: Range(0, 12),
     body: 90,
     ceiling: 40_000,
@@ -112,8 +117,28 @@ const LARGE: Plan = Plan {
     ..MIXED
 };
 
-const LARGEST: Plan =
-    Plan { globals: Range(4, 16), callables: Range(8, 16), tables: Range(2, 8), entries: Range(4, 30), ..LARGE };
+const LARGEST: Plan = Plan {
+    globals: Range(4, 16),
+    callables: Range(8, 16),
+    tables: Range(2, 8),
+    states: Range(4, 16),
+    entries: Range(4, 30),
+    ..LARGE
+};
+
+/// Little but a parser.
+const PARSER: Plan = Plan {
+    widths: Range(1, 2),
+    headers: Range(1, 2),
+    globals: Range(2, 4),
+    callables: Range(0, 1),
+    tables: Range(0, 1),
+    states: Range(1, 6),
+    entries: Range(0, 2),
+    members: Range(1, 1),
+    body: 12,
+    ..MIXED
+};
 
 /// Many steps.
 const LONG: Plan = Plan { callables: Range(5, 7), ceiling: 1_000_000, repeats: 60, body: 40, ..MIXED };
@@ -121,11 +146,17 @@ const LONG: Plan = Plan { callables: Range(5, 7), ceiling: 1_000_000, repeats: 6
 /// Mostly more steps than the ceiling may be.
 const TOO_LONG: Plan = Plan { callables: Range(6, 9), ceiling: 9_000_000, repeats: 70, ..LONG };
 
-/// A plan for a file of at most so many bytes.
-pub fn plan(random: &mut Random, most_bytes: usize) -> Plan {
+/// A plan for a file of at most so many bytes, of a version.
+pub fn plan(random: &mut Random, most_bytes: usize, version: u64) -> Plan {
     let small = [MIXED, TABLES, TABLES, CALLS, CALLS];
     let large = [MIXED, TABLES, TABLES, CALLS, CALLS, LARGE, LARGE, LARGEST, LONG, TOO_LONG];
-    let plan = if most_bytes < 300 { random.choose(&small) } else { random.choose(&large) };
+    let plan = if version >= FIRST_WITH_PARSER && random.chance(50) {
+        PARSER
+    } else if most_bytes < 300 {
+        random.choose(&small)
+    } else {
+        random.choose(&large)
+    };
     let slips = random.choose(&[0, 0, 0, 0, 0, 0, 1, 1, 1, 2]);
     Plan { slips, ..plan }
 }

@@ -14,6 +14,8 @@ pub struct Builder<'r> {
     pub plan: Plan,
     /// The types that the program uses.
     kinds: Vec<Type>,
+    /// How many bytes all extracts of the program take.
+    pub extracted: usize,
     /// At least the ceiling of the body at hand so far.
     pub ceiling: u64,
     /// What it stays under.
@@ -28,18 +30,18 @@ const SLIP: u64 = 8;
 const DEEP: usize = 29;
 
 impl<'r> Builder<'r> {
-    pub fn new(random: &'r mut Random, plan: Plan) -> Builder<'r> {
+    pub fn new(random: &'r mut Random, plan: Plan, version: u64) -> Builder<'r> {
         let mut kinds = vec![Type::Bool];
         for _ in 0..random.within(plan.widths) {
             kinds.push(Type::Bits(random.choose(&WIDTHS)));
         }
-        let declared = Declared::default();
-        Builder { random, draft: Draft::default(), declared, plan, kinds, ceiling: 0, allowance: 0, full: 0 }
+        let (draft, declared) = (Draft::new(version), Declared::default());
+        Builder { random, draft, declared, plan, kinds, extracted: 0, ceiling: 0, allowance: 0, full: 0 }
     }
 
     /// The whole program.
     pub fn program(&mut self) {
-        self.draft.push(1, 1, 1);
+        self.draft.push(self.draft.version, 1, self.draft.version);
         self.headers();
         self.globals();
         let callables = self.random.within(self.plan.callables);
@@ -48,6 +50,9 @@ impl<'r> Builder<'r> {
             self.callable(number as usize);
         }
         self.tables();
+        if self.draft.has_parser() {
+            self.states();
+        }
         self.body_begins(self.plan.ceiling);
         self.apply_body();
     }
@@ -56,15 +61,20 @@ impl<'r> Builder<'r> {
     fn apply_body(&mut self) {
         let scope = Scope::outside(self.declared.callables.len());
         let members = self.random.within(self.plan.members);
+        self.members(&scope, members);
+    }
+
+    /// A block of so many statements, or a statement alone.
+    pub fn members(&mut self, scope: &Scope, members: u64) {
         if members == 1 {
-            return self.statement(&scope, 1);
+            return self.statement(scope, 1);
         }
         let start = self.draft.len();
         self.ceiling += 1;
-        self.draft.push(3, 0, 10);
+        self.statement_tag(3);
         self.draft.push(members, 0, 64);
         for _ in 0..members {
-            self.statement(&scope, 2);
+            self.statement(scope, 2);
         }
         self.draft.close(Sort::Statement, start);
     }
@@ -92,7 +102,7 @@ impl<'r> Builder<'r> {
         depth < DEEP && self.draft.len() < self.full && self.ceiling < self.allowance
     }
 
-    fn body_begins(&mut self, allowance: u64) {
+    pub fn body_begins(&mut self, allowance: u64) {
         self.ceiling = 0;
         self.allowance = allowance;
         self.full = self.draft.len() + self.plan.body;
@@ -103,8 +113,11 @@ impl<'r> Builder<'r> {
         self.draft.push(count, 0, 8);
         for _ in 0..count {
             let fields = self.random.between(1, 4);
-            self.draft.push(fields, 1, 16);
-            let widths: Vec<u32> = (0..fields).map(|_| self.width()).collect();
+            let mut widths: Vec<u32> = (0..fields).map(|_| self.width()).collect();
+            if self.draft.has_parser() && self.random.chance(85) {
+                widths.extend(filler(&widths));
+            }
+            self.draft.push(widths.len() as u64, 1, 16);
             for &width in &widths {
                 self.draft.push_free(u64::from(width), 1, 64);
             }
@@ -141,7 +154,7 @@ impl<'r> Builder<'r> {
         let locals = self.random.within(self.plan.locals);
         self.draft.push(locals, 0, 8);
         let locals = (0..locals).map(|_| self.push_kind()).collect();
-        let scope = Scope { reach: number, holder: Some(kind), parameters, locals };
+        let scope = Scope { reach: number, holder: Some(kind), in_state: false, parameters, locals };
         self.body_begins(self.plan.ceiling / 3);
         match kind {
             CallableKind::Function(returned) if !self.slips() => self.returning_statement(&scope, returned, 1),
@@ -223,29 +236,51 @@ impl<'r> Builder<'r> {
         keys
     }
 
-    /// A key's expression, mostly a global or a field alone.
     fn key(&mut self, kind: KeyKind) -> DeclaredKey {
         let scope = Scope::outside(self.declared.callables.len());
+        let (width, reads) = self.bits_for_choice(&scope);
+        DeclaredKey { kind, width, reads }
+    }
+
+    /// The expression of a key or a select, mostly a global or a field alone; its width, and what it reads then.
+    pub fn bits_for_choice(&mut self, scope: &Scope) -> (u32, Option<Place>) {
         let places = scope.bits_places(&self.declared);
         let start = self.draft.len();
         if places.is_empty() || self.random.chance(self.plan.computed_keys) {
             let width = self.width();
             self.body_begins(200);
             self.full = start + 12;
-            self.expression(&scope, Type::Bits(width), 1);
-            return DeclaredKey { kind, width, reads: None };
+            self.expression(scope, Type::Bits(width), 1);
+            return (width, None);
         }
         let (place, width) = self.random.choose(&places);
-        self.place(&scope, place, 0, 13);
+        self.place(scope, place, 0, 13);
         self.draft.close(Sort::Expression, start);
-        DeclaredKey { kind, width, reads: Some(place) }
+        (width, Some(place))
     }
 
     /// A number that fits the type; after a slip the first one that does not.
     pub fn push_value(&mut self, kind: Type) {
+        self.push_value_or(None, kind);
+    }
+
+    /// The same, with a choice of the number.
+    pub fn push_value_or(&mut self, chosen: Option<u64>, kind: Type) {
         let most = largest_number(kind);
-        let value = if self.slips() { most.saturating_add(1) } else { self.random.value(kind) };
+        let value = match chosen {
+            _ if self.slips() => most.saturating_add(1),
+            Some(chosen) => chosen,
+            None => self.random.value(kind),
+        };
         self.draft.push_free(value, 0, most);
+    }
+}
+
+/// The width that is missing to whole bytes, if one is.
+fn filler(widths: &[u32]) -> Option<u32> {
+    match widths.iter().sum::<u32>() % 8 {
+        0 => None,
+        over => Some(8 - over),
     }
 }
 

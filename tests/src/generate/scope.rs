@@ -57,15 +57,20 @@ pub struct DeclaredKey {
 pub struct Scope {
     /// How many callables it may reach.
     pub reach: usize,
-    /// The kind of the callable around; none for keys and the apply body.
+    /// The kind of the callable around; none for keys, states and the apply body.
     pub holder: Option<CallableKind>,
+    pub in_state: bool,
     pub parameters: Vec<Parameter>,
     pub locals: Vec<Type>,
 }
 
 impl Scope {
     pub fn outside(reach: usize) -> Scope {
-        Scope { reach, holder: None, parameters: Vec::new(), locals: Vec::new() }
+        Scope { reach, holder: None, in_state: false, parameters: Vec::new(), locals: Vec::new() }
+    }
+
+    pub fn in_state(reach: usize) -> Scope {
+        Scope { in_state: true, ..Scope::outside(reach) }
     }
 
     pub fn in_function(&self) -> bool {
@@ -115,11 +120,26 @@ impl Scope {
         self.all_places(declared, false).into_iter().filter_map(width).collect()
     }
 
+    /// The headers that can be extracted.
+    pub fn extractable(&self, declared: &Declared) -> Vec<usize> {
+        let mut headers = self.headers(declared);
+        headers.retain(|&global| bytes_of(declared, global).is_some());
+        headers
+    }
+
     /// The headers that can be named here.
     pub fn headers(&self, declared: &Declared) -> Vec<usize> {
         let is_header = |index: &usize| matches!(declared.globals[*index], GlobalKind::Header(_));
         let all = if self.in_function() { 0 } else { declared.globals.len() };
         (0..all).filter(is_header).collect()
+    }
+}
+
+/// How many bytes a global's fields take, if it is a header of whole bytes.
+pub fn bytes_of(declared: &Declared, global: usize) -> Option<usize> {
+    match declared.globals[global] {
+        GlobalKind::Plain(_) => None,
+        GlobalKind::Header(header) => whole_bytes(&declared.headers[header]),
     }
 }
 

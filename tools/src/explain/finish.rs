@@ -11,8 +11,9 @@ use second::{numbers, shape};
 /// How the run went, in one line.
 pub fn sentence(signal: Signal, steps: u64, ceiling: u64) -> String {
     let end = match signal {
-        Signal::Done => "done",
-        Signal::Exit => "by exit",
+        Signal::Done => "done".to_string(),
+        Signal::Exit => "by exit".to_string(),
+        Signal::Reject(error) => format!("rejected with error {error}"),
     };
     format!("Accepted. Ceiling: {ceiling}. Steps: {steps}. End: {end}.\n")
 }
@@ -38,9 +39,9 @@ impl Slot {
 }
 
 /// First and final store, by name; what has changed is marked.
-pub fn stores(bytes: &[u8], final_store: &[u64], paint: Paint) -> String {
+pub fn stores(bytes: &[u8], final_store: &[u64], paint: Paint, latest: u64) -> String {
     let numbers = numbers::read(bytes).unwrap_or_default();
-    let Ok((program, rest)) = shape::read(&numbers, bytes.len()) else { return String::new() };
+    let Ok((program, rest)) = shape::read(&numbers, bytes.len(), latest) else { return String::new() };
     let first_store = first_store(&program, rest);
     let slots = slots(&program);
     if slots.is_empty() {

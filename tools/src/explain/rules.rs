@@ -19,6 +19,7 @@ pub fn general(number: u8) -> &'static str {
         11 => "the store is all there: a number for each bool and bits, a valid mark and all fields for each header",
         12 => "nothing stands behind the store",
         13 => "there is room for the run and for its result",
+        16 => "the packet is all there: its count, at most 512, and so many numbers below 256",
         _ => "the slots of a call are among the first 8,192",
     }
 }
@@ -31,6 +32,8 @@ pub fn of_part(number: u8, part: Part) -> Option<&'static str> {
         8 => of_form(part),
         10 => of_entries(part),
         11 => of_store(part),
+        12 => of_what_is_behind(part),
+        16 => of_packet(part),
         _ => None,
     }
 }
@@ -45,9 +48,10 @@ fn of_names(part: Part) -> Option<&'static str> {
         }
         Part::GlobalName => "a global is one that the file declares",
         Part::FieldName => "a field is one of its header's",
-        Part::LocalName => "a local is one of its own callable's; keys and the apply body have none",
-        Part::ParameterName => "a parameter is one of its own callable's; keys and the apply body have none",
+        Part::LocalName => "a local is one of its own callable's; outside callables there is none",
+        Part::ParameterName => "a parameter is one of its own callable's; outside callables there is none",
         Part::TableName => "a table is one that the file declares",
+        Part::StateName => "a state leads to later states only",
         _ => return None,
     })
 }
@@ -66,21 +70,27 @@ fn of_types(part: Part) -> Option<&'static str> {
         Part::Cast => "a cast takes bits",
         Part::Slice => "a slice takes bits, from a high bound below their width down to a low one that is no higher",
         Part::Concatenation => "'++' takes bits, together at most 64",
-        Part::FunctionCall | Part::Call => "a call has one argument for each parameter, of the parameter's type",
+        Part::FunctionCall | Part::Call | Part::CallInState => {
+            "a call has one argument for each parameter, of the parameter's type"
+        }
         Part::Assign => "the two sides of an assignment have one type",
         Part::If => "the condition of an if is a bool",
         Part::ReturnValue => "a function returns a value of its return type",
         Part::SetValid => "only headers are set valid and invalid",
+        Part::Extract => "only headers are extracted, and only those whose fields take whole bytes",
+        Part::Verify => "the condition of a verify is a bool",
         _ => return None,
     })
 }
 
-/// What tables ask of types.
+/// What tables and selects ask of types.
 fn of_declared_types(part: Part) -> Option<&'static str> {
     Some(match part {
         Part::Key => "a key is bits",
         Part::DefaultCount => "the default has one argument for each parameter of its action",
         Part::DefaultArgument => "an argument of the default fits its parameter",
+        Part::Selected => "a select is on bits",
+        Part::SelectValue => "a value of a select fits the width of its expression",
         _ => return None,
     })
 }
@@ -118,6 +128,9 @@ fn of_form(part: Part) -> Option<&'static str> {
         Part::Callable => "a function returns a value on each path",
         Part::KeyKind => "a table has at most one lpm key",
         Part::Listed => "a table lists actions whose parameters have no direction",
+        Part::Extract | Part::Verify => "extract and verify stand in states only",
+        Part::CallInState => "a state calls nothing",
+        Part::BarredInState => "a state applies no table, and has no return and no exit",
         _ => return None,
     })
 }
@@ -141,6 +154,21 @@ fn of_store(part: Part) -> Option<&'static str> {
         Part::StoreValue => "a value fits its type",
         Part::ValidMark => "a valid mark is 0 or 1",
         Part::StoreField => "a field fits its width, and is 0 in an invalid header",
+        _ => return None,
+    })
+}
+
+fn of_what_is_behind(part: Part) -> Option<&'static str> {
+    match part {
+        Part::BehindPacket => Some("nothing stands behind the packet"),
+        _ => None,
+    }
+}
+
+fn of_packet(part: Part) -> Option<&'static str> {
+    Some(match part {
+        Part::PacketCount => "a packet has at most 512 bytes",
+        Part::PacketByte => "a byte of the packet is a number below 256",
         _ => return None,
     })
 }

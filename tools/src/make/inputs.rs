@@ -1,4 +1,4 @@
-//! Entries and store, from text to numbers, and the numbers that are cut into neither.
+//! Entries, store and packet, from text to numbers, and the numbers that are cut into none of them.
 
 use super::tokens::Token;
 use super::{Maker, Read};
@@ -11,8 +11,8 @@ impl Maker<'_> {
         match self.text.token() {
             Token::Word("numbers") | Token::End => {}
             _ => {
-                if self.entries(program)? {
-                    self.store(program)?;
+                if self.entries(program)? && self.store(program)? && program.has_parser() {
+                    self.packet()?;
                 }
             }
         }
@@ -22,8 +22,21 @@ impl Maker<'_> {
 
     /// The entries; whether they are all there.
     fn entries(&mut self, program: &Program) -> Read<bool> {
+        self.text_list("entries", |maker| maker.entry(program))
+    }
+
+    /// The packet, if there is one.
+    fn packet(&mut self) -> Read<()> {
+        if self.text.token() == Token::Word("packet") {
+            self.text_list("packet", Self::plain_number)?;
+        }
+        Ok(())
+    }
+
+    /// A word and a list in braces, which says its count before them if it ends in '...'; whether it does not.
+    fn text_list(&mut self, word: &str, mut member: impl FnMut(&mut Self) -> Read<()>) -> Read<bool> {
         let (index, at) = (self.items.len(), self.text.at());
-        self.text.expect_word("entries")?;
+        self.text.expect_word(word)?;
         let stated = match self.text.token() {
             Token::Number(_) => Some(self.text.number("a count")?),
             _ => None,
@@ -32,7 +45,7 @@ impl Maker<'_> {
         self.text.expect("{")?;
         let mut count = 0;
         while !matches!(self.text.token(), Token::Symbol("}" | "...")) {
-            self.entry(program)?;
+            member(self)?;
             count += 1;
         }
         let dots = self.text.takes("...");
@@ -40,8 +53,10 @@ impl Maker<'_> {
         match (stated, dots) {
             (None, false) => self.items[index].number = count,
             (Some(_), true) => {}
-            (None, true) => return Err(Fault::new(at, "entries that end in '...' say their count: entries 5 {")),
-            (Some(_), false) => return Err(Fault::new(at, "only entries that end in '...' say their count")),
+            (None, true) => {
+                return Err(Fault::new(at, format!("a list that ends in '...' says its count: {word} 5 {{")));
+            }
+            (Some(_), false) => return Err(Fault::new(at, "only a list that ends in '...' says its count")),
         }
         Ok(!dots)
     }
@@ -117,13 +132,13 @@ impl Maker<'_> {
         }
     }
 
-    /// A value for each global in order, up to `...`.
-    fn store(&mut self, program: &Program) -> Read<()> {
+    /// A value for each global in order, up to `...`; whether all are there.
+    fn store(&mut self, program: &Program) -> Read<bool> {
         self.text.expect_word("store")?;
         self.text.expect("{")?;
         for (number, global) in program.globals.iter().enumerate() {
             if self.text.takes("...") {
-                break;
+                return self.text.expect("}").map(|()| false);
             }
             self.next_global(number)?;
             self.text.expect("=")?;
@@ -133,7 +148,7 @@ impl Maker<'_> {
             }
             self.text.semicolon()?;
         }
-        self.text.expect("}")
+        self.text.expect("}").map(|()| true)
     }
 
     /// The name of the global whose value has its turn.
@@ -172,10 +187,15 @@ impl Maker<'_> {
         }
         self.text.expect("{")?;
         while !self.text.takes("}") {
-            let at = self.text.at();
-            let number = self.text.number("a number")?;
-            self.push(number, at);
+            self.plain_number()?;
         }
+        Ok(())
+    }
+
+    fn plain_number(&mut self) -> Read<()> {
+        let at = self.text.at();
+        let number = self.text.number("a number")?;
+        self.push(number, at);
         Ok(())
     }
 }

@@ -6,6 +6,7 @@ mod inputs;
 mod names;
 mod program;
 mod statements;
+mod states;
 mod tags;
 mod tokens;
 
@@ -14,7 +15,7 @@ use crate::source::Fault;
 use cursor::Cursor;
 use names::Names;
 use second::numbers::{self, Number, MOST_BYTES};
-use second::shape::{self, DEEPEST};
+use second::shape::{self, DEEPEST, LATEST};
 use second::tree::Program;
 
 type Read<T> = Result<T, Fault>;
@@ -24,8 +25,13 @@ const DEEPEST_TEXT: usize = 4 * DEEPEST;
 
 /// The bytes that a text stands for. The file passes refusals 1 to 5.
 pub fn make(text: &str) -> Result<Vec<u8>, Fault> {
+    make_up_to(text, LATEST)
+}
+
+/// The same where files are read up to another version.
+pub fn make_up_to(text: &str, latest: u64) -> Result<Vec<u8>, Fault> {
     let text = Cursor::new(tokens::read(text)?);
-    let mut maker = Maker { text, items: Vec::new(), names: Names::default(), depth: 0 };
+    let mut maker = Maker { text, latest, items: Vec::new(), names: Names::default(), depth: 0 };
     maker.program()?;
     let program = maker.shaped()?;
     maker.inputs(&program)?;
@@ -34,6 +40,7 @@ pub fn make(text: &str) -> Result<Vec<u8>, Fault> {
 
 struct Maker<'a> {
     text: Cursor<'a>,
+    latest: u64,
     /// The file's numbers.
     items: Vec<Item<'a>>,
     names: Names<'a>,
@@ -45,7 +52,7 @@ struct Maker<'a> {
 struct Item<'a> {
     number: u64,
     at: usize,
-    /// What the number is looked up by, once all callables and tables are declared.
+    /// What the number is looked up by, once all callables, tables and states are declared.
     name: Option<(Sort, &'a str)>,
 }
 
@@ -54,7 +61,7 @@ impl<'a> Maker<'a> {
         self.items.push(Item { number, at, name: None });
     }
 
-    /// The number of a callable or a table.
+    /// The number of a callable, a table or a state.
     fn push_name(&mut self, sort: Sort, name: &'a str, at: usize) {
         self.items.push(Item { number: 0, at, name: Some((sort, name)) });
     }
@@ -103,12 +110,13 @@ impl<'a> Maker<'a> {
         outcome
     }
 
-    /// Look up the names of callables and tables, now that all are declared.
+    /// Look up the names of callables, tables and states, now that all are declared.
     fn resolve(&mut self) -> Read<()> {
         for item in &mut self.items {
             item.number = match item.name {
                 None => item.number,
                 Some((Sort::Table, name)) => self.names.table(name, item.at)?,
+                Some((Sort::State, name)) => self.names.state(name, item.at)?,
                 Some((_, name)) => self.names.callable(name, item.at)?,
             };
         }
@@ -123,12 +131,12 @@ impl<'a> Maker<'a> {
     fn shaped(&self) -> Read<Program> {
         let place = |(place, value)| Number { value, place };
         let numbers: Vec<Number> = self.numbers().into_iter().enumerate().map(place).collect();
-        let refusal = match shape::read(&numbers, numbers.len()) {
+        let refusal = match shape::read(&numbers, numbers.len(), self.latest) {
             Ok((program, _)) => return Ok(program),
             Err(refusal) => refusal,
         };
         let at = self.items[refusal.place].at;
-        match shape::wanted(&numbers, numbers.len()) {
+        match shape::wanted(&numbers, numbers.len(), self.latest) {
             Some(wanted) if refusal.number == 4 => {
                 Err(Fault::new(at, format!("expected {wanted}, not {}", numbers[refusal.place].value)))
             }

@@ -16,6 +16,7 @@ pub struct Names<'a> {
     pub header_types: Vec<Option<u64>>,
     pub callables: Vec<&'a str>,
     pub tables: Vec<&'a str>,
+    pub states: Vec<&'a str>,
     /// Those of the callable at hand.
     pub parameters: Vec<&'a str>,
     pub locals: Vec<&'a str>,
@@ -83,5 +84,10 @@ impl<'a> Names<'a> {
     pub fn table(&self, name: &str, at: usize) -> Read<u64> {
         let number = position(&self.tables, name).or_else(|| Sort::Table.number(name));
         found(number, name, "table", at)
+    }
+
+    pub fn state(&self, name: &str, at: usize) -> Read<u64> {
+        let number = position(&self.states, name).or_else(|| Sort::State.number(name));
+        found(number, name, "state", at)
     }
 }

@@ -1,13 +1,16 @@
-//! Header types, globals, callables, tables and the apply body, from text to numbers.
+//! Header types, globals, callables, tables and the apply body, from text to numbers. The states are read elsewhere.
 
 use super::names::declare;
 use super::tags::statement::BLOCK;
 use super::tokens::Token;
 use super::{Maker, Read};
 use crate::source::Fault;
+use second::tree::FIRST_WITH_PARSER;
 
 const MOST_HEADERS: u64 = 8;
 const ORDER: &str = "in order: header types, globals, actions and functions, tables, apply, entries, store";
+const ORDER_WITH_PARSER: &str =
+    "in order: header types, globals, actions and functions, tables, states, apply, entries, store, packet";
 
 impl<'a> Maker<'a> {
     pub fn program(&mut self) -> Read<()> {
@@ -16,8 +19,10 @@ impl<'a> Maker<'a> {
         self.list(Self::global)?;
         self.list(Self::callable)?;
         self.list(Self::table)?;
+        self.states()?;
         if !self.text.takes_word("apply") {
-            return self.text.expected(&format!("'apply' ({ORDER})"));
+            let order = if self.latest < FIRST_WITH_PARSER { ORDER } else { ORDER_WITH_PARSER };
+            return self.text.expected(&format!("'apply' ({order})"));
         }
         self.text.expect("{")?;
         self.body()?;
@@ -92,7 +97,7 @@ impl<'a> Maker<'a> {
     fn is_declaration(&self, of_function: bool) -> bool {
         let type_length = if self.text.token() == Token::Word("bit") { 4 } else { 1 };
         let opens = self.text.ahead(type_length + 1) == Token::Symbol("(");
-        (self.is_plain_type() || self.text.is_name()) && opens == of_function
+        (self.is_plain_type() || self.text.is_name()) && opens == of_function && !self.is_state()
     }
 
     fn global(&mut self) -> Read<bool> {
@@ -166,11 +171,16 @@ impl<'a> Maker<'a> {
         self.text.semicolon().map(|()| true)
     }
 
-    /// The statements of a body: a block, unless there is exactly one.
     fn body(&mut self) -> Read<()> {
+        self.body_up_to(|maker| maker.text.token() == Token::Symbol("}"))?;
+        self.text.expect("}")
+    }
+
+    /// The statements of a body: a block, unless there is exactly one.
+    pub fn body_up_to(&mut self, end: impl Fn(&Self) -> bool) -> Read<()> {
         let (start, at) = (self.items.len(), self.text.at());
         let mut count = 0;
-        while !self.text.takes("}") {
+        while !end(self) {
             self.statement()?;
             count += 1;
         }

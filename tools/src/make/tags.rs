@@ -29,4 +29,14 @@ pub mod statement {
     pub const EXIT: u64 = 8;
     pub const SET_VALID: u64 = 9;
     pub const SET_INVALID: u64 = 10;
+    pub const EXTRACT: u64 = 11;
+    pub const VERIFY: u64 = 12;
+}
+
+pub mod transition {
+    pub const NONE: u64 = 0;
+    pub const ACCEPT: u64 = 1;
+    pub const REJECT: u64 = 2;
+    pub const NEXT: u64 = 3;
+    pub const SELECT: u64 = 4;
 }

@@ -37,7 +37,11 @@ impl Writer<'_> {
             Concatenation(left, right) => self.binary(CONCATENATION, left, right),
             Call(call) => self.call(call),
         }
-        self.page.mark(expression.place, part(&expression.form), start);
+        let part = match expression.form {
+            Call(_) if self.in_state => Part::CallInState,
+            _ => part(&expression.form),
+        };
+        self.page.mark(expression.place, part, start);
     }
 
     /// The regular name of a number that names something.
@@ -142,6 +146,7 @@ fn name_part(sort: Sort) -> Part {
         Sort::Parameter => Part::ParameterName,
         Sort::Local => Part::LocalName,
         Sort::Table => Part::TableName,
+        Sort::State => Part::StateName,
     }
 }
 

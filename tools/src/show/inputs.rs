@@ -1,8 +1,8 @@
-//! Entries and store as text, and the numbers that are cut into neither.
+//! Entries, store and packet as text, and the numbers that are cut into none of them.
 
 use super::{plain_value, Part, Writer};
 use crate::names::Sort;
-use second::cut::{self, Entries, Entry, Pattern, Store, Variable};
+use second::cut::{self, Entries, Entry, Packet, Pattern, Store, Variable};
 use second::numbers::Number;
 use second::tree::*;
 
@@ -22,8 +22,15 @@ impl Writer<'_> {
         }
         let store = cut::store(self.program, entries.rest);
         self.store(&store, length);
-        let part = if self.is_whole(&store) { Part::LeftOver } else { Part::Uncut };
-        self.numbers(store.rest, part, part, length);
+        if !self.is_whole(&store) {
+            self.numbers(store.rest, Part::Uncut, Part::Uncut, length);
+        } else if self.program.has_parser() {
+            let packet = cut::packet(store.rest);
+            self.packet(&packet, length);
+            self.numbers(packet.rest, Part::BehindPacket, Part::BehindPacket, length);
+        } else {
+            self.numbers(store.rest, Part::LeftOver, Part::LeftOver, length);
+        }
     }
 
     /// The text's last character is where a number is missed, if nothing follows.
@@ -123,6 +130,32 @@ impl Writer<'_> {
         }
     }
 
+    fn packet(&mut self, packet: &Packet, length: usize) {
+        let Some(count) = packet.count else { return self.mark_end(length) };
+        self.page.new_section();
+        let head = if packet.is_all_there() { "packet".to_string() } else { format!("packet {}", count.value) };
+        self.page.write_marked(&head, count.place, Part::PacketCount);
+        self.page.write(" ");
+        self.page.open();
+        for (index, byte) in packet.bytes.iter().enumerate() {
+            self.next_number(index);
+            self.page.write_marked(&format!("{:#04x}", byte.value), byte.place, Part::PacketByte);
+        }
+        if !packet.is_all_there() {
+            self.dots(length);
+        }
+        self.page.close();
+    }
+
+    /// What separates the number of a list at an index from the one before.
+    fn next_number(&mut self, index: usize) {
+        if index.is_multiple_of(NUMBERS_A_LINE) {
+            self.page.new_line();
+        } else {
+            self.page.write(" ");
+        }
+    }
+
     /// What is not cut, number by number.
     fn numbers(&mut self, numbers: &[Number], first: Part, others: Part, length: usize) {
         if numbers.is_empty() {
@@ -132,11 +165,7 @@ impl Writer<'_> {
         self.page.write("numbers ");
         self.page.open();
         for (index, number) in numbers.iter().enumerate() {
-            if index % NUMBERS_A_LINE == 0 {
-                self.page.new_line();
-            } else {
-                self.page.write(" ");
-            }
+            self.next_number(index);
             let part = if index == 0 { first } else { others };
             self.page.write_marked(&number.value.to_string(), number.place, part);
         }

@@ -18,7 +18,7 @@ pub struct Mark {
     pub end: usize,
 }
 
-/// What a number is that a refusal from 6 to 12 may be charged to.
+/// What a number is that a refusal from 6 to 12, or 16, may be charged to.
 #[derive(Clone, Copy, Debug, PartialEq, Eq)]
 pub enum Part {
     GlobalType,
@@ -58,6 +58,16 @@ pub enum Part {
     Return,
     Exit,
     SetValid,
+    Extract,
+    Verify,
+
+    StateName,
+    Selected,
+    SelectValue,
+    /// A call in a state.
+    CallInState,
+    /// Another construct that does not stand in a state: apply, return, exit.
+    BarredInState,
 
     /// The version's place, which a ceiling is charged to.
     ApplyBody,
@@ -71,9 +81,12 @@ pub enum Part {
     StoreValue,
     ValidMark,
     StoreField,
+    PacketCount,
+    PacketByte,
     /// A number that is not cut out, but is no entry's first one and not left over.
     Uncut,
     LeftOver,
+    BehindPacket,
     /// Where the numbers end too early.
     Missing,
 }

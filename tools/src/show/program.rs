@@ -1,4 +1,4 @@
-//! A program as text: header types, globals, callables, tables, the apply body.
+//! A program as text: header types, globals, callables, tables, the apply body. The states are written elsewhere.
 
 use super::{plain_value, Part, Writer};
 use crate::names::Sort;
@@ -18,6 +18,7 @@ impl Writer<'_> {
         for (number, table) in program.tables.iter().enumerate() {
             self.table(number, table);
         }
+        self.states();
         self.apply_body(&program.apply_body);
     }
 
@@ -68,6 +69,12 @@ impl Writer<'_> {
             self.page.new_line();
             self.page.write(&format!("{} {};", type_text(local), Sort::Local.name(number as u64)));
         }
+        self.members(body);
+        self.page.close();
+    }
+
+    /// The statements that stand between a body's braces.
+    pub fn members(&mut self, body: &Statement) {
         let members = match &body.form {
             StatementForm::Block(members) if members.len() != 1 => members.as_slice(),
             _ => std::slice::from_ref(body),
@@ -76,7 +83,6 @@ impl Writer<'_> {
             self.page.new_line();
             self.statement(member);
         }
-        self.page.close();
     }
 
     fn apply_body(&mut self, body: &Statement) {

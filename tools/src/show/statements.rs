@@ -24,7 +24,7 @@ impl Writer<'_> {
             }
             single => {
                 self.single(single);
-                if let Some(part) = part(single) {
+                if let Some(part) = self.part(single) {
                     self.page.mark(statement.place, part, start);
                 }
                 self.page.write(";");
@@ -55,6 +55,27 @@ impl Writer<'_> {
             Exit => self.page.write("exit"),
             SetValid(global) => self.method(*global, "setValid()"),
             SetInvalid(global) => self.method(*global, "setInvalid()"),
+            Extract(global) => {
+                self.page.write("packet.extract(");
+                self.name(Sort::Global, *global);
+                self.page.write(")");
+            }
+            Verify { condition, error } => {
+                self.page.write("verify(");
+                self.expression(condition);
+                self.page.write(&format!(", {error})"));
+            }
+        }
+    }
+
+    /// What a statement's tag is here, where a refusal may be charged to it.
+    fn part(&self, form: &StatementForm) -> Option<Part> {
+        match part(form) {
+            Some(Part::Call) if self.in_state => Some(Part::CallInState),
+            Some(Part::Apply | Part::ReturnValue | Part::Return | Part::Exit) if self.in_state => {
+                Some(Part::BarredInState)
+            }
+            part => part,
         }
     }
 
@@ -103,7 +124,7 @@ impl Writer<'_> {
     }
 }
 
-/// What a statement's tag is, where a refusal may be charged to it.
+/// What a statement's tag is outside states.
 fn part(form: &StatementForm) -> Option<Part> {
     use StatementForm::*;
     match form {
@@ -116,5 +137,7 @@ fn part(form: &StatementForm) -> Option<Part> {
         Return => Some(Part::Return),
         Exit => Some(Part::Exit),
         SetValid(_) | SetInvalid(_) => Some(Part::SetValid),
+        Extract(_) => Some(Part::Extract),
+        Verify { .. } => Some(Part::Verify),
     }
 }

@@ -4,18 +4,22 @@
 use second::generate::Random;
 use second::numbers;
 use second::shape::DEEPEST;
+use second::tree::FIRST_WITH_PARSER;
 
 /// How many numbers a program has at most, roughly.
 const LARGEST: usize = 400;
 
-pub fn wild_file(seed: u64) -> Vec<u8> {
+pub fn wild_file(seed: u64, version: u64) -> Vec<u8> {
     let mut random = Random::new(seed);
     let ends = random.choose(&[2, 20, 40]);
-    let mut wild = Wild { random, numbers: vec![1], ends };
+    let mut wild = Wild { random, numbers: vec![version], ends, has_parser: version >= FIRST_WITH_PARSER };
     wild.list(0, 3, |wild| wild.list(1, 3, Wild::width));
     wild.list(0, 4, Wild::global);
     wild.list(0, 4, Wild::callable);
     wild.list(0, 3, Wild::table);
+    if wild.has_parser {
+        wild.list(1, 4, Wild::state);
+    }
     wild.statement(1);
     for _ in 0..wild.random.between(0, 20) {
         wild.any();
@@ -28,6 +32,7 @@ struct Wild {
     numbers: Vec<u64>,
     /// How often, of a hundred, a construct holds nothing that could be left out: the fewer, the deeper.
     ends: u64,
+    has_parser: bool,
 }
 
 impl Wild {
@@ -88,6 +93,26 @@ impl Wild {
         self.list(0, 3, Wild::any);
     }
 
+    fn state(&mut self) {
+        self.statement(1);
+        match self.draw(0, 4) {
+            2 => self.error(),
+            3 => self.any(),
+            4 => {
+                self.expression(1, 0, 13);
+                self.list(0, 4, |wild| {
+                    wild.any();
+                    wild.any();
+                });
+            }
+            _ => {}
+        }
+    }
+
+    fn error(&mut self) {
+        self.draw(0, 255);
+    }
+
     /// Whether what stands at this depth can hold something.
     fn is_last(&mut self, depth: usize) -> bool {
         depth == DEEPEST || self.numbers.len() > LARGEST || self.random.chance(self.ends)
@@ -139,7 +164,10 @@ impl Wild {
 
     fn statement(&mut self, depth: usize) {
         let last = self.is_last(depth);
-        let tag = if last { self.random.choose(&[0, 4, 5, 7, 8, 9, 10]) } else { self.random.between(0, 10) };
+        let holding_nothing: &[u64] =
+            if self.has_parser { &[0, 4, 5, 7, 8, 9, 10, 11] } else { &[0, 4, 5, 7, 8, 9, 10] };
+        let most = if self.has_parser { 12 } else { 10 };
+        let tag = if last { self.random.choose(holding_nothing) } else { self.random.between(0, most) };
         self.numbers.push(tag);
         match tag {
             1 => {
@@ -153,8 +181,12 @@ impl Wild {
             }
             3 => self.list(0, 4, |wild| wild.statement(depth + 1)),
             4 => self.call(depth),
-            5 | 9 | 10 => self.any(),
+            5 | 9 | 10 | 11 => self.any(),
             6 => self.expression(depth + 1, 0, 13),
+            12 => {
+                self.expression(depth + 1, 0, 13);
+                self.error();
+            }
             _ => {}
         }
     }

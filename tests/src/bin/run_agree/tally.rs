@@ -71,6 +71,7 @@ fn kind(answer: &Answer) -> (&'static str, u8) {
         Answer::Refused(refusal) => ("refused", refusal.number),
         Answer::Finished { signal: Signal::Done, .. } => ("done", 0),
         Answer::Finished { signal: Signal::Exit, .. } => ("exit", 0),
+        Answer::Finished { signal: Signal::Reject(_), .. } => ("reject", 0),
         Answer::Stuck => ("stuck", 0),
         Answer::TooLong => ("too long", 0),
     }
