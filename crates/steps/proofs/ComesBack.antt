@@ -7,7 +7,7 @@ use native.Mathlib.Omega.{arith}
 use lib.ListN.{length, getD}
 use Rattle.rules.specs.Syntax.{Value, Expr, Args, noArgs, arg, Parameter}
 use Rattle.rules.specs.Form.{comesBack, Scope}
-use Rattle.rules.specs.Running.{State, Ending, onward, returned, returnedValue, exited, Out, done, M, next, _>>=_, pure, inTurn, comeBack, afterBody, afterCall}
+use Rattle.rules.specs.Running.{State, Ending, onward, returned, returnedValue, Out, done, M, next, _>>=_, pure, inTurn, comeBack, afterBody, afterCall}
 use Rattle.rules.proofs.Predicates.{All2, cons}
 use Rattle.rules.proofs.Fits.{FitParameter}
 use Rattle.program.specs.Codes.{argCount}
@@ -15,8 +15,8 @@ use Rattle.program.specs.Stands.{StandsExpr, StandsArgs, on-arg, StandsParamete
 use Rattle.program.proofs.Views.{expr-begins, no-args}
 use Rattle.values.specs.Claims.{valueOf}
 use Rattle.steps.specs.declared.Ended.{Ended}
-use Rattle.steps.specs.declared.Ended.the-variants.{Onward, Returned, ReturnedValue, Exited}
-use Rattle.steps.specs.Outcomes.{Goes, Ran, Gave, Ends, ends-onward, ends-returned, ends-value, ends-exited}
+use Rattle.steps.specs.declared.Ended.the-variants.{Onward, Returned, ReturnedValue, Exited, Rejected}
+use Rattle.steps.specs.Outcomes.{Goes, Ran, Gave, Ends, ends-onward, ends-returned, ends-value, ends-exited, ends-rejected, EndsRun, by-exit, by-reject}
 use Rattle.steps.specs.Calls.{ownOf, AsksOwn, Owns, oneBack, LeftOne, AsksOneBack, RanBack, BacksOne, Left, AsksBack, Backs, TellsBack, AsksFinish, Finishes, AfterCall, Returns}
 use Rattle.steps.proofs.Backs.{none-is}
 use Rattle.steps.proofs.Going.{Begun, not-nowhere, then-goes, rest-from, more-none, ran-here, ran-then}
@@ -239,25 +239,29 @@ module _ (nums directory ends scope slots frame : List ℕ) (at parameters count
 
 pub ruleset coming = (first-asks, next-inside, list-low, slot-low, rest-asks, backs-all, backs-none)
 
--- behind the callee's body: the endings that are no exit
+-- behind the callee's body: the endings that do not end the run
 pub data Stays : Ended → Type 0 where
   stays-onward : Stays Onward
   stays-returned : Stays Returned
   stays-value : {ty number : ℕ} → Stays (ReturnedValue ty number)
 
-no-exit : (ended r : Ended) → ended ≡ r → Stays r → ended ≡ Exited → ⊥
-no-exit ended r e stays-onward q = let z : _≡_ {A = ℕ} 0 1 = cc in omega arith
-no-exit ended r e stays-returned q = let z : _≡_ {A = ℕ} 0 1 = cc in omega arith
-no-exit ended r e stays-value q = let z : _≡_ {A = ℕ} 0 1 = cc in omega arith
+stays-on : (ended r : Ended) → ended ≡ r → Stays r → EndsRun ended → ⊥
+stays-on ended r e stays-onward by-exit = let z : _≡_ {A = ℕ} 0 1 = cc in omega arith
+stays-on ended r e stays-returned by-exit = let z : _≡_ {A = ℕ} 0 1 = cc in omega arith
+stays-on ended r e stays-value by-exit = let z : _≡_ {A = ℕ} 0 1 = cc in omega arith
+stays-on ended r e stays-onward by-reject = let z : _≡_ {A = ℕ} 0 1 = cc in omega arith
+stays-on ended r e stays-returned by-reject = let z : _≡_ {A = ℕ} 0 1 = cc in omega arith
+stays-on ended r e stays-value by-reject = let z : _≡_ {A = ℕ} 0 1 = cc in omega arith
 
 module _ (nums directory ends scope slots frame : List ℕ) (at parameters count : ℕ) where
   after-goes : (Γ : Scope) (s : State) (ended : Ended) (ending : Ending) (m : M State (Unit {0})) (counted : ℕ)
-      → Ends ended ending → (ended ≡ Exited → ⊥) → Goes counted (afterBody ending m s) → Goes counted (m s)
+      → Ends ended ending → (EndsRun ended → ⊥) → Goes counted (afterBody ending m s) → Goes counted (m s)
   unfolding afterBody
   after-goes Γ s ended ending m counted ends-onward x g = then-goes m _ s g .first
   after-goes Γ s ended ending m counted ends-returned x g = then-goes m _ s g .first
   after-goes Γ s ended ending m counted (ends-value v) x g = then-goes m _ s g .first
-  after-goes Γ s ended ending m counted ends-exited x g = absurd (x refl)
+  after-goes Γ s ended ending m counted ends-exited x g = absurd (x by-exit)
+  after-goes Γ s ended ending m counted ends-rejected x g = absurd (x by-reject)
 
   module _ (ended : Ended) (a : AsksFinish nums directory ends scope slots frame at parameters count ended) where
     pub finish-low : at + 3 < 2 ^ 64
@@ -290,7 +294,7 @@ module _ (nums directory ends scope slots frame : List ℕ) (at parameters count
         })
 
   after-ran : (slots′ frame′ : List ℕ) (Γ : Scope) (s : State) (ended : Ended) (ending : Ending)
-      (m : M State (Unit {0})) → Ends ended ending → (ended ≡ Exited → ⊥)
+      (m : M State (Unit {0})) → Ends ended ending → (EndsRun ended → ⊥)
       → Ran nums directory ends scope slots slots′ frame frame′ Γ (m s) (λ _. Unit {0})
       → Ran nums directory ends scope slots slots′ frame frame′ Γ (afterBody ending m s) (Ends ended)
   unfolding afterBody pure
@@ -300,7 +304,8 @@ module _ (nums directory ends scope slots frame : List ℕ) (at parameters count
       ran-then m _ s r (ran-here (r .state) returned (r .scene) refl ends-returned)
   after-ran slots′ frame′ Γ s ended ending m (ends-value v) x r =
       ran-then m _ s r (ran-here (r .state) (returnedValue _) (r .scene) refl (ends-value v))
-  after-ran slots′ frame′ Γ s ended ending m ends-exited x r = absurd (x refl)
+  after-ran slots′ frame′ Γ s ended ending m ends-exited x r = absurd (x by-exit)
+  after-ran slots′ frame′ Γ s ended ending m ends-rejected x r = absurd (x by-reject)
 
   pub finish-done : (slots′ frame′ : List ℕ) (ended : Ended) (b : Bool) (own : ℕ) → TellsBack ended b → b ≡ true
       → Owns scope own → Backs nums directory ends scope slots slots′ frame frame′ (at + 3) parameters count own
@@ -315,56 +320,68 @@ module _ (nums directory ends scope slots frame : List ℕ) (at parameters count
         (after-goes Γ s ended ending (comeBack Γ xs ps ns) counted q (t .back e) g));
   }
 
-  exit-is : (Γ : Scope) (s : State) (ended : Ended) (ending : Ending) (m : M State (Unit {0})) → Ends ended ending
-      → ended ≡ Exited → afterBody ending m s ≡ done exited s []
+  over-is : (Γ : Scope) (s : State) (ended r : Ended) (ending : Ending) (m : M State (Unit {0})) → Ends ended ending
+      → ended ≡ r → EndsRun r → afterBody ending m s ≡ done ending s []
   unfolding afterBody pure
-  exit-is Γ s ended ending m ends-onward e = let z : _≡_ {A = ℕ} 0 1 = cc in absurd (omega arith)
-  exit-is Γ s ended ending m ends-returned e = let z : _≡_ {A = ℕ} 0 1 = cc in absurd (omega arith)
-  exit-is Γ s ended ending m (ends-value v) e = let z : _≡_ {A = ℕ} 0 1 = cc in absurd (omega arith)
-  exit-is Γ s ended ending m ends-exited e = refl
+  over-is Γ s ended r ending m ends-onward e by-exit = let z : _≡_ {A = ℕ} 0 1 = cc in absurd (omega arith)
+  over-is Γ s ended r ending m ends-returned e by-exit = let z : _≡_ {A = ℕ} 0 1 = cc in absurd (omega arith)
+  over-is Γ s ended r ending m (ends-value v) e by-exit = let z : _≡_ {A = ℕ} 0 1 = cc in absurd (omega arith)
+  over-is Γ s ended r ending m ends-onward e by-reject = let z : _≡_ {A = ℕ} 0 1 = cc in absurd (omega arith)
+  over-is Γ s ended r ending m ends-returned e by-reject = let z : _≡_ {A = ℕ} 0 1 = cc in absurd (omega arith)
+  over-is Γ s ended r ending m (ends-value v) e by-reject = let z : _≡_ {A = ℕ} 0 1 = cc in absurd (omega arith)
+  over-is Γ s ended r ending m ends-exited e w = refl
+  over-is Γ s ended r ending m ends-rejected e w = refl
 
-  pub finish-exit : (ended : Ended) (b : Bool) → TellsBack ended b → b ≡ false
+  pub finish-over : (ended : Ended) (b : Bool) → TellsBack ended b → b ≡ false
       → Finishes nums directory ends scope slots slots frame frame at parameters count ended
-  finish-exit ended b t e = record {
-    finishes = λ Γ s xs ps ns ending counted l q g. ran-here s exited (l .scene)
-        (exit-is Γ s ended ending (comeBack Γ xs ps ns) q (t .none e)) (rw (t .none e) ends-exited);
+  finish-over ended b t e = record {
+    finishes = λ Γ s xs ps ns ending counted l q g. ran-here s ending (l .scene)
+        (over-is Γ s ended ended ending (comeBack Γ xs ps ns) q refl (t .none e)) q;
   }
 
-pub ruleset finishing = (finish-low, finish-own, finish-asks, finish-done, finish-exit)
+pub ruleset finishing = (finish-low, finish-own, finish-asks, finish-done, finish-over)
 
 pub back-told : (ended r : Ended) → ended ≡ r → Stays r → TellsBack ended true
 back-told ended r e w = record {
-  back = λ _. no-exit ended r e w;
+  back = λ _. stays-on ended r e w;
   none = λ q. let z : _≡_ {A = ℕ} 0 1 = cc in absurd (omega arith);
 }
 
-pub exit-told : (ended : Ended) → ended ≡ Exited → TellsBack ended false
-exit-told ended e = record { back = λ q. let z : _≡_ {A = ℕ} 0 1 = cc in absurd (omega arith); none = λ _. e }
+pub over-told : (ended r : Ended) → ended ≡ r → EndsRun r → TellsBack ended false
+over-told ended r e w = record {
+  back = λ q. let z : _≡_ {A = ℕ} 0 1 = cc in absurd (omega arith);
+  none = λ _. rw e w;
+}
 
-pub ruleset backTold = (back-told, exit-told, stays-onward, stays-returned, stays-value)
+pub ruleset backTold = (back-told, over-told, stays-onward, stays-returned, stays-value, by-exit, by-reject)
 
 -- a statement that calls
-exits-told : (ended : Ended) (ending : Ending) → Ends ended ending → ended ≡ Exited → Ends Exited (afterCall ending)
+over-after : (ended r : Ended) (ending : Ending) → Ends ended ending → ended ≡ r → EndsRun r → Ends r (afterCall ending)
 unfolding afterCall
-exits-told ended ending ends-onward e = let z : _≡_ {A = ℕ} 0 1 = cc in absurd (omega arith)
-exits-told ended ending ends-returned e = let z : _≡_ {A = ℕ} 0 1 = cc in absurd (omega arith)
-exits-told ended ending (ends-value v) e = let z : _≡_ {A = ℕ} 0 1 = cc in absurd (omega arith)
-exits-told ended ending ends-exited e = ends-exited
+over-after ended r ending ends-onward e by-exit = let z : _≡_ {A = ℕ} 0 1 = cc in absurd (omega arith)
+over-after ended r ending ends-returned e by-exit = let z : _≡_ {A = ℕ} 0 1 = cc in absurd (omega arith)
+over-after ended r ending (ends-value v) e by-exit = let z : _≡_ {A = ℕ} 0 1 = cc in absurd (omega arith)
+over-after ended r ending ends-onward e by-reject = let z : _≡_ {A = ℕ} 0 1 = cc in absurd (omega arith)
+over-after ended r ending ends-returned e by-reject = let z : _≡_ {A = ℕ} 0 1 = cc in absurd (omega arith)
+over-after ended r ending (ends-value v) e by-reject = let z : _≡_ {A = ℕ} 0 1 = cc in absurd (omega arith)
+over-after ended r ending ends-exited e w = rw (← e) ends-exited
+over-after ended r ending ends-rejected e w = rw (← e) ends-rejected
 
-goes-told : (ended : Ended) (ending : Ending) → Ends ended ending → (ended ≡ Exited → ⊥) → Ends Onward (afterCall ending)
+goes-told : (ended : Ended) (ending : Ending) → Ends ended ending → (EndsRun ended → ⊥) → Ends Onward (afterCall ending)
 unfolding afterCall
 goes-told ended ending ends-onward x = ends-onward
 goes-told ended ending ends-returned x = ends-onward
 goes-told ended ending (ends-value v) x = ends-onward
-goes-told ended ending ends-exited x = absurd (x refl)
+goes-told ended ending ends-exited x = absurd (x by-exit)
+goes-told ended ending ends-rejected x = absurd (x by-reject)
 
-pub call-exits : (ended : Ended) → ended ≡ Exited → AfterCall ended Exited
-call-exits ended e = record { goesOn = λ ending t. exits-told ended ending t e }
+pub call-over : (ended r : Ended) → ended ≡ r → EndsRun r → AfterCall ended r
+call-over ended r e w = record { goesOn = λ ending t. over-after ended r ending t e w }
 
 pub call-goes : (ended r : Ended) → ended ≡ r → Stays r → AfterCall ended Onward
-call-goes ended r e w = record { goesOn = λ ending t. goes-told ended ending t (no-exit ended r e w) }
+call-goes ended r e w = record { goesOn = λ ending t. goes-told ended ending t (stays-on ended r e w) }
 
-pub ruleset afterCalls = (call-exits, call-goes, stays-onward, stays-returned, stays-value)
+pub ruleset afterCalls = (call-over, call-goes, stays-onward, stays-returned, stays-value, by-exit, by-reject)
 
 -- the value of a call
 value-told : (ended : Ended) (ending : Ending) (ty number : ℕ) (v : Value) → Ends ended ending
@@ -377,6 +394,7 @@ value-told ended ending ty number v (ends-value {ty = t} {number = n} w) e q =
     let made : v ≡ valueOf t n = cc in
     record { is = rw (← same, ← equal) made; isValue = rw (same, equal) at w }
 value-told ended ending ty number v ends-exited e q = let z : _≡_ {A = ℕ} 0 1 = cc in absurd (omega arith)
+value-told ended ending ty number v ends-rejected e q = let z : _≡_ {A = ℕ} 0 1 = cc in absurd (omega arith)
 
 pub value-returned : (ended : Ended) (ty number : ℕ) → ended ≡ ReturnedValue ty number → Returns ended ty number
 value-returned ended ty number e = record { is = λ v t. value-told ended (returnedValue v) ty number v t e refl }
@@ -387,6 +405,7 @@ no-value ended r ending v ends-onward q e x = let z : _≡_ {A = ℕ} 0 1 = cc i
 no-value ended r ending v ends-returned q e x = let z : _≡_ {A = ℕ} 0 1 = cc in absurd (omega arith)
 no-value ended r ending v (ends-value {ty = t} {number = n} w) q e x = absurd (x t n (sym e))
 no-value ended r ending v ends-exited q e x = let z : _≡_ {A = ℕ} 0 1 = cc in absurd (omega arith)
+no-value ended r ending v ends-rejected q e x = let z : _≡_ {A = ℕ} 0 1 = cc in absurd (omega arith)
 
 pub onward-returned : (ended : Ended) → ended ≡ Onward → Returns ended 0 0
 onward-returned ended e = record {
@@ -406,4 +425,10 @@ exit-returned ended e = record {
       let z : _≡_ {A = ℕ} 0 1 = cc in omega arith;
 }
 
-pub ruleset returning = (value-returned, onward-returned, plain-returned, exit-returned)
+pub reject-returned : (ended : Ended) (error : ℕ) → ended ≡ Rejected error → Returns ended 0 0
+reject-returned ended error e = record {
+  is = λ v t. no-value ended (Rejected error) (returnedValue v) v t refl e λ ty number q.
+      let z : _≡_ {A = ℕ} 0 1 = cc in omega arith;
+}
+
+pub ruleset returning = (value-returned, onward-returned, plain-returned, exit-returned, reject-returned)

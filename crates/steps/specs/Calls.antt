@@ -16,8 +16,7 @@ use Rattle.program.specs.Scopes.{StandsScope}
 use Rattle.store.specs.Mirrors.{Scene}
 use Rattle.store.specs.Changes.{KeepsFree}
 use Rattle.steps.specs.declared.Ended.{Ended}
-use Rattle.steps.specs.declared.Ended.the-variants.{Exited}
-use Rattle.steps.specs.Outcomes.{Goes, Ran, Gave, Ends, Laid}
+use Rattle.steps.specs.Outcomes.{Goes, Ran, Gave, Ends, EndsRun, Laid}
 
 -- the slots of a body's own
 abbrev pub ownOf : Scope → ℕ
@@ -117,8 +116,8 @@ pub record Backs (nums directory ends scope slots slots′ frame frame′ : List
 
 -- whether they come back, by how the callee's body ended
 pub record TellsBack (ended : Ended) (r : Bool) : Type 0 where
-  pub back : r ≡ true → ended ≡ Exited → ⊥
-  pub none : r ≡ false → ended ≡ Exited
+  pub back : r ≡ true → EndsRun ended → ⊥
+  pub none : r ≡ false → EndsRun ended
 
 -- the same behind the callee's body, which ended in some way: the call's tag is given, and the slots are the first free ones
 pub record AsksFinish (nums directory ends scope slots frame : List ℕ) (at parameters count : ℕ) (ended : Ended)

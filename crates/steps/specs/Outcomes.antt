@@ -7,11 +7,11 @@ use lib.ListN.{length, getD, set}
 use Rattle.rules.specs.Syntax.{Value}
 use Rattle.rules.specs.Form.{Scope}
 use Rattle.rules.specs.Ceiling.{mostSteps}
-use Rattle.rules.specs.Running.{State, Ending, onward, returned, returnedValue, exited, Seen, Out, done}
+use Rattle.rules.specs.Running.{State, Ending, onward, returned, returnedValue, exited, rejected, Seen, Out, done}
 use Rattle.values.specs.Claims.{valueOf, IsValue}
 use Rattle.store.specs.Mirrors.{counterSlot, storeSlots, Scene}
 use Rattle.steps.specs.declared.Ended.{Ended}
-use Rattle.steps.specs.declared.Ended.the-variants.{Onward, Returned, ReturnedValue, Exited}
+use Rattle.steps.specs.declared.Ended.the-variants.{Onward, Returned, ReturnedValue, Exited, Rejected}
 
 -- so many steps are counted, and the rules go on from here to an end within the steps of a judged program
 pub data Goes {S A : Type 0} (counted : ℕ) : Out S A → Type 0 where
@@ -43,6 +43,12 @@ pub data Ends : Ended → Ending → Type 0 where
   ends-returned : Ends Returned returned
   ends-value : {ty number : ℕ} → IsValue ty number → Ends (ReturnedValue ty number) (returnedValue (valueOf ty number))
   ends-exited : Ends Exited exited
+  ends-rejected : {error : ℕ} → Ends (Rejected error) (rejected error)
+
+-- the endings that end the whole run
+pub data EndsRun : Ended → Type 0 where
+  by-exit : EndsRun Exited
+  by-reject : {error : ℕ} → EndsRun (Rejected error)
 
 -- numbers one after the other in slots
 pub record Laid (slots : List ℕ) (from : ℕ) (ns : List ℕ) : Type 0 where

@@ -79,7 +79,7 @@ fn come_back(
     }
 }
 
-// Whether a body's numbers come back, by how it ended: an exit writes nothing back.
+// Whether a body's numbers come back, by how it ended: an exit and a reject write nothing back.
 fn comes_back(ended: Ended) -> bool
     ensures { λ r. ⌜ TellsBack ended r ⌝ }
 {
@@ -88,6 +88,7 @@ fn comes_back(ended: Ended) -> bool
         Ended::Returned => true,
         Ended::ReturnedValue { ty: _, number: _ } => true,
         Ended::Exited => false,
+        Ended::Rejected(_) => false,
     }
 }
 
@@ -123,7 +124,7 @@ pub fn finish_call(
     }
 }
 
-// How a statement that calls goes on: a value is dropped, an exit goes on out.
+// How a statement that calls goes on: a value is dropped, an exit and a reject go on out.
 pub fn after_call(ended: Ended) -> Ended
     ensures { λ r. ⌜ AfterCall ended r ⌝ }
 {
@@ -132,6 +133,7 @@ pub fn after_call(ended: Ended) -> Ended
         Ended::Returned => Ended::Onward,
         Ended::ReturnedValue { ty, number } => Ended::Onward,
         Ended::Exited => Ended::Exited,
+        Ended::Rejected(error) => Ended::Rejected(error),
     }
 }
 
@@ -144,5 +146,6 @@ pub fn returned(ended: Ended) -> Value
         Ended::Returned => Value { ty: 0, number: 0 },
         Ended::ReturnedValue { ty, number } => Value { ty, number },
         Ended::Exited => Value { ty: 0, number: 0 },
+        Ended::Rejected(_) => Value { ty: 0, number: 0 },
     }
 }

@@ -12,7 +12,7 @@ use Rattle.rules.specs.Lists.{Cell, slotsOfCell}
 use Rattle.rules.specs.Running.{State, change, declared, withStore, changeStore, put}
 use Rattle.rules.proofs.Predicates.{SomeOf, isSome, from-some}
 use Rattle.rules.proofs.Fits.{Fit, StateFits, put-at}
-use Rattle.store.specs.Mirrors.{Scene}
+use Rattle.store.specs.Mirrors.{counterSlot, positionSlot, MirrorsPacket, Scene}
 use Rattle.store.specs.Changes.{KeepsFree, Becomes, WritesPlace}
 use Rattle.store.proofs.Flat.{change-is, Order, under, beyond, order}
 use Rattle.store.proofs.Spots.{Names, Named}
@@ -53,6 +53,11 @@ the-some {P = P} {a = a} e (isSome {a = b} h) =
 pub same-frame : (frame : List ℕ) (own : ℕ) → KeepsFree frame frame own
 same-frame frame own = record { same = refl; free = λ i h. refl }
 
+-- the unread bytes stay where their index does
+pub packet-stays : (nums slots slots′ packet : List ℕ) → getD slots′ positionSlot 0 ≡ getD slots positionSlot 0
+    → MirrorsPacket nums slots packet → MirrorsPacket nums slots′ packet
+packet-stays nums slots slots′ packet e p = record { inside = rw e (p .inside); is = rw e (p .is) }
+
 -- a changed cell, as the rules make it, with the slots of its numbers
 pub record Made (f : Cell → Option Cell) (slots slots′ : List ℕ) (start : ℕ) (c : Cell) : Type 0 where
   pub cell : Cell
@@ -81,8 +86,10 @@ module _ (nums directory ends scope slots frame : List ℕ) (Γ : Scope) (s : St
           store = cell-changed slots (s .store) g (c .cell) (c .found) (h .store) slots′ (m .cell) (m .size)
               (m .replaced);
           frames = h .frames;
+          packet = λ p. packet-stays nums slots slots′ (s .packet) (m .replaced .behind positionSlot
+              (omega (arith, m .size, cell-inside slots (s .store) g (c .cell) (c .found) (h .store)))) (h .packet p);
         };
-        counter = m .replaced .behind _
+        counter = m .replaced .behind counterSlot
             (omega (arith, m .size, cell-inside slots (s .store) g (c .cell) (c .found) (h .store)));
         keeps = same-frame frame (length (s .parameters) + length (s .locals));
       }

@@ -1,13 +1,15 @@
--- What is declared of a global and of a field, by the global's shape.
+-- What is declared of a global and of a field, by the global's shape; a header of whole bytes.
+use mathlib.Core.Bool.{Bool, true, false}
 use mathlib.Core.Option.{Option, some}
 use mathlib.Core.Path.{_≡_, refl, ap, _∙_}
 use mathlib.Core.List.{List}
-use Prim.Native.Nat.{ℕ}
+use Prim.Native.Nat.{ℕ, _%_}
 use native.Mathlib.Omega.{arith}
 use lib.ListN.{getElem?}
+use borrow.Author.Tests.{eqb-true}
 use Rattle.rules.specs.Syntax.{Ty, bits, Program, global, field}
-use Rattle.rules.specs.Form.{andLook, onlyIf, Shape, aVariable, aHeader, globalAt, seesGlobals, Scope}
-use Rattle.rules.specs.Running.{variableTy, fieldTy, headerOnly, shapeFor, declared}
+use Rattle.rules.specs.Form.{andLook, onlyIf, Shape, aVariable, aHeader, globalAt, seesGlobals, bitsIn, wholeBytes, Scope}
+use Rattle.rules.specs.Running.{variableTy, fieldTy, headerOnly, shapeFor, declared, wholeHeader}
 use Rattle.store.proofs.Flat.{Behind, behind, only}
 
 -- a global that is seen has its shape, of whatever kind is asked for
@@ -79,3 +81,31 @@ pub shaped-header : (Γ : Scope) (g : ℕ) (widths : List ℕ) → andLook (shap
 shaped-header Γ g widths d =
     let b = seen-shape Γ g headerOnly widths d in
     b .is ∙ ap some (header-shape (b .found) widths (b .leads))
+
+-- a header of whole bytes
+record WholeShape (shape : Shape) (widths : List ℕ) : Type 0 where
+  header : headerOnly shape ≡ some widths
+  whole : bitsIn widths % 8 ≡ 0
+
+whole-shape : (shape : Shape) (widths : List ℕ) → wholeHeader shape ≡ some widths → WholeShape shape widths
+unfolding wholeHeader headerOnly
+whole-shape (aVariable t) widths e = let z : _≡_ {A = ℕ} 0 1 = cc in absurd (omega arith)
+whole-shape (aHeader ws) widths e = go (wholeBytes ws) refl e
+  where
+    go : (b : Bool) → wholeBytes ws ≡ b → onlyIf b (some ws) ≡ some widths → WholeShape (aHeader ws) widths
+    go true q r = unfold onlyIf headerOnly wholeBytes in
+        let same : ws ≡ widths = cc in
+        record { header = r; whole = rw (← same) (eqb-true (bitsIn ws % 8) 0 q) }
+    go false q r = unfold onlyIf in let z : _≡_ {A = ℕ} 0 1 = cc in absurd (omega arith)
+
+pub record WholeHeader (Γ : Scope) (g : ℕ) (widths : List ℕ) : Type 0 where
+  pub header : andLook (shapeFor Γ g) headerOnly ≡ some widths
+  pub whole : bitsIn widths % 8 ≡ 0
+
+pub shaped-whole : (Γ : Scope) (g : ℕ) (widths : List ℕ) → andLook (shapeFor Γ g) wholeHeader ≡ some widths
+    → WholeHeader Γ g widths
+unfolding andLook
+shaped-whole Γ g widths d =
+    let b = behind (shapeFor Γ g) wholeHeader widths d in
+    let k = whole-shape (b .found) widths (b .leads) in
+    record { header = rw (b .is) (k .header); whole = k .whole }

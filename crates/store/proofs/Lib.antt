@@ -1,4 +1,5 @@
 pub mod Flat
+pub mod Bits
 pub mod Spots
 pub mod Cells
 pub mod Framing
@@ -13,3 +14,5 @@ pub mod Writing
 pub mod Filling
 pub mod Sizes
 pub mod Scenes
+pub mod Streaming
+pub mod Extracting

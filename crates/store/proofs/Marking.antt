@@ -87,11 +87,11 @@ invalidated (invalidFits {ns = ns} h) = record {
 module _ (nums directory ends scope slots frame : List ℕ) (g : ℕ) (Γ : Scope) (s : State) (widths : List ℕ)
     (h : Scene nums directory ends scope slots frame Γ s)
     (is : andLook (shapeFor Γ g) headerOnly ≡ some widths) where
-  headerAt : CellOf directory (s .store) g (aHeader widths)
+  pub headerAt : CellOf directory (s .store) g (aHeader widths)
   headerAt = cell-of nums directory ends scope slots frame Γ s h g (aHeader widths)
       (shaped-header Γ g widths is)
 
-  header-inside : startOf (s .store) g + length (slotsOfCell (headerAt .cell)) < storeSlots
+  pub header-inside : startOf (s .store) g + length (slotsOfCell (headerAt .cell)) < storeSlots
   header-inside = omega (arith, cell-inside slots (s .store) g (headerAt .cell) (headerAt .found) (h .store))
 
   numbers : (j : ℕ) → j < length (slotsOfCell (headerAt .cell))
@@ -110,7 +110,7 @@ module _ (nums directory ends scope slots frame : List ℕ) (g : ℕ) (Γ : Scop
       }
 
   -- a change that every header of these widths takes leaves a state that fits
-  still-fits : (f : Cell → Option Cell)
+  pub still-fits : (f : Cell → Option Cell)
       → ((c : Cell) → CellFits (aHeader widths) c → SomeOf (CellFits (aHeader widths)) (f c))
       → SomeOf (StateFits Γ) (changeStore f g s)
   unfolding changeStore

@@ -99,7 +99,8 @@ module _ (nums directory ends : List ℕ) (g : ℕ) where
   type-found n r f k = record {
     finds = λ P end widths s e.
         let h = global-header nums directory ends g P end s widths n e f in
-        rw (← h .is) (k .finds P end (h .member) s (h .found) .widths);
+        let w = k .finds P end (h .member) s (h .found) in
+        rw (← h .is) (record { count = w .count; stand = w .widths });
   }
 
 pub ruleset types = (type-global, type-high, type-header, type-found)

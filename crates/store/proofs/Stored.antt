@@ -156,7 +156,7 @@ module _ (nums directory ends slots : List ℕ) (at : ℕ) where
     field-width r q d =
         let k = declared-field Γ g f t d in
         width-at nums (r + 1) (k .widths)
-        (q .finds (Γ .program) (h .scopes .end) (k .widths) (h .scopes .program) (k .is)) f
+        (q .finds (Γ .program) (h .scopes .end) (k .widths) (h .scopes .program) (k .is) .stand) f
         (k .width) (k .found)
 
     field-spot : (r : ℕ) → FindsHeaderTy nums directory ends g r → declared Γ (field g f) ≡ some t

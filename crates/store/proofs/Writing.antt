@@ -64,6 +64,7 @@ module _ (nums scope frame : List ℕ) (at number : ℕ) where
               parameter = λ j l. r .before j l ∙ h .frames .parameter j l;
               local = r .inside;
             };
+            packet = h .packet;
           };
           counter = refl;
           keeps = record { same = r .same; free = λ j l. r .behind j (omega (arith, length-set ls i number)) };
@@ -97,6 +98,7 @@ module _ (nums scope frame : List ℕ) (at number : ℕ) where
               parameter = λ j l. rw (first j) at (q .inside j l);
               local = λ j l. rw n (q .behind (length ps + j) (omega arith) ∙ h .frames .local j l);
             };
+            packet = h .packet;
           };
           counter = refl;
           keeps = record { same = q .same; free = λ j l. q .behind j (omega arith) };

@@ -4,14 +4,15 @@ use mathlib.Core.Option.{some}
 use mathlib.Core.Path.{_≡_}
 use mathlib.Core.List.{List}
 use Prim.Native.Nat.{ℕ, _+_, _≤_}
-use lib.ListN.{getD}
+use lib.ListN.{length, getD}
 use Rattle.rules.specs.Words.{widest}
 use Rattle.rules.specs.Syntax.{Ty, Place, Program}
+use Rattle.rules.specs.Reading.{mostFields}
 use Rattle.rules.specs.Form.{aHeader, globalAt, Scope}
 use Rattle.rules.specs.Running.{State, declared, held}
 use Rattle.rules.proofs.Fits.{Fit}
 use Rattle.program.specs.Codes.{tyOf, placeTag}
-use Rattle.program.specs.Stands.{Holds, StandsPlace, StandsWidths, StandsProgram}
+use Rattle.program.specs.Stands.{Holds, HoldsWithin, StandsPlace, StandsWidths, StandsProgram}
 use Rattle.values.specs.declared.Value.{Value}
 use Rattle.store.specs.Mirrors.{Scene}
 
@@ -74,7 +75,7 @@ pub record AsksStored (tag : ℕ) (nums directory ends slots : List ℕ) (at : �
 pub record ReadsStored (nums directory ends slots : List ℕ) (at : ℕ) (r : Value) : Type 0 where
   pub stored : (scope frame : List ℕ) → ReadsPlace nums directory ends scope slots frame at r
 
--- where the type of a global that is a header stands: the widths of its fields behind it
+-- where the type of a global that is a header stands: how many fields it has, and their widths behind
 pub record AsksHeaderTy (nums directory ends : List ℕ) (g : ℕ) : Type 0 where
   pub program : Program
   pub end : ℕ
@@ -82,6 +83,10 @@ pub record AsksHeaderTy (nums directory ends : List ℕ) (g : ℕ) : Type 0 wher
   pub stands : StandsProgram nums directory ends program end
   pub is : globalAt program g ≡ some (aHeader widths)
 
+pub record HeaderTyAt (nums : List ℕ) (at : ℕ) (widths : List ℕ) : Type 0 where
+  pub count : HoldsWithin 1 mostFields nums at (length widths)
+  pub stand : StandsWidths nums (at + 1) widths
+
 pub record FindsHeaderTy (nums directory ends : List ℕ) (g r : ℕ) : Type 0 where
   pub finds : (P : Program) (end : ℕ) (widths : List ℕ) → StandsProgram nums directory ends P end
-      → globalAt P g ≡ some (aHeader widths) → StandsWidths nums (r + 1) widths
+      → globalAt P g ≡ some (aHeader widths) → HeaderTyAt nums r widths

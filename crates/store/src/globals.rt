@@ -26,7 +26,7 @@ pub fn held_variable(
 }
 
 // Where the type of a header stands.
-fn header_type(nums: &[u64], ends: &[u64], directory: &[u64; shape::SLOTS], g: usize) -> usize
+pub fn header_type(nums: &[u64], ends: &[u64], directory: &[u64; shape::SLOTS], g: usize) -> usize
     requires { ⌜ AsksHeaderTy (now nums) (now directory) (now ends) g ⌝ }
     ensures { λ r. ⌜ FindsHeaderTy (now (nums .entry)) (now (directory .entry)) (now (ends .entry)) g r ⌝ }
 {

@@ -7,6 +7,7 @@ pub mod fill;
 mod frames;
 mod globals;
 pub mod headers;
+pub mod packet;
 
 use frames::held_local;
 use frames::held_parameter;
@@ -20,8 +21,10 @@ use values::Value;
 
 // The slot that counts steps, behind those of the numbers that a store may have.
 pub const COUNTER: usize = 544;
+// The slot of the index of the packet's next unread byte.
+pub const POSITION: usize = 545;
 // How many slots the store has.
-pub const STORE: usize = 545;
+pub const STORE: usize = 546;
 
 // What the place holds whose tag stands at an index: 2 a local, 3 a parameter, 4 a variable, 5 a field.
 pub fn read_place(

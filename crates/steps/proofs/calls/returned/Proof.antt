@@ -16,6 +16,9 @@ enum-known-ended c = search (returning, needs)
 enum-told-3 : tie.Need-enum-told-3
 enum-told-3 c = search (returning, needs)
 
+enum-told-4 : tie.Need-enum-told-4
+enum-told-4 c = search (returning, needs)
+
 returns : tie.Need-returns
 returns c = search (returning, needs)
 
@@ -28,6 +31,9 @@ returns-3 c = search (returning, needs)
 returns-4 : tie.Need-returns-4
 returns-4 c = search (returning, needs)
 
+returns-5 : tie.Need-returns-5
+returns-5 c = search (returning, needs)
+
 pub returned-spec : {M : Type 1} → statement M
 returned-spec =
     tie.close
@@ -36,7 +42,9 @@ returned-spec =
     enum-told-2
     enum-known-ended
     enum-told-3
+    enum-told-4
     returns
     returns-2
     returns-3
-    returns-4)
+    returns-4
+    returns-5)

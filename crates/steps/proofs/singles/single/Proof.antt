@@ -34,6 +34,18 @@ shared-slice-read-header-2 c = search (single, needs)
 set-invalid-requires : tie.Need-set-invalid-requires
 set-invalid-requires c κs = search (single, needs)
 
+add-header-3 : tie.Need-add-header-3
+add-header-3 c = search (single, needs)
+
+mul-header-3 : tie.Need-mul-header-3
+mul-header-3 c = search (single, needs)
+
+shared-slice-read-header-3 : tie.Need-shared-slice-read-header-3
+shared-slice-read-header-3 c = search (single, needs)
+
+extract-requires : tie.Need-extract-requires
+extract-requires c κs = search (single, needs)
+
 returns : tie.Need-returns
 returns c = search (single, needs)
 
@@ -49,6 +61,12 @@ returns-4 c = search (single, needs)
 returns-5 : tie.Need-returns-5
 returns-5 c = search (single, needs)
 
+returns-6 : tie.Need-returns-6
+returns-6 c = search (single, needs)
+
+returns-7 : tie.Need-returns-7
+returns-7 c = search (single, needs)
+
 pub single-spec : {M : Type 1} → statement M
 single-spec =
     tie.close
@@ -63,8 +81,14 @@ single-spec =
     mul-header-2
     shared-slice-read-header-2
     set-invalid-requires
+    add-header-3
+    mul-header-3
+    shared-slice-read-header-3
+    extract-requires
     returns
     returns-2
     returns-3
     returns-4
-    returns-5)
+    returns-5
+    returns-6
+    returns-7)
