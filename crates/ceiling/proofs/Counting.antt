@@ -11,7 +11,7 @@ use lib.Seq.{getD-set-same, getD-set-other}
 use borrow.Author.Tests.{eqb-true, eqb-false}
 use Rattle.rules.specs.Syntax.{Expr, Args, noArgs, stmt, Program}
 use Rattle.rules.specs.Reading.{deepest}
-use Rattle.rules.specs.Ceiling.{mostSteps, ceilingExpr, ceilingArgs, ceilingStmt}
+use Rattle.rules.specs.Ceiling.{mostSteps, ceilingExpr, ceilingArgs, ceilingStmt, noTable}
 use Rattle.program.specs.Codes.{argCount}
 use Rattle.program.specs.Stands.{StandsExpr, StandsArgs, StandsStmt}
 use Rattle.program.specs.Looks.{Has, Finds, callablesOf, FoundFrame}
@@ -234,7 +234,8 @@ module _ (nums directory ends kept : List ℕ) (reach f : ℕ) (a : AsksCall num
           reaches = omega (arith, a .setting .reaches);
           keeps = a .setting .keeps;
         };
-        tabled = record { slot = λ e. absurd (omega (arith, e, a .setting .reaches)) };
+        table = noTable;
+        tabled = record { slot = λ e. absurd (omega (arith, e, a .setting .reaches)); beyond = λ t l. refl };
         stands = h .finds (a .program) (a .setting .end) (m .member) (a .setting .stands) (m .is) .bodyStands;
         deep = omega arith;
       }
@@ -282,11 +283,11 @@ call-worked nums directory ends tables kept kept₁ reach f locals count at body
       let m : At (P .callables) f = member-at (P .callables) f l in
       let w : StandsStmt nums ends deepest at (m .member .body)
       = h .finds P (s .end) (m .member) (s .stands) (m .is) .bodyStands in
-      let q : Counted P (ceilingStmt (calleeBelow P f) (appliedIn P f) (m .member .body)) body kept₁
+      let q : Counted P (ceilingStmt (calleeBelow P f) (appliedIn P f noTable) (m .member .body)) body kept₁
       = c .counted P (m .member .body)
       (record { end = s .end; stands = s .stands; reaches = omega (arith, l); keeps = s .keeps })
-      (record { slot = λ e. absurd (omega (arith, e, l)) }) w in
-      let number : body ≡ cut (ceilingNumber P f) = q .is ∙ rw (number-is P f (m .member) (m .is) l) in
+      noTable (record { slot = λ e. absurd (omega (arith, e, l)); beyond = λ t h. refl }) w in
+      let number : body ≡ cut (ceilingNumber P f) = q .is ∙ rw (number-is P f noTable (m .member) (m .is) l) in
       record {
         is = number ∙ rw (callee-at P reach f b);
         keeps = kept-more P kept₁ f body (q .keeps) l (omega (arith, l, s .stands .callables .few)) number;

@@ -6,8 +6,7 @@ use native.Mathlib.Omega.{arith}
 use lib.ListN.{length, getD}
 use borrow.Author.Tests.{eq-eqb, ne-eqb}
 use Rattle.rules.specs.Syntax.{Expr, Stmt, ifElse, block, Stmts, noStmts, stmt, Program}
-use Rattle.rules.specs.Ceiling.{mostSteps, ceilingArgs, ceilingStmt, ceilingStmts, ceilingTable}
-use Rattle.rules.proofs.Predicates.{no-member}
+use Rattle.rules.specs.Ceiling.{mostSteps, ceilingArgs, ceilingStmt, ceilingStmts}
 use Rattle.program.specs.Codes.{memberCount}
 use Rattle.program.specs.Stands.{StandsStmt, StandsStmts}
 use Rattle.program.proofs.Views.{stmt-begins, MemberView, member-view, no-members}
@@ -58,6 +57,7 @@ module _ (nums directory ends tables kept : List ℕ) (reach depth at : ℕ)
       stmt = a .stmt;
       setting = resumed (a .setting)
           (c .counted (a .program) (operandsOf (a .stmt)) (a .setting) (held-operand .stand) (held-operand .counts));
+      table = a .table;
       tabled = a .tabled;
       stands = a .stands;
       deep = a .deep;
@@ -75,15 +75,15 @@ pub stmt-counted : (nums directory ends tables kept kept₁ kept₂ : List ℕ)
 stmt-counted nums directory ends tables kept kept₁ kept₂ reach depth at lower first count inside own run r h c o d e
     = record {
       low = cut-low r (own + run) e;
-      counted = λ P s setting tabled w.
+      counted = λ P s setting table tabled w.
           let p : Operand nums ends depth lower first count (operandsOf s) = h .operands s w in
           let q : Counted P (ceilingArgs (calleeBelow P reach) (operandsOf s)) inside kept₁
           = c .counted P (operandsOf s) setting (p .stand) (p .counts) in
-          let u : Counted P (runBy (calleeBelow P reach) (appliedIn P reach) s) run kept₂
-          = d .counted P s (resumed setting q) tabled w in
+          let u : Counted P (runBy (calleeBelow P reach) (appliedIn P reach table) s) run kept₂
+          = d .counted P s (resumed setting q) table tabled w in
           record {
             is = cut-both own run r _ _ (cut-own inside own _ (q .is) o) (u .is) e
-                ∙ rw (← ceil-stmt (calleeBelow P reach) (appliedIn P reach) s);
+                ∙ rw (← ceil-stmt (calleeBelow P reach) (appliedIn P reach table) s);
             keeps = u .keeps;
           };
     }
@@ -172,6 +172,7 @@ module _ (nums directory ends tables kept : List ℕ) (reach depth at : ℕ) (ru
         record {
           program = a .program;
           setting = a .setting;
+          table = a .table;
           tabled = a .tabled;
           one = b .one;
           other = b .other;
@@ -200,6 +201,7 @@ module _ (nums directory ends tables kept : List ℕ) (reach depth at : ℕ) (ru
           program = a .program;
           stmts = b .members;
           setting = a .setting;
+          table = a .table;
           tabled = a .tabled;
           stand = b .stand;
           counts = b .counts;
@@ -223,10 +225,10 @@ module _ (nums directory ends tables kept : List ℕ) (reach depth at : ℕ) (ru
     unfolding runBy
     run-branches lower first second e c = record {
       low = c .low;
-      counted = λ P s setting tabled w.
+      counted = λ P s setting table tabled w.
           let b : Branched nums ends depth at lower first second s
           = branched nums ends depth at s lower first second runs (h .runs s w) e in
-          rw (b .same) (c .counted P (b .one) (b .other) setting tabled (b .oneStands) (b .otherStands));
+          rw (b .same) (c .counted P (b .one) (b .other) setting table tabled (b .oneStands) (b .otherStands));
     }
 
     pub run-members : (lower first count : ℕ) → runs ≡ Members lower first count
@@ -235,35 +237,35 @@ module _ (nums directory ends tables kept : List ℕ) (reach depth at : ℕ) (ru
     unfolding runBy
     run-members lower first count e c = record {
       low = c .low;
-      counted = λ P s setting tabled w.
+      counted = λ P s setting table tabled w.
           let b : Blocked nums ends depth at lower first count s
           = blocked nums ends depth at s lower first count runs (h .runs s w) e in
-          rw (b .same) (c .counted P (b .members) setting tabled (b .stand) (b .counts));
+          rw (b .same) (c .counted P (b .members) setting table tabled (b .stand) (b .counts));
     }
 
     pub run-body : (f : ℕ) → runs ≡ Body f → CountsCall nums directory ends kept kept₁ reach f r
         → CountsRun nums directory ends tables kept kept₁ reach depth at r
     run-body f e c = record {
       low = c .low;
-      counted = λ P s setting tabled w.
-          rw (bodied nums ends depth at s f runs (h .runs s w) e (calleeBelow P reach) (appliedIn P reach))
+      counted = λ P s setting table tabled w.
+          rw (bodied nums ends depth at s f runs (h .runs s w) e (calleeBelow P reach) (appliedIn P reach table))
           (c .counted P setting);
     }
 
   pub run-table : (a : AsksStmt nums directory ends tables kept reach depth at) (t r : ℕ) → runs ≡ Applied t
       → CountsApplied directory tables reach t r → CountsRun nums directory ends tables kept kept reach depth at r
   run-table a t r e c = record {
-    low = cut-low r _ (c .counted nums ends (a .program) (a .setting .end) (a .setting .stands) (a .tabled));
-    counted = λ P s setting tables-kept w.
-        rw (tabled nums ends depth at s t runs (h .runs s w) e (calleeBelow P reach) (appliedIn P reach))
-        (record { is = c .counted nums ends P (setting .end) (setting .stands) tables-kept; keeps = setting .keeps });
+    low = cut-low r _ (c .counted nums ends (a .program) (a .setting .end) (a .setting .stands) (a .table) (a .tabled));
+    counted = λ P s setting table tables-kept w.
+        rw (tabled nums ends depth at s t runs (h .runs s w) e (calleeBelow P reach) (appliedIn P reach table))
+        (record { is = c .counted nums ends P (setting .end) (setting .stands) table tables-kept; keeps = setting .keeps });
   }
 
   pub run-nothing : runs ≡ Nothing → CountsRun nums directory ends tables kept kept reach depth at 0
   run-nothing e = record {
     low = omega arith;
-    counted = λ P s setting tabled w.
-        rw (idle nums ends depth at s runs (h .runs s w) e (calleeBelow P reach) (appliedIn P reach))
+    counted = λ P s setting table tabled w.
+        rw (idle nums ends depth at s runs (h .runs s w) e (calleeBelow P reach) (appliedIn P reach table))
         (record { is = cut-zero; keeps = setting .keeps });
   }
 
@@ -297,27 +299,27 @@ module _ (directory tables : List ℕ) (reach t : ℕ) where
       → CountsApplied directory tables reach t (getD tables t 0)
   unfolding appliedIn
   applied-table e h = record {
-    counted = λ nums ends P end s k.
+    counted = λ nums ends P end s table k.
         let here : reach ≡ length (P .callables) = e ∙ s .callables .count in
         k .slot here t (omega (arith, s .tables .count)) ∙ rw (appliedIn, eq-eqb reach (length (P .callables)) here);
   }
 
   pub applied-beyond : reach ≡ getD directory 42 0 → getD directory 59 0 ≤ t → CountsApplied directory tables reach t 0
-  unfolding appliedIn ceilingTable
+  unfolding appliedIn
   applied-beyond e h = record {
-    counted = λ nums ends P end s k.
+    counted = λ nums ends P end s table k.
         let here : reach ≡ length (P .callables) = e ∙ s .callables .count in
         cut-zero ∙ rw (
           appliedIn,
           eq-eqb reach (length (P .callables)) here,
-          no-member (P .tables) t (omega (arith, s .tables .count)),
+          k .beyond t (omega (arith, s .tables .count)),
         );
   }
 
   pub applied-elsewhere : (reach ≡ getD directory 42 0 → ⊥) → CountsApplied directory tables reach t 0
   unfolding appliedIn
   applied-elsewhere n = record {
-    counted = λ nums ends P end s k.
+    counted = λ nums ends P end s table k.
         cut-zero ∙ rw (appliedIn, ne-eqb reach (length (P .callables)) (λ e. n (e ∙ sym (s .callables .count))));
   }
 
@@ -331,6 +333,7 @@ module _ (nums directory ends tables kept : List ℕ) (reach lower first second 
     program = a .program;
     stmt = a .one;
     setting = a .setting;
+    table = a .table;
     tabled = a .tabled;
     stands = a .oneStands;
     deep = a .deep;
@@ -342,7 +345,8 @@ module _ (nums directory ends tables kept : List ℕ) (reach lower first second 
   second-asks kept₁ one a c = record {
     program = a .program;
     stmt = a .other;
-    setting = resumed (a .setting) (c .counted (a .program) (a .one) (a .setting) (a .tabled) (a .oneStands));
+    setting = resumed (a .setting) (c .counted (a .program) (a .one) (a .setting) (a .table) (a .tabled) (a .oneStands));
+    table = a .table;
     tabled = a .tabled;
     stands = a .otherStands;
     deep = a .deep;
@@ -355,22 +359,22 @@ module _ (nums directory ends tables kept : List ℕ) (reach lower first second 
         → CountsBranches nums directory ends tables kept kept₂ reach lower first second other
     larger-second l = record {
       low = d .low;
-      counted = λ P a b setting tabled w v.
-          let p : Counted P (ceilingStmt (calleeBelow P reach) (appliedIn P reach) a) one kept₁
-          = c .counted P a setting tabled w in
-          let q : Counted P (ceilingStmt (calleeBelow P reach) (appliedIn P reach) b) other kept₂
-          = d .counted P b (resumed setting p) tabled v in
+      counted = λ P a b setting table tabled w v.
+          let p : Counted P (ceilingStmt (calleeBelow P reach) (appliedIn P reach table) a) one kept₁
+          = c .counted P a setting table tabled w in
+          let q : Counted P (ceilingStmt (calleeBelow P reach) (appliedIn P reach table) b) other kept₂
+          = d .counted P b (resumed setting p) table tabled v in
           record { is = cut-larger one other _ _ (p .is) (q .is) l; keeps = q .keeps };
     }
 
     pub larger-first : other ≤ one → CountsBranches nums directory ends tables kept kept₂ reach lower first second one
     larger-first l = record {
       low = c .low;
-      counted = λ P a b setting tabled w v.
-          let p : Counted P (ceilingStmt (calleeBelow P reach) (appliedIn P reach) a) one kept₁
-          = c .counted P a setting tabled w in
-          let q : Counted P (ceilingStmt (calleeBelow P reach) (appliedIn P reach) b) other kept₂
-          = d .counted P b (resumed setting p) tabled v in
+      counted = λ P a b setting table tabled w v.
+          let p : Counted P (ceilingStmt (calleeBelow P reach) (appliedIn P reach table) a) one kept₁
+          = c .counted P a setting table tabled w in
+          let q : Counted P (ceilingStmt (calleeBelow P reach) (appliedIn P reach table) b) other kept₂
+          = d .counted P b (resumed setting p) table tabled v in
           record { is = cut-not-larger one other _ _ (p .is) (q .is) l; keeps = q .keeps };
     }
 
@@ -379,27 +383,27 @@ list-fall t reach depth e = rank-lower t reach (4 * depth + 3) (4 * depth + 2) e
 
 -- members, summed so far
 pub record RestStmts (nums ends : List ℕ) (depth next left total : ℕ) (kept : List ℕ) (P : Program) (reach : ℕ)
-    (ss : Stmts)
-    : Type 0 where
+    (table : ℕ → ℕ) (ss : Stmts) : Type 0 where
   pub rest : Stmts
   pub stand : StandsStmts nums ends depth next rest
   pub counts : left ≡ memberCount rest
-  pub sum : cut (ceilingStmts (calleeBelow P reach) (appliedIn P reach) ss)
-      ≡ cut (total + ceilingStmts (calleeBelow P reach) (appliedIn P reach) rest)
+  pub sum : cut (ceilingStmts (calleeBelow P reach) (appliedIn P reach table) ss)
+      ≡ cut (total + ceilingStmts (calleeBelow P reach) (appliedIn P reach table) rest)
   pub keeps : Kept P kept
 
 pub record SummedStmts (nums directory ends tables kept : List ℕ) (reach depth at count : ℕ) (kept₁ : List ℕ)
     (total next left : ℕ) : Type 0 where
   pub low : total ≤ suc mostSteps
-  pub going : (P : Program) (ss : Stmts) → Setting nums directory ends kept reach P → TablesKept P reach tables
+  pub going : (P : Program) (ss : Stmts) → Setting nums directory ends kept reach P → (table : ℕ → ℕ)
+      → TablesKept P reach tables table
       → StandsStmts nums ends depth at ss → count ≡ memberCount ss
-      → RestStmts nums ends depth next left total kept₁ P reach ss
+      → RestStmts nums ends depth next left total kept₁ P reach table ss
 
 pub stmts-begin : (nums directory ends tables kept : List ℕ) (reach depth at count : ℕ)
     → SummedStmts nums directory ends tables kept reach depth at count kept 0 at count
 stmts-begin nums directory ends tables kept reach depth at count = record {
   low = omega arith;
-  going = λ P ss s tabled w e. record { rest = ss; stand = w; counts = e; sum = cut-begin _; keeps = s .keeps };
+  going = λ P ss s table tabled w e. record { rest = ss; stand = w; counts = e; sum = cut-begin _; keeps = s .keeps };
 }
 
 module _ (nums directory ends tables kept : List ℕ) (reach depth at count : ℕ) (kept₁ : List ℕ) (total next left : ℕ)
@@ -409,8 +413,8 @@ module _ (nums directory ends tables kept : List ℕ) (reach depth at count : �
     more-left e = omega (arith, e)
 
     module _ (a : AsksStmts nums directory ends tables kept reach depth at count) where
-      rest-of : RestStmts nums ends depth next left total kept₁ (a .program) reach (a .stmts)
-      rest-of = g .going (a .program) (a .stmts) (a .setting) (a .tabled) (a .stand) (a .counts)
+      rest-of : RestStmts nums ends depth next left total kept₁ (a .program) reach (a .table) (a .stmts)
+      rest-of = g .going (a .program) (a .stmts) (a .setting) (a .table) (a .tabled) (a .stand) (a .counts)
 
       first-of : MemberView nums ends depth next left (rest-of .rest)
       first-of = member-view left (rest-of .rest) (rest-of .stand) (rest-of .counts) more-left
@@ -425,6 +429,7 @@ module _ (nums directory ends tables kept : List ℕ) (reach depth at count : �
           reaches = a .setting .reaches;
           keeps = rest-of .keeps;
         };
+        table = a .table;
         tabled = a .tabled;
         stands = first-of .firstStands;
         deep = a .deep;
@@ -440,13 +445,13 @@ module _ (nums directory ends tables kept : List ℕ) (reach depth at count : �
     unfolding ceilingStmt
     stmts-again kept₂ one total₁ next₁ c e n = record {
       low = cut-low total₁ (total + one) e;
-      going = λ P ss s tabled w k.
-          let r : RestStmts nums ends depth next left total kept₁ P reach ss = g .going P ss s tabled w k in
+      going = λ P ss s table tabled w k.
+          let r : RestStmts nums ends depth next left total kept₁ P reach table ss = g .going P ss s table tabled w k in
           let v : MemberView nums ends depth next left (r .rest) = member-view left (r .rest) (r .stand)
           (r .counts) more-left in
-          let q : Counted P (ceilingStmt (calleeBelow P reach) (appliedIn P reach) (v .first)) one kept₂
+          let q : Counted P (ceilingStmt (calleeBelow P reach) (appliedIn P reach table) (v .first)) one kept₂
           = c .counted P (v .first)
-          (record { end = s .end; stands = s .stands; reaches = s .reaches; keeps = r .keeps }) tabled
+          (record { end = s .end; stands = s .stands; reaches = s .reaches; keeps = r .keeps }) table tabled
           (v .firstStands) in
           record {
             rest = v .others;
@@ -461,8 +466,8 @@ module _ (nums directory ends tables kept : List ℕ) (reach depth at count : �
   unfolding ceilingStmt
   stmts-end m = record {
     low = g .low;
-    counted = λ P ss s tabled w k.
-        let r : RestStmts nums ends depth next left total kept₁ P reach ss = g .going P ss s tabled w k in
+    counted = λ P ss s table tabled w k.
+        let r : RestStmts nums ends depth next left total kept₁ P reach table ss = g .going P ss s table tabled w k in
         let none : r .rest ≡ noStmts = no-members (r .rest) (omega (arith, r .counts)) in
         record { is = cut-done total _ (g .low) (rw none at (r .sum)); keeps = r .keeps };
   }

@@ -10,8 +10,8 @@ use Rattle.rules.specs.Syntax.{Stmt, apply}
 use Rattle.program.specs.Codes.{argCount}
 use Rattle.program.specs.Stands.{StandsExpr, on-bool, on-bits, on-place, on-valid, on-not, on-complement, on-binary, on-cast, on-slice, on-concatenation, on-call}
 use Rattle.program.specs.Stands.{StandsArgs, on-none, on-arg}
-use Rattle.program.specs.Stands.{StandsStmt, on-empty, on-assign, on-if, on-block, on-call-stmt, on-apply, on-return-value, on-return, on-exit, on-set-valid, on-set-invalid}
-use Rattle.program.proofs.Views.{ExprView, expr-view, OneView, TwoView, BinaryView, CastView, SliceView, CallView, Begins, expr-begins, StmtView, stmt-view, AssignView, IfView, BlockView, CallStmtView, NamedView, ReturnView, stmt-begins}
+use Rattle.program.specs.Stands.{StandsStmt, on-empty, on-assign, on-if, on-block, on-call-stmt, on-apply, on-return-value, on-return, on-exit, on-set-valid, on-set-invalid, on-extract, on-verify}
+use Rattle.program.proofs.Views.{ExprView, expr-view, OneView, TwoView, BinaryView, CastView, SliceView, CallView, Begins, expr-begins, StmtView, stmt-view, AssignView, IfView, BlockView, CallStmtView, NamedView, ReturnView, VerifyView, stmt-begins}
 use Rattle.ceiling.specs.Claims.{operandsIn, calledBy, calling, operandsOf, runBy, AsksHeld, AsksHeldStmt, Operand, HeldExpr, Plain, HeldStmt, RunsIn, runs-branches, runs-members, runs-body, runs-table, runs-nothing, HeldRuns}
 use Rattle.ceiling.specs.declared.operands.Runs.the-variants.{Branches, Members, Body, Applied, Nothing}
 
@@ -281,10 +281,19 @@ module _ (nums ends : List ℕ) (depth at : ℕ) where
         (on-arg (v .stands) on-none) refl);
   }
 
+  pub verify-held : getD nums at 0 ≡ 12 → HeldStmt nums ends depth at (depth - 1) (at + 1) 1
+  unfolding StmtView operandsOf argCount
+  verify-held k = record {
+    operands = λ s w.
+        let v : VerifyView nums ends depth at s = rw k at (stmt-view w) in
+        rw (v .same) (lowered nums ends depth at (at + 1) 1 (arg (v .condition) noArgs) (stmt-begins w)
+        (on-arg (v .stands) on-none) refl);
+  }
+
   pub bare-held : (getD nums at 0 ≡ 1 → ⊥) → (getD nums at 0 ≡ 2 → ⊥) → (getD nums at 0 ≡ 4 → ⊥)
-      → (getD nums at 0 ≡ 6 → ⊥) → HeldStmt nums ends depth at (depth - 1) at 0
+      → (getD nums at 0 ≡ 6 → ⊥) → (getD nums at 0 ≡ 12 → ⊥) → HeldStmt nums ends depth at (depth - 1) at 0
   unfolding operandsOf argCount
-  bare-held k₁ k₂ k₄ k₆ = record { operands = λ s w. go w }
+  bare-held k₁ k₂ k₄ k₆ k₁₂ = record { operands = λ s w. go w }
     where
       none : {s : Stmt} → StandsStmt nums ends depth at s → Operand nums ends depth (depth - 1) at 0 noArgs
       none w = lowered nums ends depth at at 0 noArgs (stmt-begins w) on-none refl
@@ -301,8 +310,10 @@ module _ (nums ends : List ℕ) (depth at : ℕ) where
       go (on-exit t) = none (on-exit t)
       go (on-set-valid t n) = none (on-set-valid t n)
       go (on-set-invalid t n) = none (on-set-invalid t n)
+      go (on-extract t n) = none (on-extract t n)
+      go (on-verify t c e) = absurd (k₁₂ (t .holds .is))
 
-pub ruleset stmtHeld = (assign-held, if-held, call-stmt-held, return-held, bare-held)
+pub ruleset stmtHeld = (assign-held, if-held, call-stmt-held, return-held, verify-held, bare-held)
 
 -- what a statement runs besides
 module _ (nums ends : List ℕ) (depth at : ℕ) where
@@ -359,5 +370,7 @@ module _ (nums ends : List ℕ) (depth at : ℕ) where
       go (on-exit t) = runs-nothing (λ callee table. refl)
       go (on-set-valid t n) = runs-nothing (λ callee table. refl)
       go (on-set-invalid t n) = runs-nothing (λ callee table. refl)
+      go (on-extract t n) = runs-nothing (λ callee table. refl)
+      go (on-verify t c e) = runs-nothing (λ callee table. refl)
 
 pub ruleset stmtRuns = (if-runs, block-runs, call-runs, apply-runs, nothing-runs)

@@ -4,4 +4,5 @@ mod Sums
 mod Counting
 mod CountingStmts
 mod CountingTables
+mod CountingStates
 pub mod Whole

@@ -9,7 +9,7 @@ use lib.Dec.{eqb, ltb}
 use lib.ListN.{length, getD, getElem?, List·getD-append, List·getD-eq-default}
 use lib.Seq.{getD-at}
 use borrow.Author.Tests.{ne-eqb, eqb-true, eqb-false, ltb-true, ltb-false}
-use Rattle.rules.specs.Syntax.{Expr, boolLiteral, bitsLiteral, readOf, validOf, negation, complement, binary, cast, slice, concatenation, callExpr, Stmt, empty, assign, ifElse, block, callStmt, apply, returnValue, return, exit, setValid, setInvalid, Callable, Program}
+use Rattle.rules.specs.Syntax.{Expr, boolLiteral, bitsLiteral, readOf, validOf, negation, complement, binary, cast, slice, concatenation, callExpr, Stmt, empty, assign, ifElse, block, callStmt, apply, returnValue, return, exit, setValid, setInvalid, extract, verify, Callable, Program}
 use Rattle.rules.specs.Ceiling.{mostSteps, ceilingExpr, ceilingArgs, ceilingStmt, calleeIn, noTable, ceilingAt, ceilingsBelow}
 use Rattle.rules.proofs.Callables.{ceilings-length}
 use Rattle.ceiling.specs.Cut.{cut}
@@ -88,6 +88,8 @@ ceil-stmt callee table (return at) = refl
 ceil-stmt callee table (exit at) = refl
 ceil-stmt callee table (setValid at g) = refl
 ceil-stmt callee table (setInvalid at g) = refl
+ceil-stmt callee table (extract at g) = refl
+ceil-stmt callee table (verify at c e) = omega arith
 
 -- the ceilings of the callables below a number, by position
 earlier-at : (P : Program) (n f : ℕ) → f < n
@@ -124,12 +126,12 @@ unfolding calleeIn
 callee-none P n f h = List·getD-eq-default (ceilingsBelow P n) 0 (rw (ceilings-length P n) h)
 
 -- no apply in a callable
-pub applied-none : (P : Program) (f : ℕ) → f < length (P .callables) → appliedIn P f ≡ noTable
+pub applied-none : (P : Program) (f : ℕ) (table : ℕ → ℕ) → f < length (P .callables) → appliedIn P f table ≡ noTable
 unfolding appliedIn
-applied-none P f h = rw (appliedIn, ne-eqb f (length (P .callables)) (λ e. absurd (omega (arith, e))))
+applied-none P f table h = rw (appliedIn, ne-eqb f (length (P .callables)) (λ e. absurd (omega (arith, e))))
 
 -- a callable's ceiling is its body's
-pub number-is : (P : Program) (f : ℕ) (c : Callable) → getElem? (P .callables) f ≡ some c → f < length (P .callables)
-    → ceilingNumber P f ≡ ceilingStmt (calleeBelow P f) (appliedIn P f) (c .body)
+pub number-is : (P : Program) (f : ℕ) (table : ℕ → ℕ) (c : Callable) → getElem? (P .callables) f ≡ some c
+    → f < length (P .callables) → ceilingNumber P f ≡ ceilingStmt (calleeBelow P f) (appliedIn P f table) (c .body)
 unfolding ceilingNumber ceilingAt
-number-is P f c e h = rw (e, applied-none P f h)
+number-is P f table c e h = rw (e, applied-none P f table h)

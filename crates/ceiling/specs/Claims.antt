@@ -7,7 +7,7 @@ use Prim.Native.Nat.{ℕ, suc, _-_, _≤_, _<_, max}
 use lib.Dec.{eqb}
 use lib.ListN.{length, getD, getElem?}
 use Rattle.rules.specs.Syntax.{Expr, boolLiteral, bitsLiteral, readOf, validOf, negation, complement, binary, cast, slice, concatenation, callExpr, Args, noArgs, arg}
-use Rattle.rules.specs.Syntax.{Stmt, empty, assign, ifElse, block, callStmt, apply, returnValue, return, exit, setValid, setInvalid, Stmts, Numeral, Key, Program}
+use Rattle.rules.specs.Syntax.{Stmt, empty, assign, ifElse, block, callStmt, apply, returnValue, return, exit, setValid, setInvalid, extract, verify, Stmts, Numeral, Key, Program}
 use Rattle.rules.specs.Numbers.{mostBytes}
 use Rattle.rules.specs.Reading.{deepest}
 use Rattle.rules.specs.Ceiling.{mostSteps, ceilingExpr, ceilingArgs, ceilingStmt, ceilingStmts, calleeIn, noTable, ceilingAt, ceilingsBelow, ceilingKeys, largestOf, ceilingTable, ceilingOf}
@@ -17,27 +17,25 @@ use Rattle.ceiling.specs.declared.operands.Runs.{Runs}
 use Rattle.ceiling.specs.declared.operands.Runs.the-variants.{Branches, Members, Body, Applied, Nothing}
 use Rattle.ceiling.specs.Cut.{cut}
 
--- the ceiling of each callable that a body sees; of one callable; of what an apply runs, which stands in the apply body
+-- the ceiling of each callable that a body sees; of one callable; of what an apply runs, which stands in no callable
 abbrev pub calleeBelow : Program → ℕ → ℕ → ℕ
 calleeBelow P reach = calleeIn (ceilingsBelow P reach)
 
 unfoldable pub ceilingNumber : Program → ℕ → ℕ
 ceilingNumber P f = ceilingAt (ceilingsBelow P f) (getElem? (P .callables) f)
 
-unfoldable pub appliedIn : Program → ℕ → ℕ → ℕ
-appliedIn P reach = elim (eqb reach (length (P .callables))) [
-  | true ↦ (λ t. ceilingTable (calleeBelow P reach) (getElem? (P .tables) t))
-  | false ↦ noTable
-]
+unfoldable pub appliedIn : Program → ℕ → (ℕ → ℕ) → ℕ → ℕ
+appliedIn P reach table = elim (eqb reach (length (P .callables))) [ true ↦ table | false ↦ noTable ]
 
 -- the kept ceilings
 pub record Kept (P : Program) (kept : List ℕ) : Type 0 where
   pub slots : length kept ≡ 16
   pub slot : (f : ℕ) → f < length (P .callables) → (getD kept f 0 ≡ 0 → ⊥) → getD kept f 0 ≡ cut (ceilingNumber P f)
 
-pub record TablesKept (P : Program) (reach : ℕ) (tables : List ℕ) : Type 0 where
-  pub slot : reach ≡ length (P .callables) → (t : ℕ) → t < length (P .tables)
-      → getD tables t 0 ≡ cut (ceilingTable (calleeBelow P reach) (getElem? (P .tables) t))
+-- `table` gives the ceiling of what an apply runs
+pub record TablesKept (P : Program) (reach : ℕ) (tables : List ℕ) (table : ℕ → ℕ) : Type 0 where
+  pub slot : reach ≡ length (P .callables) → (t : ℕ) → t < length (P .tables) → getD tables t 0 ≡ cut (table t)
+  pub beyond : (t : ℕ) → length (P .tables) ≤ t → table t ≡ 0
 
 -- where a count begins: a program stands, and the ceilings kept are right
 pub record Setting (nums directory ends kept : List ℕ) (reach : ℕ) (P : Program) : Type 0 where
@@ -91,6 +89,8 @@ operandsOf (return at) = noArgs
 operandsOf (exit at) = noArgs
 operandsOf (setValid at g) = noArgs
 operandsOf (setInvalid at g) = noArgs
+operandsOf (extract at g) = noArgs
+operandsOf (verify at c e) = arg c noArgs
 
 unfoldable pub runBy : (ℕ → ℕ) → (ℕ → ℕ) → Stmt → ℕ
 runBy callee table (empty at) = 0
@@ -104,6 +104,8 @@ runBy callee table (return at) = 0
 runBy callee table (exit at) = 0
 runBy callee table (setValid at g) = 0
 runBy callee table (setInvalid at g) = 0
+runBy callee table (extract at g) = 0
+runBy callee table (verify at c e) = 0
 
 -- a construct whose parts are looked for
 pub record AsksHeld (nums ends : List ℕ) (depth at : ℕ) : Type 0 where
@@ -203,41 +205,46 @@ pub record AsksStmt (nums directory ends tables kept : List ℕ) (reach depth at
   pub program : Program
   pub stmt : Stmt
   pub setting : Setting nums directory ends kept reach program
-  pub tabled : TablesKept program reach tables
+  pub table : ℕ → ℕ
+  pub tabled : TablesKept program reach tables table
   pub stands : StandsStmt nums ends depth at stmt
   pub deep : depth ≤ deepest
 
 pub record CountsStmt (nums directory ends tables kept kept′ : List ℕ) (reach depth at r : ℕ) : Type 0 where
   pub low : r ≤ suc mostSteps
-  pub counted : (P : Program) (s : Stmt) → Setting nums directory ends kept reach P → TablesKept P reach tables
-      → StandsStmt nums ends depth at s → Counted P (ceilingStmt (calleeBelow P reach) (appliedIn P reach) s) r kept′
+  pub counted : (P : Program) (s : Stmt) → Setting nums directory ends kept reach P → (table : ℕ → ℕ)
+      → TablesKept P reach tables table → StandsStmt nums ends depth at s
+      → Counted P (ceilingStmt (calleeBelow P reach) (appliedIn P reach table) s) r kept′
 
 -- what a statement runs besides its operands
 pub record CountsRun (nums directory ends tables kept kept′ : List ℕ) (reach depth at r : ℕ) : Type 0 where
   pub low : r ≤ suc mostSteps
-  pub counted : (P : Program) (s : Stmt) → Setting nums directory ends kept reach P → TablesKept P reach tables
-      → StandsStmt nums ends depth at s → Counted P (runBy (calleeBelow P reach) (appliedIn P reach) s) r kept′
+  pub counted : (P : Program) (s : Stmt) → Setting nums directory ends kept reach P → (table : ℕ → ℕ)
+      → TablesKept P reach tables table → StandsStmt nums ends depth at s
+      → Counted P (runBy (calleeBelow P reach) (appliedIn P reach table) s) r kept′
 
 pub record AsksStmts (nums directory ends tables kept : List ℕ) (reach depth at count : ℕ) : Type 0 where
   pub program : Program
   pub stmts : Stmts
   pub setting : Setting nums directory ends kept reach program
-  pub tabled : TablesKept program reach tables
+  pub table : ℕ → ℕ
+  pub tabled : TablesKept program reach tables table
   pub stand : StandsStmts nums ends depth at stmts
   pub counts : count ≡ memberCount stmts
   pub deep : depth ≤ deepest
 
 pub record CountsStmts (nums directory ends tables kept kept′ : List ℕ) (reach depth at count r : ℕ) : Type 0 where
   pub low : r ≤ suc mostSteps
-  pub counted : (P : Program) (ss : Stmts) → Setting nums directory ends kept reach P → TablesKept P reach tables
-      → StandsStmts nums ends depth at ss → count ≡ memberCount ss
-      → Counted P (ceilingStmts (calleeBelow P reach) (appliedIn P reach) ss) r kept′
+  pub counted : (P : Program) (ss : Stmts) → Setting nums directory ends kept reach P → (table : ℕ → ℕ)
+      → TablesKept P reach tables table → StandsStmts nums ends depth at ss → count ≡ memberCount ss
+      → Counted P (ceilingStmts (calleeBelow P reach) (appliedIn P reach table) ss) r kept′
 
 -- both branches of an if, from where they stand
 pub record AsksBranches (nums directory ends tables kept : List ℕ) (reach lower first second : ℕ) : Type 0 where
   pub program : Program
   pub setting : Setting nums directory ends kept reach program
-  pub tabled : TablesKept program reach tables
+  pub table : ℕ → ℕ
+  pub tabled : TablesKept program reach tables table
   pub one : Stmt
   pub other : Stmt
   pub oneStands : StandsStmt nums ends lower first one
@@ -247,10 +254,10 @@ pub record AsksBranches (nums directory ends tables kept : List ℕ) (reach lowe
 pub record CountsBranches (nums directory ends tables kept kept′ : List ℕ)
     (reach lower first second r : ℕ) : Type 0 where
   pub low : r ≤ suc mostSteps
-  pub counted : (P : Program) (a b : Stmt) → Setting nums directory ends kept reach P → TablesKept P reach tables
-      → StandsStmt nums ends lower first a → StandsStmt nums ends lower second b
-      → Counted P (max (ceilingStmt (calleeBelow P reach) (appliedIn P reach) a)
-      (ceilingStmt (calleeBelow P reach) (appliedIn P reach) b)) r kept′
+  pub counted : (P : Program) (a b : Stmt) → Setting nums directory ends kept reach P → (table : ℕ → ℕ)
+      → TablesKept P reach tables table → StandsStmt nums ends lower first a → StandsStmt nums ends lower second b
+      → Counted P (max (ceilingStmt (calleeBelow P reach) (appliedIn P reach table) a)
+      (ceilingStmt (calleeBelow P reach) (appliedIn P reach table) b)) r kept′
 
 -- what an apply of table t runs
 pub record AsksApplied (directory : List ℕ) : Type 0 where
@@ -262,7 +269,7 @@ pub record AsksApplied (directory : List ℕ) : Type 0 where
 
 pub record CountsApplied (directory tables : List ℕ) (reach t r : ℕ) : Type 0 where
   pub counted : (nums ends : List ℕ) (P : Program) (end : ℕ) → StandsProgram nums directory ends P end
-      → TablesKept P reach tables → r ≡ cut (appliedIn P reach t)
+      → (table : ℕ → ℕ) → TablesKept P reach tables table → r ≡ cut (appliedIn P reach table t)
 
 -- the keys of a table, and the largest of its actions
 pub record AsksKeys (nums directory ends kept : List ℕ) (reach at count : ℕ) : Type 0 where

@@ -1,4 +1,5 @@
-// The ceiling of a program, for refusal 9: the most steps that its apply body can take, from the program alone.
+// The ceiling of a program, for refusal 9: the most steps that its parser and its apply body can take, from the program
+// alone.
 // Expressions, lists of them, statements and calls count each other, the callable number and the remaining depth
 // falling; a callable's ceiling is worked out once and kept. Sums are cut at one more than a judged program may take.
 ghost use Rattle.program.specs.Stands.{SomeProgram};
@@ -6,6 +7,7 @@ ghost use Rattle.ceiling.specs.Claims.{TellsCeiling};
 
 mod count;
 mod operands;
+mod states;
 mod tables;
 
 // The most steps of a judged program.
@@ -31,8 +33,9 @@ pub fn ceiling_of(nums: &[u64], ends: &[u64], directory: &[u64; shape::SLOTS]) -
         &mut kept,
         &mut tables,
     );
+    let parser = states::count_parser(nums, ends, directory, &none, reach, &mut kept);
     let depth = shape::limits::DEEPEST;
-    count::count_stmt(
+    let run = count::count_stmt(
         nums,
         ends,
         directory,
@@ -41,5 +44,6 @@ pub fn ceiling_of(nums: &[u64], ends: &[u64], directory: &[u64; shape::SLOTS]) -
         depth,
         body,
         &mut kept,
-    )
+    );
+    operands::add(parser, run)
 }

@@ -34,6 +34,8 @@ const APPLY: u64 = 5;
 
 const RETURN_VALUE: u64 = 6;
 
+const VERIFY: u64 = 12;
+
 // The operands of an expression, a level down: where they begin and how many they are; and the callable that it calls,
 // if it calls one.
 pub(crate) struct Operands {
@@ -143,6 +145,11 @@ pub(crate) fn of_stmt(nums: &[u64], ends: &[u64], depth: usize, at: usize) -> St
             count: nums[at + 2] as usize,
         },
         RETURN_VALUE => StmtOperands {
+            lower: lower,
+            first: at + 1,
+            count: 1,
+        },
+        VERIFY => StmtOperands {
             lower: lower,
             first: at + 1,
             count: 1,

@@ -9,6 +9,8 @@ mod OfActions
 mod OfNames
 mod OfDefaults
 mod OfTables
+mod OfPairs
+mod OfStates
 mod Whole
 mod Widths
 pub mod Laid

@@ -1,13 +1,13 @@
--- The whole program, in file order: its globals, its callables, its tables, its apply body.
+-- The whole program, in file order: its globals, its callables, its tables, its states, its apply body.
 use mathlib.Core.Bool.{Bool}
 use mathlib.Core.Path.{_≡_, sym, _∙_}
 use mathlib.Core.List.{List}
 use Prim.Native.Nat.{ℕ}
 use lib.ListN.{getD}
 use Rattle.rules.specs.Syntax.{Program}
-use Rattle.rules.specs.Form.{ok, _>>=_, judgeGlobals, judgeCallables, applyScope, judgeTables, judgeProgram}
+use Rattle.rules.specs.Form.{ok, _>>=_, judgeGlobals, judgeCallables, applyScope, judgeTables, judgeStates, judgeProgram}
 use Rattle.program.specs.Stands.{StandsProgram, SomeProgram}
-use Rattle.program.specs.Looks.{globalsOf, callablesOf, tablesOf}
+use Rattle.program.specs.Looks.{globalsOf, callablesOf, tablesOf, statesOf}
 use Rattle.bodies.specs.declared.Formed.{Formed}
 use Rattle.bodies.specs.declared.Formed.the-variants.{Fine, Faulty}
 use Rattle.bodies.specs.Claims.{AsksStmt, JudgesStmt}
@@ -15,7 +15,7 @@ use Rattle.bodies.proofs.Stating.{fine-is, faulty-is}
 use Rattle.form.specs.declared.Formal.{Formal}
 use Rattle.form.specs.declared.Formal.the-variants.{Well, Ill}
 use Rattle.form.specs.Claims.{toldForm, widthsLeft, JudgesForm}
-use Rattle.form.specs.Parts.{JudgesParts, globalsAre, JudgesApply, tablesAre, LaysTables, restIs, LaysRest}
+use Rattle.form.specs.Parts.{JudgesParts, globalsAre, JudgesApply, tablesAre, LaysTables, behindTables, JudgesBehind, restIs, LaysRest}
 use Rattle.program.proofs.Seen.{applySlots, apply-scope}
 use Rattle.form.proofs.Steps.{well-is, ill-is}
 
@@ -47,7 +47,29 @@ module _ (nums directory ends : List ℕ) where
 
 pub ruleset applying = (apply-asks, apply-fine, apply-fault)
 
--- the tables, then the apply body
+-- the states, then the apply body
+module _ (nums directory ends : List ℕ) (a : Formal) (j : JudgesParts statesOf judgeStates nums directory ends 0 a)
+  where
+    states-told : (P : Program) (end : ℕ) → StandsProgram nums directory ends P end
+        → toldForm a ≡ judgeStates P 0 (P .states)
+    unfolding statesOf
+    states-told P end s = j .judged P end s
+
+    pub behind-states : (number index : ℕ) → a ≡ Ill number index → JudgesBehind nums directory ends (Ill number index)
+    unfolding behindTables toldForm _>>=_
+    behind-states number index k = record {
+      judged = λ P end s. rw (ill-is a (judgeStates P 0 (P .states)) number index (states-told P end s) k);
+    }
+
+    pub behind-apply : (r : Formal) → a ≡ Well → JudgesApply nums directory ends r → JudgesBehind nums directory ends r
+    unfolding behindTables _>>=_
+    behind-apply r k l = record {
+      judged = λ P end s. rw (well-is a (judgeStates P 0 (P .states)) (states-told P end s) k) (l .judged P end s);
+    }
+
+pub ruleset behinds = (behind-states, behind-apply)
+
+-- the tables, then what stands behind them
 module _ (nums directory ends widths laid : List ℕ) (a : Formal)
     (j : LaysTables nums directory ends 0 widths laid a) where
   tables-told : (P : Program) (end : ℕ) → StandsProgram nums directory ends P end
@@ -67,11 +89,11 @@ module _ (nums directory ends widths laid : List ℕ) (a : Formal)
     laid = λ P end s. rw (ill-is a (judgeTables P (P .tables)) number index (tables-told P end s) k);
   }
 
-  module _ (b : Formal) (k : a ≡ Well) (l : JudgesApply nums directory ends b) where
-    pub rest-apply : (number index : ℕ) → b ≡ Ill number index
+  module _ (b : Formal) (k : a ≡ Well) (l : JudgesBehind nums directory ends b) where
+    pub rest-behind : (number index : ℕ) → b ≡ Ill number index
         → LaysRest nums directory ends widths widths (Ill number index)
     unfolding restIs toldForm widthsLeft _>>=_
-    rest-apply number index e = record {
+    rest-behind number index e = record {
       judged = λ P end s.
           rw (tables-fine P end s k, ill-is b _ number index (l .judged P end s) e);
       laid = λ P end s.
@@ -87,7 +109,7 @@ module _ (nums directory ends widths laid : List ℕ) (a : Formal)
           rw (tables-fine P end s k, well-is b _ (l .judged P end s) e) (j .laid k P end s);
     }
 
-pub ruleset resting = (rest-tables, rest-apply, rest-fine)
+pub ruleset resting = (rest-tables, rest-behind, rest-fine)
 
 -- all of it
 module _ (nums directory ends widths : List ℕ) (a : Formal)
@@ -128,7 +150,7 @@ module _ (nums directory ends widths : List ℕ) (a : Formal)
 
       behind-callables : (P : Program) (end : ℕ) → StandsProgram nums directory ends P end → b ≡ Well
           → judgeProgram P ≡ restIs P
-      unfolding judgeProgram restIs _>>=_
+      unfolding judgeProgram behindTables restIs _>>=_
       behind-callables P end s e = rw (
         well-is a (judgeGlobals P (P .globals)) (globals-told P end s) k,
         well-is b (judgeCallables P 0 (P .callables)) (callables-told P end s) e,

@@ -9,7 +9,7 @@ use lib.Dec.{ltb}
 use borrow.Author.Tests.{leb-true}
 use Rattle.rules.specs.Words.{widest, sliceFits, sliceWidth, joinFits}
 use Rattle.rules.specs.Syntax.{Ty, bool, bits, GlobalTy, variable, header, Operator, arithmetic, order, shift, equality, logic, Place, local, parameter, global, field, Expr, Program}
-use Rattle.rules.specs.Form.{Res, ok, fault, named, need, Shape, aVariable, aHeader, shapeIn, globalAt, callableBelow, Scope, judgeVariable, judgeField, judgeGlobal, judgePlace, judgeHeaderAt, widthAt, needTy, judgeOperator, judgeGiven, functionTy, judgeExpr, judgeArgs}
+use Rattle.rules.specs.Form.{Res, ok, fault, named, need, Shape, aVariable, aHeader, shapeIn, globalAt, callableBelow, Scope, judgeVariable, judgeField, judgeGlobal, judgePlace, judgeHeaderAt, widthAt, needTy, judgeOperator, judgeGiven, functionTy, mayCall, judgeExpr, judgeArgs}
 use Rattle.rules.specs.Lists.{widthOf}
 use Rattle.rules.proofs.Predicates.{IfOk, isOk, isFault, IfSome, ifNone, ifSome, ok-then, ok-self, ok-found, ok-need, from-ok, if-then, if-only, if-map, if-self}
 use Rattle.program.specs.Codes.{tyOf}
@@ -135,6 +135,7 @@ module _ (nums directory ends scope : List ℕ) (Γ : Scope) (z : StandsScope nu
   expr-most {at = at} (on-call {f = f} {xs = xs} t g n args) =
       ok-then (named-ok (suc at) (if-only (ltb f (Γ .reach)) (if-self (getElem? (Γ .program .callables) f)))) λ c e.
       ok-then (ok-self (judgeArgs Γ xs)) λ given _. ok-then (ok-self (judgeGiven at (c .parameters) given)) λ _ _.
+      ok-then (ok-self (need 8 at (mayCall (Γ .body) (c .returns)))) λ _ _.
       returns-most nums directory ends (Γ .program) (z .end) (z .program) at (c .returns) _
       (z .program .callables .member f c e .returns)
 

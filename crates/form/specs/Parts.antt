@@ -11,7 +11,7 @@ use lib.Seq.{sets}
 use Rattle.rules.specs.Numbers.{mostBytes}
 use Rattle.rules.specs.Syntax.{Expr, Global, Parameter, Callable, Numeral, Key, Table, Program}
 use Rattle.rules.specs.Reading.{deepest, mostKeys, mostTables}
-use Rattle.rules.specs.Form.{Res, ok, fault, _>>=_, named, need, shapeIn, judgeExpr, judgeStmt, widthAt, judgeGlobals, applyScope, judgeActions, judgeKeys, keysAreBits, literalsFit, oneLpm, tableGivesAll, judgeListed, judgeTable, judgeTables}
+use Rattle.rules.specs.Form.{Res, ok, fault, _>>=_, named, need, shapeIn, judgeExpr, judgeStmt, widthAt, judgeGlobals, applyScope, judgeActions, judgeKeys, keysAreBits, literalsFit, oneLpm, tableGivesAll, judgeListed, judgeTable, judgeTables, judgeStates}
 use Rattle.program.specs.Codes.{tyOf}
 use Rattle.program.specs.Stands.{StandsExpr, StandsParameters, StandsNumerals, StandsKeys, StandsProgram}
 use Rattle.program.specs.Looks.{tablesOf, FoundTable}
@@ -249,9 +249,16 @@ pub record LaysTables (nums directory ends : List ℕ) (t : ℕ) (widths widths�
   pub laid : r ≡ Well → (P : Program) (end : ℕ) → StandsProgram nums directory ends P end
       → widths′ ≡ layTables P t (drop t (P .tables)) widths
 
--- the tables and the apply body
+-- the states and the apply body
+unfoldable pub behindTables : Program → Res (Unit {0})
+behindTables P = judgeStates P 0 (P .states) >>= λ states. judgeStmt (applyScope P) (P .body)
+
+pub record JudgesBehind (nums directory ends : List ℕ) (r : Formal) : Type 0 where
+  pub judged : (P : Program) (end : ℕ) → StandsProgram nums directory ends P end → toldForm r ≡ behindTables P
+
+-- the tables and what stands behind them
 unfoldable pub restIs : Program → Res (Unit {0})
-restIs P = judgeTables P (P .tables) >>= λ tables. judgeStmt (applyScope P) (P .body)
+restIs P = judgeTables P (P .tables) >>= λ tables. behindTables P
 
 pub record LaysRest (nums directory ends widths widths′ : List ℕ) (r : Formal) : Type 0 where
   pub judged : (P : Program) (end : ℕ) → StandsProgram nums directory ends P end → toldForm r ≡ restIs P

@@ -1,14 +1,15 @@
 // Refusals 6, 7 and 8 of a whole program (the rules' page Form), over the numbers where it stands, in file order: its
-// globals, its callables, its tables and its apply body. Each number is looked at a bounded number of times.
+// globals, its callables, its tables, its states and its apply body. Each number is looked at a bounded number of times.
 ghost use Rattle.rules.specs.Form.{need};
 ghost use Rattle.program.specs.Stands.{SomeProgram};
 ghost use Rattle.form.specs.Claims.{JudgesForm};
-ghost use Rattle.form.specs.Parts.{Says, JudgesApply, LaysRest};
+ghost use Rattle.form.specs.Parts.{Says, JudgesApply, JudgesBehind, LaysRest};
 
 mod actions;
 mod callables;
 mod globals;
 mod keys;
+mod states;
 mod tables;
 
 use bodies::Formed;
@@ -17,6 +18,7 @@ use callables::judge_callables;
 use globals::judge_globals;
 use program::WIDTHS;
 use shape::limits::DEEPEST;
+use states::judge_states;
 use tables::judge_tables;
 
 // A program is well formed, or has a fault, 6, 7 or 8, at an index.
@@ -50,7 +52,19 @@ fn judge_apply(nums: &[u64], ends: &[u64], directory: &[u64; shape::SLOTS]) -> F
     }
 }
 
-// A program behind its callables: its tables, then its apply body.
+// A program behind its tables: its states, then its apply body.
+fn judge_behind_tables(nums: &[u64], ends: &[u64], directory: &[u64; shape::SLOTS]) -> Formal
+    requires { ⌜ SomeProgram (now nums) (now directory) (now ends) ⌝ }
+    ensures { λ r. ⌜ JudgesBehind (now (nums .entry)) (now (directory .entry)) (now (ends .entry)) r ⌝ }
+{
+    let states = judge_states(nums, ends, directory, 0);
+    match states {
+        Formal::Well => judge_apply(nums, ends, directory),
+        Formal::Ill { number, index } => Formal::Ill { number, index },
+    }
+}
+
+// A program behind its callables: its tables, then what stands behind them.
 fn judge_rest(
     nums: &[u64],
     ends: &[u64],
@@ -64,8 +78,8 @@ fn judge_rest(
     let tables = judge_tables(nums, ends, directory, 0, &mut laid);
     match tables {
         Formal::Well => {
-            let body = judge_apply(nums, ends, directory);
-            match body {
+            let behind = judge_behind_tables(nums, ends, directory);
+            match behind {
                 Formal::Well => {
                     *widths = laid;
                     Formal::Well

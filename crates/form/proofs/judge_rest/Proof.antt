@@ -1,4 +1,4 @@
--- What carries it: the tables, then the apply body.
+-- What carries it: the tables, then what stands behind them.
 use Rattle.form.proofs.Whole.{resting}
 use borrow.Author.Needs.{needs}
 use Rattle.form.proofs.judge_rest.Statement.{statement}
@@ -10,14 +10,14 @@ judge-tables-requires c κs = search (resting, needs)
 enum-told : tie.Need-enum-told
 enum-told c = search (resting, needs)
 
-judge-apply-requires : tie.Need-judge-apply-requires
-judge-apply-requires c κs = search (resting, needs)
+judge-behind-tables-requires : tie.Need-judge-behind-tables-requires
+judge-behind-tables-requires c κs = search (resting, needs)
 
 enum-told-2 : tie.Need-enum-told-2
 enum-told-2 c = search (resting, needs)
 
-enum-known-body : tie.Need-enum-known-body
-enum-known-body c = search (resting, needs)
+enum-known-behind : tie.Need-enum-known-behind
+enum-known-behind c = search (resting, needs)
 
 enum-known-tables : tie.Need-enum-known-tables
 enum-known-tables c = search (resting, needs)
@@ -37,9 +37,9 @@ judge-rest-spec =
     (tie.spec
     judge-tables-requires
     enum-told
-    judge-apply-requires
+    judge-behind-tables-requires
     enum-told-2
-    enum-known-body
+    enum-known-behind
     enum-known-tables
     returns
     returns-2

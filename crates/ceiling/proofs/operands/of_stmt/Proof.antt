@@ -41,6 +41,9 @@ shared-slice-read-t21 c = search (stmtInside, needs)
 add-t23 : tie.Need-add-t23
 add-t23 c = record { fits = omega (arith, stmt-inside _ _ _ _ (c .before .before .pre)) }
 
+add-t24 : tie.Need-add-t24
+add-t24 c = record { fits = omega (arith, stmt-inside _ _ _ _ (c .before .before .pre)) }
+
 returns : tie.Need-returns
 returns c = search (stmtHeld, needs)
 
@@ -55,6 +58,9 @@ returns-4 c = search (stmtHeld, needs)
 
 returns-5 : tie.Need-returns-5
 returns-5 c = search (stmtHeld, needs)
+
+returns-6 : tie.Need-returns-6
+returns-6 c = search (stmtHeld, needs)
 
 pub of-stmt-spec : {M : Type 1} → statement M
 of-stmt-spec =
@@ -72,8 +78,10 @@ of-stmt-spec =
     mul-t19
     shared-slice-read-t21
     add-t23
+    add-t24
     returns
     returns-2
     returns-3
     returns-4
-    returns-5)
+    returns-5
+    returns-6)
