@@ -1,5 +1,5 @@
 -- From an accepted file to its run, and from the run's slots to what the rules say and leave.
-use mathlib.Core.Bool.{true, false, _&&_}
+use mathlib.Core.Bool.{Bool, true, false, _&&_}
 use mathlib.Core.Path.{_≡_, refl, sym, _∙_}
 use mathlib.Core.List.{List, [], _∷_, _++_}
 use Prim.Native.Nat.{ℕ, _+_, _-_, _*_, _≤_, _<_, _^_}
@@ -24,7 +24,7 @@ use Rattle.rules.proofs.Fits.{store-length}
 use Rattle.rules.proofs.Accepted as accepts
 use Rattle.rules.proofs.Accepted.{BenchOk, judged-ok, Ends, accepted-ends}
 use Rattle.rules.proofs.Room.{accepted-not-full}
-use Rattle.rules.specs.Reading.{Got, got, bad, readProgram}
+use Rattle.rules.specs.Reading.{Got, got, bad, hasParser, readProgram}
 use Rattle.shape.specs.Scans.{forget, scanOf}
 use Rattle.shape.specs.Ends.{endsLeft, ScansProgram}
 use Rattle.shape.specs.declared.Scan.the-variants.{Past}
@@ -38,7 +38,8 @@ use Rattle.judge.specs.Verdicts.{JudgesNumbers}
 use Rattle.judge.proofs.Left.{Leaves, accepted-leaves}
 use Rattle.judge.proofs.Long.{judged-long}
 use Rattle.lookup.proofs.Judged.{entries-stand}
-use Rattle.store.specs.Mirrors.{counterSlot, mostStored, storeSlots}
+use Rattle.lists.specs.Stands.{StandsPacket}
+use Rattle.store.specs.Mirrors.{counterSlot, mostStored, storeSlots, Unread}
 use Rattle.store.proofs.Sizes.{store-most}
 use Rattle.store.specs.Fills.{AsksClear, Clears, AsksCopy, Copies}
 use Rattle.steps.specs.Outcomes.{Goes, goes, counterOf}
@@ -86,6 +87,16 @@ module _ {bytes nums directory ends : List ℕ} {ceiling store size : ℕ}
   run-goes = goes-of P (programRun P es cells packet) (accepted-ends workingSlots bytes file judged-is)
       (accepted-not-full bytes file judged-is) (known .bounded)
 
+  -- a program with states has a parser, and so its packet is all that is left behind the packet's count
+  unread : (P .states ≡ [] → ⊥) → Unread nums (store + size + 1) packet
+  unread n = go (hasParser (P .version)) refl
+    where
+      go : (b : Bool) → hasParser (P .version) ≡ b → Unread nums (store + size + 1) packet
+      go true e =
+          let stands : StandsPacket nums (store + size) packet = p .leaves .lists .packetStands e in
+          record { inside = omega (arith, stands .count .inside); is = stands .rest }
+      go false e = absurd (n (known .limited .parserless e))
+
   ready : (slots frame : List ℕ) → length slots ≡ storeSlots → size + length frame ≡ workingSlots
       → Ready nums directory ends slots frame store size P es cells packet
   ready slots frame n r = record {
@@ -103,6 +114,7 @@ module _ {bytes nums directory ends : List ℕ} {ceiling store size : ℕ}
     sized = p .leaves .lists .sizeIs;
     count = n;
     room = r;
+    unread = unread;
   }
 
   -- too few slots
