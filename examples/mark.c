@@ -1,5 +1,6 @@
-/* Marks the bench file that is named: judges and runs it, and prints the result lines. They are `done` or `exit`, steps
- * and ceiling, then on a second line the store's numbers; or `refused`, the refusal's number and its place.
+/* Marks the bench file that is named: judges and runs it, and prints the result lines. They are `done`, `exit` or `reject`
+ * and its error, steps and ceiling, then on a second line the store's numbers; or `refused`, the refusal's number and its
+ * place.
  *
  *   rt staticlib calls
  *   cc -I include -o mark examples/mark.c target/staticlib/libcalls.a
@@ -33,6 +34,23 @@ static void print_store(const uint64_t *store, uint64_t length)
     printf("\n");
 }
 
+/* The result lines of an answer, with the store that the run left. */
+static void print_lines(const uint64_t answer[NENTUVAR_ANSWER], const uint64_t *store)
+{
+    switch (answer[0]) {
+    case 0:
+        printf("refused %" PRIu64 " %" PRIu64 "\n", answer[1], answer[2]);
+        break;
+    case 4:
+        printf("reject %" PRIu64 " %" PRIu64 " %" PRIu64 "\n", answer[1], answer[2], answer[3]);
+        print_store(store, answer[4]);
+        break;
+    default:
+        printf("%s %" PRIu64 " %" PRIu64 "\n", answer[0] == 1 ? "done" : "exit", answer[1], answer[2]);
+        print_store(store, answer[3]);
+    }
+}
+
 int main(int count, char **words)
 {
     if (count != 2) {
@@ -46,11 +64,8 @@ int main(int count, char **words)
         return 2;
     }
     static uint64_t store[NENTUVAR_STORE], working[NENTUVAR_WORKING];
-    static const char *const first_words[] = {"refused", "done", "exit"};
     uint64_t answer[NENTUVAR_ANSWER];
     nentuvar_run(bytes, (size_t)length, store, NENTUVAR_STORE, working, NENTUVAR_WORKING, answer);
-    printf("%s %" PRIu64 " %" PRIu64 "\n", first_words[answer[0]], answer[1], answer[2]);
-    if (answer[0] != 0)
-        print_store(store, answer[3]);
+    print_lines(answer, store);
     return 0;
 }

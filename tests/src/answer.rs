@@ -2,9 +2,8 @@
 
 use crate::inputs::{self, Inputs};
 use crate::run::{self, End, Limits};
-use crate::shape::{self, LATEST};
 use crate::tree::Program;
-use crate::{ceiling, judge, numbers, unjudged};
+use crate::{ceiling, judge, numbers, shape, unjudged};
 
 /// The first fault found: its number, and the byte offset that it is charged to.
 #[derive(Clone, Copy, Debug, PartialEq, Eq)]
@@ -55,17 +54,15 @@ pub enum Answer {
 
 /// Judge a file and run it, as the marking program does.
 pub fn marked(bytes: &[u8]) -> Answer {
-    marked_up_to(bytes, LATEST)
-}
-
-/// The same where files are read up to another version.
-pub fn marked_up_to(bytes: &[u8], latest: u64) -> Answer {
-    finish_judged(judged_up_to(bytes, latest), Limits::default())
+    marked_within(bytes, Limits::default())
 }
 
 /// The same with working slots and patience of the caller's choice.
 pub fn marked_within(bytes: &[u8], limits: Limits) -> Answer {
-    finish_judged(judged(bytes), limits)
+    match judged(bytes) {
+        Ok((program, inputs, ceiling)) => finish(run::run(&program, inputs, limits), ceiling),
+        Err(refusal) => Answer::Refused(refusal),
+    }
 }
 
 /// What the judge hands to the runner: the program, its inputs and its ceiling.
@@ -73,13 +70,8 @@ pub type Judged = Result<(Program, Inputs, u64), Refusal>;
 
 /// The judge: refusals 1 to 12 and 16 in their order, or what it hands on.
 pub fn judged(bytes: &[u8]) -> Judged {
-    judged_up_to(bytes, LATEST)
-}
-
-/// The same where files are read up to another version.
-pub fn judged_up_to(bytes: &[u8], latest: u64) -> Judged {
     let numbers = numbers::read(bytes)?;
-    let (program, rest) = shape::read(&numbers, bytes.len(), latest)?;
+    let (program, rest) = shape::read(&numbers, bytes.len())?;
     judge::judge(&program)?;
     let ceiling = ceiling::judge(&program)?;
     let inputs = inputs::judge(&program, rest, bytes.len())?;
@@ -88,26 +80,14 @@ pub fn judged_up_to(bytes: &[u8], latest: u64) -> Judged {
 
 /// Run a file with refusals 1 to 5 asked and nothing else.
 pub fn unjudged(bytes: &[u8]) -> Answer {
-    unjudged_up_to(bytes, LATEST)
-}
-
-/// The same where files are read up to another version.
-pub fn unjudged_up_to(bytes: &[u8], latest: u64) -> Answer {
     let read = numbers::read(bytes);
-    let shape = |numbers| shape::read(numbers, bytes.len(), latest);
+    let shape = |numbers| shape::read(numbers, bytes.len());
     match read.as_ref().map_err(|refusal| *refusal).and_then(|numbers| shape(numbers)) {
         Err(refusal) => Answer::Refused(refusal),
         Ok((program, rest)) => match unjudged::cut(&program, rest) {
             Some(inputs) => finish(run::run(&program, inputs, Limits::default()), 0),
             None => Answer::Stuck,
         },
-    }
-}
-
-fn finish_judged(judged: Judged, limits: Limits) -> Answer {
-    match judged {
-        Ok((program, inputs, ceiling)) => finish(run::run(&program, inputs, limits), ceiling),
-        Err(refusal) => Answer::Refused(refusal),
     }
 }
 

@@ -3,10 +3,10 @@
 use crate::tree::*;
 use std::collections::BTreeSet;
 
-/// The names of all constructs that a program of a version up to the latest one can be made of.
-pub fn all(latest: u64) -> BTreeSet<String> {
+/// The names of all constructs that a program of a version can be made of.
+pub fn all(version: u64) -> BTreeSet<String> {
     let mut groups = vec![("expression", 13), ("operator", 13), ("direction", 3), ("key kind", 2)];
-    if latest < FIRST_WITH_PARSER {
+    if version < FIRST_WITH_PARSER {
         groups.push(("statement", 10));
     } else {
         groups.extend([("statement", 12), ("transition", 4)]);

@@ -9,9 +9,8 @@
 //! done 1 1                  the result lines, or stuck
 //! ```
 
-use crate::answer::{marked_up_to, unjudged_up_to, Answer};
+use crate::answer::{marked, unjudged, Answer};
 use crate::numbers;
-use crate::shape::LATEST;
 use std::path::Path;
 
 pub struct Example {
@@ -30,16 +29,7 @@ pub fn read(file: &str) -> Result<Example, String> {
 
 /// Name and example of each file of the corpus.
 pub fn corpus() -> Result<Vec<(String, Example)>, String> {
-    examples("corpus")
-}
-
-/// Those of version 2, which are no part of the corpus before that version is read.
-pub fn corpus_of_version_2() -> Result<Vec<(String, Example)>, String> {
-    examples("corpus-2")
-}
-
-fn examples(folder: &str) -> Result<Vec<(String, Example)>, String> {
-    let folder = Path::new(env!("CARGO_MANIFEST_DIR")).join(folder);
+    let folder = Path::new(env!("CARGO_MANIFEST_DIR")).join("corpus");
     let files = std::fs::read_dir(&folder).map_err(|error| format!("{}: {error}", folder.display()))?;
     let mut examples = Vec::new();
     for file in files {
@@ -64,15 +54,10 @@ impl Example {
 
     /// What the second interpreter answers.
     pub fn answer(&self) -> Answer {
-        self.answer_up_to(LATEST)
-    }
-
-    /// The same where files are read up to another version.
-    pub fn answer_up_to(&self, latest: u64) -> Answer {
         if self.judged {
-            marked_up_to(&self.bytes, latest)
+            marked(&self.bytes)
         } else {
-            unjudged_up_to(&self.bytes, latest)
+            unjudged(&self.bytes)
         }
     }
 }

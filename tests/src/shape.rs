@@ -5,22 +5,22 @@ use crate::numbers::Number;
 use crate::tree::*;
 use std::fmt;
 
-/// Files are read up to this version. Version 2 can be read here, and waits until all others can read it too.
-pub const LATEST: u64 = 1;
+/// Files are read up to this version.
+pub const LATEST: u64 = 2;
 pub const DEEPEST: usize = 32;
 
 type Shaped<T> = Result<T, Refusal>;
 
-/// The program of a version up to the latest one, and the numbers after its apply body.
-pub fn read(numbers: &[Number], length: usize, latest: u64) -> Shaped<(Program, &[Number])> {
-    let mut reader = Reader::new(numbers, length, latest);
+/// The program, and the numbers after its apply body.
+pub fn read(numbers: &[Number], length: usize) -> Shaped<(Program, &[Number])> {
+    let mut reader = Reader::new(numbers, length);
     let program = reader.program()?;
     Ok((program, reader.rest))
 }
 
 /// What may stand at the place where the scan refuses the numbers, if it does.
-pub fn wanted(numbers: &[Number], length: usize, latest: u64) -> Option<Wanted> {
-    let mut reader = Reader::new(numbers, length, latest);
+pub fn wanted(numbers: &[Number], length: usize) -> Option<Wanted> {
+    let mut reader = Reader::new(numbers, length);
     reader.program().err().map(|_| reader.wanted)
 }
 
@@ -37,7 +37,6 @@ impl fmt::Display for Wanted {
     fn fmt(&self, text: &mut fmt::Formatter) -> fmt::Result {
         match self {
             Wanted::Any(what) => write!(text, "{what}"),
-            Wanted::Listed { what, least, most } if least == most => write!(text, "{what}, {least}"),
             Wanted::Listed { what, least, most } => write!(text, "{what}, {least} to {most}"),
             Wanted::GlobalType => write!(text, "a global's type, 0 to 64 or 128 to 135"),
             Wanted::NoDeeperTag => write!(text, "no tag deeper than {DEEPEST}"),
@@ -49,8 +48,6 @@ struct Reader<'a> {
     rest: &'a [Number],
     /// The stream's length in bytes: the place of a number that is missing.
     length: usize,
-    /// The latest version that is read.
-    latest: u64,
     /// The program's version, once it is read.
     version: u64,
     /// What the number that was asked for last may be.
@@ -58,8 +55,8 @@ struct Reader<'a> {
 }
 
 impl<'a> Reader<'a> {
-    fn new(numbers: &'a [Number], length: usize, latest: u64) -> Self {
-        Reader { rest: numbers, length, latest, version: 0, wanted: Wanted::Any("the first number") }
+    fn new(numbers: &'a [Number], length: usize) -> Self {
+        Reader { rest: numbers, length, version: 0, wanted: Wanted::Any("the first number") }
     }
 
     fn number(&mut self, wanted: Wanted) -> Shaped<Number> {
@@ -101,7 +98,7 @@ impl<'a> Reader<'a> {
     }
 
     fn program(&mut self) -> Shaped<Program> {
-        self.version = self.listed("the version", 1, self.latest)?.value;
+        self.version = self.listed("the version", 1, LATEST)?.value;
         Ok(Program {
             version: self.version,
             headers: self.members("the count of header types", 0, 8, Self::header)?,

@@ -4,7 +4,6 @@ use second::answer::judged;
 use second::census;
 use second::example::{self, Example};
 use second::shape::LATEST;
-use second::tree::FIRST_WITH_PARSER;
 use std::collections::BTreeSet;
 
 fn corpus() -> Vec<(String, Example)> {
@@ -34,11 +33,10 @@ fn the_corpus_has_every_construct_in_a_file_that_runs() {
 fn the_corpus_has_every_refusal_and_every_signal() {
     let first_words = |example: &Example| example.expected.split_whitespace().take(2).collect::<Vec<_>>().join(" ");
     let seen: BTreeSet<String> = corpus().iter().map(|(_, example)| first_words(example)).collect();
-    let of_version_2 = LATEST >= FIRST_WITH_PARSER;
-    for refusal in (1..=12).chain(of_version_2.then_some(16)) {
+    for refusal in (1..=12).chain([16]) {
         assert!(seen.contains(&format!("refused {refusal}")), "no refusal {refusal}");
     }
-    for signal in ["done", "exit"].into_iter().chain(of_version_2.then_some("reject")) {
+    for signal in ["done", "exit", "reject"] {
         assert!(seen.iter().any(|words| words.starts_with(signal)), "no {signal}");
     }
 }

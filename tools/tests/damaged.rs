@@ -1,8 +1,8 @@
 //! Texts with faults at random: each is read as a file that can be shown, or its fault is told with a place in it.
 
-use second::generate::{bench_file_up_to, Random};
-use sheet::make::make_up_to;
-use sheet::show::show_up_to;
+use second::generate::{bench_file, Random};
+use sheet::make::make;
+use sheet::show::show;
 
 /// Words that stand somewhere in a text, and some that stand nowhere.
 const WORDS: [&str; 26] = [
@@ -66,13 +66,12 @@ fn damaged(random: &mut Random, text: &str) -> String {
     pieces.concat()
 }
 
-/// Damages texts of files that are made and read up to a version.
-fn damage(latest: u64) {
-    let (show, make) = (|bytes: &[u8]| show_up_to(bytes, latest), |text: &str| make_up_to(text, latest));
+#[test]
+fn a_damaged_text_is_a_file_or_a_fault() {
     let mut random = Random::new(41);
     let (mut files, mut faults) = (0, 0);
-    for number in 0..10_000 {
-        let Ok(sheet) = show(&bench_file_up_to(41, number, 160, latest)) else { continue };
+    for number in 0..20_000 {
+        let Ok(sheet) = show(&bench_file(41, number, 160)) else { continue };
         let text = damaged(&mut random, &sheet.text);
         match make(&text) {
             Ok(bytes) => {
@@ -87,15 +86,5 @@ fn damage(latest: u64) {
             }
         }
     }
-    assert!(files > 500 && faults > 5_000, "{files} files, {faults} faults");
-}
-
-#[test]
-fn a_damaged_text_is_a_file_or_a_fault() {
-    damage(1);
-}
-
-#[test]
-fn so_is_one_of_version_2() {
-    damage(2);
+    assert!(files > 1_000 && faults > 10_000, "{files} files, {faults} faults");
 }

@@ -2,33 +2,26 @@
 
 mod wild;
 
-use second::answer::{marked_up_to, Answer};
+use second::answer::{marked, Answer};
 use second::example;
-use second::generate::bench_file_up_to;
+use second::generate::bench_file;
 use second::numbers::MOST_BYTES;
-use sheet::explain::explain_up_to;
+use second::shape::LATEST;
+use sheet::explain::explain;
 use sheet::paint::Paint;
 use wild::wild_file;
 
-/// Files are read up to this version; those of version 1 are explained the same whatever it is.
-const LATEST: u64 = 2;
-
-fn marked(bytes: &[u8]) -> Answer {
-    marked_up_to(bytes, LATEST)
-}
-
 fn explanation(bytes: &[u8]) -> String {
-    explain_up_to(bytes, &marked(bytes), Paint::NONE, LATEST)
+    explain(bytes, &marked(bytes), Paint::NONE)
 }
 
 /// The corpus, generated files and files that keep to few rules.
 fn files() -> Vec<Vec<u8>> {
-    let (corpus, version_2) = (example::corpus(), example::corpus_of_version_2());
-    let examples = corpus.expect("the corpus").into_iter().chain(version_2.expect("the examples"));
-    let mut files: Vec<Vec<u8>> = examples.map(|(_, example)| example.bytes).collect();
+    let corpus = example::corpus().expect("the corpus");
+    let mut files: Vec<Vec<u8>> = corpus.into_iter().map(|(_, example)| example.bytes).collect();
+    files.extend((0..8_000).map(|number| bench_file(21, number, 160)));
+    files.extend((0..800).map(|number| bench_file(22, number, MOST_BYTES)));
     for version in 1..=LATEST {
-        files.extend((0..4_000).map(|number| bench_file_up_to(21, number, 160, version)));
-        files.extend((0..400).map(|number| bench_file_up_to(22, number, MOST_BYTES, version)));
         files.extend((0..4_000).map(|seed| wild_file(seed, version)));
     }
     files

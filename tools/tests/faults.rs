@@ -82,8 +82,8 @@ fn statements() {
 
 #[test]
 fn declarations() {
-    let order = "(in order: header types, globals, actions and functions, tables, apply, entries, store)";
-    let early = format!("x:1:18: expected 'apply' {order}, not 'bit'");
+    let order = "header types, globals, actions and functions, tables, states, apply, entries, store, packet";
+    let early = format!("x:1:18: expected 'apply' (in order: {order}), not 'bit'");
     check(&[
         ("action a() { ; } bit<8> x; apply { ; }", &early),
         ("bit<0> x; apply { ; }", "x:1:5: a width is 1 to 64"),

@@ -4,16 +4,13 @@
 //! bench file; `numbers`, `shown` and `explained` are what the last file consists of, is shown as and is explained by;
 //! `bad` is a text that cannot be read, and `fault` what is told of it.
 
-use second::answer::marked_up_to;
+use second::answer::marked;
 use second::numbers;
-use sheet::explain::explain_up_to;
-use sheet::make::make_up_to;
+use sheet::explain::explain;
+use sheet::make::make;
 use sheet::paint::Paint;
-use sheet::show::show_up_to;
-use sheet::source::Fault;
+use sheet::show::show;
 
-/// The page describes files up to this version.
-const LATEST: u64 = 2;
 const PAGE: &str = include_str!("../../docs/SHEETS.md");
 
 struct Block {
@@ -50,12 +47,8 @@ fn hexadecimal(text: &str) -> Vec<u8> {
     }
 }
 
-fn make(text: &str) -> Result<Vec<u8>, Fault> {
-    make_up_to(text, LATEST)
-}
-
 fn shown(bytes: &[u8]) -> String {
-    show_up_to(bytes, LATEST).expect("a file with a text").text
+    show(bytes).expect("a file with a text").text
 }
 
 fn made(text: &str, line: usize) -> Vec<u8> {
@@ -86,7 +79,7 @@ fn each_block_of_the_page_holds() {
             "text" => continue,
             "numbers" => (format!("{:?}", numbers::write(&decimal(&text))), format!("{bytes:?}")),
             "shown" => (text, shown(&bytes)),
-            "explained" => (text, explain_up_to(&bytes, &marked_up_to(&bytes, LATEST), Paint::NONE, LATEST)),
+            "explained" => (text, explain(&bytes, &marked(&bytes), Paint::NONE)),
             "fault" => (text, make(&bad).expect_err("a text that cannot be read").told("text", &bad)),
             other => panic!("line {line}: a block of kind '{other}'"),
         };

@@ -3,9 +3,10 @@
 mod wild;
 
 use second::example;
-use second::generate::bench_file_up_to;
+use second::generate::bench_file;
 use second::numbers;
-use sheet::show::{show_up_to, Mark, Part};
+use second::shape::LATEST;
+use sheet::show::{show, Mark, Part};
 use std::collections::BTreeMap;
 use wild::wild_file;
 
@@ -75,7 +76,7 @@ fn agrees(mark: &Mark, text: &str, number: u64) -> bool {
 }
 
 fn check(name: &str, bytes: &[u8]) {
-    let Ok(sheet) = show_up_to(bytes, 2) else { return };
+    let Ok(sheet) = show(bytes) else { return };
     let numbers = numbers::read(bytes).expect("numbers");
     let values: BTreeMap<usize, u64> = numbers.iter().map(|number| (number.place, number.value)).collect();
     for mark in &sheet.marks {
@@ -94,13 +95,12 @@ fn marks_stand_under_their_numbers() {
     for (name, example) in example::corpus().expect("the corpus") {
         check(&name, &example.bytes);
     }
-    for (name, example) in example::corpus_of_version_2().expect("the examples") {
-        check(&name, &example.bytes);
+    for number in 0..8_000 {
+        check(&format!("generated file {number}"), &bench_file(51, number, 200));
     }
     for number in 0..4_000 {
-        for version in [1, 2] {
-            check(&format!("generated file {number}"), &bench_file_up_to(51, number, 200, version));
-            check(&format!("wild file {number}"), &wild_file(number, version));
+        for version in 1..=LATEST {
+            check(&format!("wild file {number} of version {version}"), &wild_file(number, version));
         }
     }
 }

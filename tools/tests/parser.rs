@@ -1,12 +1,11 @@
-//! Texts with a parser as people write them, and those that cannot be read, where files are read up to version 2.
+//! Texts with a parser as people write them, and those that cannot be read.
 
 use second::numbers;
-use sheet::make::{make, make_up_to};
-use sheet::source::Fault;
+use sheet::make::make;
 
 /// The numbers that a text stands for.
 fn numbers_of(text: &str) -> Vec<u64> {
-    let bytes = make_up_to(text, 2).unwrap_or_else(|fault| panic!("{}", fault.told("text", text)));
+    let bytes = make(text).unwrap_or_else(|fault| panic!("{}", fault.told("text", text)));
     let read = numbers::read(&bytes).expect("a file of numbers");
     read.iter().map(|number| number.value).collect()
 }
@@ -15,28 +14,16 @@ fn same(one: &str, other: &str) {
     assert_eq!(numbers_of(one), numbers_of(other));
 }
 
-/// A fault as it is told, without the line that it shows.
-fn first_line(fault: Fault, text: &str) -> String {
-    fault.told("x", text).lines().next().expect("a line").to_string()
-}
-
+/// Asserts what a text's fault is told as, without the line that it shows.
 fn check(text: &str, expected: &str) {
-    let fault = make_up_to(text, 2).expect_err("a text that cannot be read");
-    assert_eq!(first_line(fault, text), expected, "{text}");
+    let fault = make(text).expect_err("a text that cannot be read");
+    assert_eq!(fault.told("x", text).lines().next(), Some(expected), "{text}");
 }
 
 #[test]
 fn a_text_is_of_version_2_if_it_has_states() {
     assert_eq!(numbers_of("apply { ; }"), [1, 0, 0, 0, 0, 0]);
     assert_eq!(numbers_of("state only { ; transition accept; } apply { ; }"), [2, 0, 0, 0, 0, 1, 0, 1, 0]);
-}
-
-#[test]
-fn a_text_of_a_version_that_is_not_read_is_told_at_its_first_state() {
-    let text = "bit<8> x;\nstate s { ; } apply { ; }";
-    let fault = make_up_to(text, 1).expect_err("a text that cannot be read");
-    assert_eq!(first_line(fault, text), "x:2:1: expected the version, 1, not 2");
-    assert_eq!(make(text).is_ok(), second::shape::LATEST >= 2);
 }
 
 #[test]

@@ -18,7 +18,7 @@ pub fn damage_numbers(random: &mut Random, draft: &mut Draft) {
     }
 }
 
-/// Entries and store are in the last numbers of a file.
+/// Entries, store and packet are in the last numbers of a file.
 const LAST: usize = 16;
 
 /// One number becomes an edge of its own list, or steps over it.

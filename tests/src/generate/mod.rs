@@ -18,15 +18,11 @@ use draft::Draft;
 use program::Builder;
 pub use random::Random;
 
-/// The bench file of a seed and a number; `largest` limits its bytes, where no fault lengthens it.
+/// The bench file of a seed and a number; `largest` limits its bytes, where no fault lengthens it. As many files are made
+/// for one version as for the other, whatever damage makes of them.
 pub fn bench_file(seed: u64, number: u64, largest: usize) -> Vec<u8> {
-    bench_file_up_to(seed, number, largest, LATEST)
-}
-
-/// The same with files of each version up to another one. Those of version 1 are the same whatever the latest one is.
-pub fn bench_file_up_to(seed: u64, number: u64, largest: usize, latest: u64) -> Vec<u8> {
     let start = Random::new(seed).word() ^ number;
-    let version = Random::new(!start).between(1, latest);
+    let version = Random::new(!start).between(1, LATEST);
     let mut random = Random::new(start);
     let mut draft = new_draft(&mut random, largest, version);
     let faults = random.choose(&[0, 0, 0, 0, 0, 0, 0, 1, 1, 2]) + u64::from(random.chance(5));

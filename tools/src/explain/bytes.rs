@@ -9,14 +9,14 @@ use second::shape;
 /// How many bytes are shown on each side of the number at fault.
 const AROUND: usize = 8;
 
-pub fn explain_bytes(bytes: &[u8], refusal: Refusal, paint: Paint, latest: u64) -> String {
+pub fn explain_bytes(bytes: &[u8], refusal: Refusal, paint: Paint) -> String {
     let rule = rule_line(refusal, rules::general(refusal.number));
     if refusal.number == 1 {
         return format!("{rule}This file has {}.\n", bytes.len());
     }
     let number = number_at(bytes, refusal.place);
     let around = around(bytes, refusal.place, number.len(), paint);
-    let expected = expected(bytes, refusal, number, latest);
+    let expected = expected(bytes, refusal, number);
     format!("{rule}{}\n{around}\nExpected: {expected}.\n", place_line(refusal, bytes.len()))
 }
 
@@ -28,18 +28,18 @@ fn number_at(bytes: &[u8], place: usize) -> &[u8] {
     &rest[..length.min(rest.len())]
 }
 
-fn expected(bytes: &[u8], refusal: Refusal, number: &[u8], latest: u64) -> String {
+fn expected(bytes: &[u8], refusal: Refusal, number: &[u8]) -> String {
     match (refusal.number, number) {
         (2, _) => "a last byte below 80, before the file ends".to_string(),
         (3, [.., tenth]) if number.len() == MOST_BYTES_OF_A_NUMBER => format!("01 for the tenth byte, not {tenth:02X}"),
         (3, _) => "no 00 behind other bytes of a number".to_string(),
-        _ => expected_of_shape(bytes, refusal, latest),
+        _ => expected_of_shape(bytes, refusal),
     }
 }
 
-fn expected_of_shape(bytes: &[u8], refusal: Refusal, latest: u64) -> String {
+fn expected_of_shape(bytes: &[u8], refusal: Refusal) -> String {
     let numbers = numbers::read(bytes).unwrap_or_default();
-    let wanted = shape::wanted(&numbers, bytes.len(), latest).map_or(String::new(), |wanted| wanted.to_string());
+    let wanted = shape::wanted(&numbers, bytes.len()).map_or(String::new(), |wanted| wanted.to_string());
     match numbers.iter().find(|number| number.place == refusal.place) {
         Some(number) if refusal.number == 4 => format!("{wanted}; this is {}", number.value),
         _ => wanted,

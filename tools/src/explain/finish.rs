@@ -39,9 +39,9 @@ impl Slot {
 }
 
 /// First and final store, by name; what has changed is marked.
-pub fn stores(bytes: &[u8], final_store: &[u64], paint: Paint, latest: u64) -> String {
+pub fn stores(bytes: &[u8], final_store: &[u64], paint: Paint) -> String {
     let numbers = numbers::read(bytes).unwrap_or_default();
-    let Ok((program, rest)) = shape::read(&numbers, bytes.len(), latest) else { return String::new() };
+    let Ok((program, rest)) = shape::read(&numbers, bytes.len()) else { return String::new() };
     let first_store = first_store(&program, rest);
     let slots = slots(&program);
     if slots.is_empty() {

@@ -6,25 +6,19 @@ mod lines;
 mod rules;
 
 use crate::paint::Paint;
-use crate::show::{show_up_to, Mark, Sheet};
+use crate::show::{show, Mark, Sheet};
 use second::answer::{Answer, Refusal};
-use second::shape::LATEST;
 
 /// The answer to a file: its result lines, and what they mean.
 pub fn explain(bytes: &[u8], answer: &Answer, paint: Paint) -> String {
-    explain_up_to(bytes, answer, paint, LATEST)
-}
-
-/// The same where files are read up to another version.
-pub fn explain_up_to(bytes: &[u8], answer: &Answer, paint: Paint, latest: u64) -> String {
     let meaning = match answer {
-        Answer::Refused(refusal) => match show_up_to(bytes, latest) {
+        Answer::Refused(refusal) => match show(bytes) {
             Ok(sheet) => explain_construct(&sheet, bytes.len(), *refusal, paint),
-            Err(_) => bytes::explain_bytes(bytes, *refusal, paint, latest),
+            Err(_) => bytes::explain_bytes(bytes, *refusal, paint),
         },
         Answer::Finished { signal, steps, ceiling, store } => {
             let sentence = finish::sentence(*signal, *steps, *ceiling);
-            sentence + &finish::stores(bytes, store, paint, latest)
+            sentence + &finish::stores(bytes, store, paint)
         }
         Answer::Stuck | Answer::TooLong => String::new(),
     };

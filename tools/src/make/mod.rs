@@ -15,7 +15,7 @@ use crate::source::Fault;
 use cursor::Cursor;
 use names::Names;
 use second::numbers::{self, Number, MOST_BYTES};
-use second::shape::{self, DEEPEST, LATEST};
+use second::shape::{self, DEEPEST};
 use second::tree::Program;
 
 type Read<T> = Result<T, Fault>;
@@ -25,13 +25,8 @@ const DEEPEST_TEXT: usize = 4 * DEEPEST;
 
 /// The bytes that a text stands for. The file passes refusals 1 to 5.
 pub fn make(text: &str) -> Result<Vec<u8>, Fault> {
-    make_up_to(text, LATEST)
-}
-
-/// The same where files are read up to another version.
-pub fn make_up_to(text: &str, latest: u64) -> Result<Vec<u8>, Fault> {
     let text = Cursor::new(tokens::read(text)?);
-    let mut maker = Maker { text, latest, items: Vec::new(), names: Names::default(), depth: 0 };
+    let mut maker = Maker { text, items: Vec::new(), names: Names::default(), depth: 0 };
     maker.program()?;
     let program = maker.shaped()?;
     maker.inputs(&program)?;
@@ -40,7 +35,6 @@ pub fn make_up_to(text: &str, latest: u64) -> Result<Vec<u8>, Fault> {
 
 struct Maker<'a> {
     text: Cursor<'a>,
-    latest: u64,
     /// The file's numbers.
     items: Vec<Item<'a>>,
     names: Names<'a>,
@@ -131,12 +125,12 @@ impl<'a> Maker<'a> {
     fn shaped(&self) -> Read<Program> {
         let place = |(place, value)| Number { value, place };
         let numbers: Vec<Number> = self.numbers().into_iter().enumerate().map(place).collect();
-        let refusal = match shape::read(&numbers, numbers.len(), self.latest) {
+        let refusal = match shape::read(&numbers, numbers.len()) {
             Ok((program, _)) => return Ok(program),
             Err(refusal) => refusal,
         };
         let at = self.items[refusal.place].at;
-        match shape::wanted(&numbers, numbers.len(), self.latest) {
+        match shape::wanted(&numbers, numbers.len()) {
             Some(wanted) if refusal.number == 4 => {
                 Err(Fault::new(at, format!("expected {wanted}, not {}", numbers[refusal.place].value)))
             }

@@ -5,11 +5,9 @@ use super::tags::statement::BLOCK;
 use super::tokens::Token;
 use super::{Maker, Read};
 use crate::source::Fault;
-use second::tree::FIRST_WITH_PARSER;
 
 const MOST_HEADERS: u64 = 8;
-const ORDER: &str = "in order: header types, globals, actions and functions, tables, apply, entries, store";
-const ORDER_WITH_PARSER: &str =
+const ORDER: &str =
     "in order: header types, globals, actions and functions, tables, states, apply, entries, store, packet";
 
 impl<'a> Maker<'a> {
@@ -21,8 +19,7 @@ impl<'a> Maker<'a> {
         self.list(Self::table)?;
         self.states()?;
         if !self.text.takes_word("apply") {
-            let order = if self.latest < FIRST_WITH_PARSER { ORDER } else { ORDER_WITH_PARSER };
-            return self.text.expected(&format!("'apply' ({order})"));
+            return self.text.expected(&format!("'apply' ({ORDER})"));
         }
         self.text.expect("{")?;
         self.body()?;

@@ -18,7 +18,6 @@ impl Maker<'_> {
             return Ok(());
         }
         self.items[0].number = FIRST_WITH_PARSER;
-        self.items[0].at = self.text.at();
         self.list(Self::state)
     }
 

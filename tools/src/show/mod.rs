@@ -13,19 +13,13 @@ pub use page::{Mark, Part, Sheet};
 
 use page::Page;
 use second::answer::Refusal;
-use second::numbers;
-use second::shape::{self, LATEST};
 use second::tree::Program;
+use second::{numbers, shape};
 
 /// The text of a file that passes refusals 1 to 5; of another one the refusal.
 pub fn show(bytes: &[u8]) -> Result<Sheet, Refusal> {
-    show_up_to(bytes, LATEST)
-}
-
-/// The same where files are read up to another version.
-pub fn show_up_to(bytes: &[u8], latest: u64) -> Result<Sheet, Refusal> {
     let numbers = numbers::read(bytes)?;
-    let (program, rest) = shape::read(&numbers, bytes.len(), latest)?;
+    let (program, rest) = shape::read(&numbers, bytes.len())?;
     let mut writer = Writer { program: &program, page: Page::default(), in_state: false };
     writer.program();
     writer.inputs(rest, bytes.len());

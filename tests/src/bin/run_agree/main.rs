@@ -19,8 +19,8 @@ use std::sync::atomic::{AtomicU64, Ordering};
 use std::thread;
 use tally::Tally;
 
-/// Examples of at most so many bytes are changed.
-const SHORTEST: usize = 8;
+/// Examples of at most so many bytes are changed, the smallest one with a parser among them.
+const SHORTEST: usize = 11;
 /// How many threads share the generated files and the strings of three bytes.
 const THREADS: usize = 2;
 /// How often it is told how far they are: after so many files.

@@ -116,6 +116,20 @@ pub fn give_back(value: Numbers) -> Numbers {
     [vec![6], value].concat()
 }
 
+pub fn extract(global: u64) -> Numbers {
+    vec![11, global]
+}
+
+/// A state that accepts behind its statement.
+pub fn accepting(statement: Numbers) -> Numbers {
+    [statement, vec![1]].concat()
+}
+
+/// A state that selects behind its statement: an expression, and pairs of a value and a later state.
+pub fn selecting(statement: Numbers, expression: Numbers, pairs: &[[u64; 2]]) -> Numbers {
+    [statement, vec![4], expression, vec![pairs.len() as u64], pairs.concat()].concat()
+}
+
 /// A list: a count, then its members.
 pub fn list(members: &[Numbers]) -> Numbers {
     [vec![members.len() as u64], members.concat()].concat()
@@ -143,30 +157,39 @@ pub fn table(keys: &[(u64, Numbers)], actions: &[u64], default: u64, arguments: 
     [list(&keys), count(actions), actions.to_vec(), vec![default], count(arguments), arguments.to_vec()].concat()
 }
 
-/// A bench file of version 1; what is not named has no members.
+/// A bench file, of version 2 if it has states; what is not named has no members.
 #[derive(Default)]
 pub struct Bench {
     pub header_types: Vec<Numbers>,
     pub globals: Numbers,
     pub callables: Vec<Numbers>,
     pub tables: Vec<Numbers>,
+    pub states: Vec<Numbers>,
     pub body: Numbers,
     pub entries: Vec<Numbers>,
     pub store: Numbers,
+    /// Only beside states.
+    pub packet: Numbers,
 }
 
 impl Bench {
     pub fn bytes(&self) -> Vec<u8> {
+        let counted = |list: &[u64]| [&[list.len() as u64], list].concat();
+        let (version, states, packet) = match self.states[..] {
+            [] => (1, vec![], vec![]),
+            _ => (2, list(&self.states), counted(&self.packet)),
+        };
         let numbers = [
-            vec![1],
+            vec![version],
             list(&self.header_types),
-            vec![self.globals.len() as u64],
-            self.globals.clone(),
+            counted(&self.globals),
             list(&self.callables),
             list(&self.tables),
+            states,
             self.body.clone(),
             list(&self.entries),
             self.store.clone(),
+            packet,
         ];
         numbers::write(&numbers.concat())
     }

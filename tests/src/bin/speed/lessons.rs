@@ -56,6 +56,7 @@ pub fn small() -> Vec<u8> {
         body: stage(0),
         entries: networks.iter().map(|&(address, length, port)| vec![0, address, length, 0, port]).collect(),
         store: store(),
+        ..Bench::default()
     };
     bench.bytes()
 }
@@ -73,6 +74,7 @@ pub fn large() -> Vec<u8> {
             body: block(&stages),
             entries: (0..64).map(|index| entry(index % 8, index / 8)).collect(),
             store: store(),
+            ..Bench::default()
         };
         bench.bytes()
     };

@@ -6,6 +6,7 @@ mod constructs;
 mod kinds;
 mod ladder;
 mod lessons;
+mod parsers;
 mod report;
 mod sides;
 mod tables;
@@ -60,7 +61,12 @@ fn small_and_large(library: &mut Library, report: &mut Report) {
         "Small and large files: nanoseconds a file",
         &["file", "bytes", "steps", "", "library", "second", "library, a byte", "ratio"],
     );
-    let sets = [("small", vec![lessons::small()]), ("generated", generated()), ("large", vec![lessons::large()])];
+    let sets = [
+        ("small", vec![lessons::small()]),
+        ("generated", generated()),
+        ("large", vec![lessons::large()]),
+        ("parser", vec![parsers::sixteen_states()]),
+    ];
     for (name, files) in sets {
         let count = files.len();
         let bytes = files.iter().map(Vec::len).sum::<usize>() / count;
