@@ -8,12 +8,12 @@ use lib.Dec.{eqb}
 use lib.ListN.{length, getD, set, drop, length-set, replicate, getD-replicate, drop-of-length-le}
 use lib.Seq.{getD-set-same, getD-set-other}
 use borrow.Author.Tests.{eq-eqb, ne-eqb, eqb-true, eqb-false}
-use Rattle.rules.specs.Syntax.{Expr, Numeral, Pair, Transition, leadTo, select, Program}
-use Rattle.rules.specs.Reading.{deepest, mostStates, mostPairs}
+use Rattle.rules.specs.Syntax.{Pair, Transition, Program}
+use Rattle.rules.specs.Reading.{mostStates}
 use Rattle.rules.specs.Ceiling.{noTable, ceilingExpr, ceilingStmt, largestOf, ceilingTransition, ceilingFrom, ceilingParser}
-use Rattle.program.specs.Stands.{HoldsWithin, StandsExpr, StandsNumeral, StandsPairs, StandsTransition, on-no-transition, on-accept, on-reject, on-lead-to, on-select, StandsState}
+use Rattle.program.specs.Stands.{StandsTransition, on-no-transition, on-accept, on-reject, on-lead-to, on-select, StandsState}
 use Rattle.program.specs.Looks.{Has, Finds, statesOf, FoundState}
-use Rattle.program.proofs.Views.{expr-begins, stmt-begins}
+use Rattle.program.proofs.Views.{LeadView, lead-view, SelectView, select-view, transition-inside, PairView, pair-view, expr-begins, stmt-begins}
 use Rattle.program.proofs.Found.{At, member-at}
 use Rattle.program.proofs.Members.{drop-member}
 use Rattle.ceiling.specs.Cut.{cut}
@@ -32,25 +32,10 @@ led-beyond filled number h = record { counted = λ later f. cut-zero ∙ rw (f .
 
 pub ruleset leading = (led-slot, led-beyond)
 
--- pairs of which some are left have a first
-record FirstPair (nums : List ℕ) (at count : ℕ) (ps : List Pair) : Type 0 where
-  pub first : Pair
-  pub others : List Pair
-  pub same : ps ≡ first ∷ others
-  pub state : StandsNumeral nums (at + 1) (first .state)
-  pub rest : StandsPairs nums (at + 2) others
-  pub fewer : count - 1 ≡ length others
-
-first-pair : (nums : List ℕ) (at count : ℕ) (ps : List Pair) → StandsPairs nums at ps → count ≡ length ps
-    → (count ≡ 0 → ⊥) → FirstPair nums at count ps
-unfolding StandsPairs
-first-pair nums at count [] s e more = absurd (more e)
-first-pair nums at count (p ∷ ps) s e more =
-    record { first = p; others = ps; same = refl; state = s .1 .0; rest = s .1 .1; fewer = omega (arith, e) }
-
+-- pairs of which some are left
 module _ (nums filled : List ℕ) (at count : ℕ) (a : AsksDearest nums filled at count) (n : count ≡ 0 → ⊥) where
-  pair-of : FirstPair nums at count (a .pairs)
-  pair-of = first-pair nums at count (a .pairs) (a .stand) (a .counts) n
+  pair-of : PairView nums at count (a .pairs)
+  pair-of = pair-view (a .pairs) (a .stand) (a .counts) n
 
   pub pair-inside : at + 1 < length nums
   pair-inside = pair-of .state .holds .inside
@@ -91,7 +76,7 @@ module _ (nums filled : List ℕ) (at count : ℕ) where
     dearer-others l = record {
       low = d .low;
       counted = λ later ps f s k.
-          let v : FirstPair nums at count ps = first-pair nums at count ps s k n in
+          let v : PairView nums at count ps = pair-view ps s k n in
           rw (v .same) (cut-larger one others _ _ (rw (v .state .holds .is) at (c .counted later f))
           (d .counted later (v .others) f (v .rest) (v .fewer)) l);
     }
@@ -101,7 +86,7 @@ module _ (nums filled : List ℕ) (at count : ℕ) where
     dearer-one l = record {
       low = cut-low one _ (c .counted (a .later) (a .fills));
       counted = λ later ps f s k.
-          let v : FirstPair nums at count ps = first-pair nums at count ps s k n in
+          let v : PairView nums at count ps = pair-view ps s k n in
           rw (v .same) (cut-not-larger one others _ _ (rw (v .state .holds .is) at (c .counted later f))
           (d .counted later (v .others) f (v .rest) (v .fewer)) l);
     }
@@ -118,42 +103,7 @@ pub ruleset pairsCounted = (
 )
 
 -- a transition, by its tag
-record LeadView (nums : List ℕ) (at : ℕ) (t : Transition) : Type 0 where
-  pub state : Numeral
-  pub same : t ≡ leadTo state
-  pub stands : StandsNumeral nums (at + 1) state
-
-record SelectView (nums ends : List ℕ) (at : ℕ) (t : Transition) : Type 0 where
-  pub expr : Expr
-  pub pairs : List Pair
-  pub same : t ≡ select at expr pairs
-  pub stands : StandsExpr nums ends deepest (at + 1) expr
-  pub count : HoldsWithin 0 mostPairs nums (getD ends (at + 1) 0) (length pairs)
-  pub stand : StandsPairs nums (getD ends (at + 1) 0 + 1) pairs
-
 module _ {nums ends : List ℕ} {at : ℕ} where
-  transition-inside : {t : Transition} → StandsTransition nums ends at t → at < length nums
-  transition-inside (on-no-transition h) = h .inside
-  transition-inside (on-accept h) = h .inside
-  transition-inside (on-reject h e) = h .inside
-  transition-inside (on-lead-to h s) = h .inside
-  transition-inside (on-select h e n ps) = h .inside
-
-  lead-view : {t : Transition} → StandsTransition nums ends at t → getD nums at 0 ≡ 3 → LeadView nums at t
-  lead-view (on-no-transition h) k = absurd (omega (arith, h .is, k))
-  lead-view (on-accept h) k = absurd (omega (arith, h .is, k))
-  lead-view (on-reject h e) k = absurd (omega (arith, h .is, k))
-  lead-view (on-lead-to h s) k = record { state = _; same = refl; stands = s }
-  lead-view (on-select h e n ps) k = absurd (omega (arith, h .is, k))
-
-  select-view : {t : Transition} → StandsTransition nums ends at t → getD nums at 0 ≡ 4 → SelectView nums ends at t
-  select-view (on-no-transition h) k = absurd (omega (arith, h .is, k))
-  select-view (on-accept h) k = absurd (omega (arith, h .is, k))
-  select-view (on-reject h e) k = absurd (omega (arith, h .is, k))
-  select-view (on-lead-to h s) k = absurd (omega (arith, h .is, k))
-  select-view (on-select h e n ps) k =
-      record { expr = _; pairs = _; same = refl; stands = e; count = n; stand = ps }
-
   leads-nowhere : (callee later : ℕ → ℕ) {t : Transition} → StandsTransition nums ends at t
       → (getD nums at 0 ≡ 3 → ⊥) → (getD nums at 0 ≡ 4 → ⊥) → ceilingTransition callee later t ≡ 0
   unfolding ceilingTransition
@@ -212,7 +162,7 @@ module _ (nums directory ends filled kept : List ℕ) (reach at : ℕ)
   lead-counted r k c = record {
     low = cut-low r _ (c .counted (a .later) (a .fills));
     counted = λ P later t s f w.
-        let v : LeadView nums at t = lead-view w k in
+        let v : LeadView nums ends at t = lead-view w k in
         rw (v .same) (record { is = rw (v .stands .holds .is) at (c .counted later f); keeps = s .keeps });
   }
 

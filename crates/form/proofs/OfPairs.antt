@@ -11,8 +11,8 @@ use Rattle.rules.specs.Words.{fitsWidth}
 use Rattle.rules.specs.Syntax.{Numeral, Pair, Program}
 use Rattle.rules.specs.Form.{ok, _>>=_, named, need, onlyIf, laterState, judgeLater, judgePairs, valuesFit}
 use Rattle.rules.proofs.Predicates.{no-member}
-use Rattle.program.specs.Stands.{StandsNumeral, StandsPairs}
 use Rattle.program.proofs.Found.{member-at}
+use Rattle.program.proofs.Views.{PairView, pair-view}
 use Rattle.form.specs.declared.Formal.{Formal}
 use Rattle.form.specs.declared.Formal.the-variants.{Well, Ill}
 use Rattle.form.specs.Claims.{toldForm}
@@ -43,32 +43,15 @@ later-judged nums directory n at b r e w = record {
 
 pub ruleset later = (later-judged)
 
--- the first pair, and those behind it
-record FirstPair (nums : List ℕ) (at count : ℕ) (ps : List Pair) : Type 0 where
-  first : Pair
-  others : List Pair
-  same : ps ≡ first ∷ others
-  value : StandsNumeral nums at (first .value)
-  state : StandsNumeral nums (at + 1) (first .state)
-  rest : PairsAt nums (at + 2) (count - 1) others
-
-first-pair : {nums : List ℕ} {at count : ℕ} (ps : List Pair) → StandsPairs nums at ps → count ≡ length ps
-    → (count ≡ 0 → ⊥) → FirstPair nums at count ps
-unfolding StandsPairs
-first-pair [] s e more = absurd (more e)
-first-pair (p ∷ ps) s e more = record {
-  first = p;
-  others = ps;
-  same = refl;
-  value = s .0;
-  state = s .1 .0;
-  rest = record { stand = s .1 .1; counted = omega (arith, e) };
-}
+-- those behind the first
+rest-of : {nums : List ℕ} {at count : ℕ} {ps : List Pair} (v : PairView nums at count ps)
+    → PairsAt nums (at + 2) (count - 1) (v .others)
+rest-of v = record { stand = v .rest; counted = v .fewer }
 
 -- what the step over a pair asks
 module _ (nums : List ℕ) (at count : ℕ) (h : AsksPairs nums at count) (more : count ≡ 0 → ⊥) where
-  somePair : FirstPair nums at count (h .pairs)
-  somePair = first-pair (h .pairs) (h .stand .stand) (h .stand .counted) more
+  somePair : PairView nums at count (h .pairs)
+  somePair = pair-view (h .pairs) (h .stand .stand) (h .stand .counted) more
 
   pub value-inside : at < length nums
   value-inside = somePair .value .holds .inside
@@ -83,7 +66,7 @@ module _ (nums : List ℕ) (at count : ℕ) (h : AsksPairs nums at count) (more 
   pair-small = omega (arith, state-inside, h .numbers)
 
   pub pairs-left : AsksPairs nums (at + 2) (count - 1)
-  pairs-left = record { pairs = somePair .others; stand = somePair .rest; numbers = h .numbers }
+  pairs-left = record { pairs = somePair .others; stand = rest-of somePair; numbers = h .numbers }
 
 -- their states
 module _ (nums directory : List ℕ) (n at count : ℕ) where
@@ -101,7 +84,7 @@ module _ (nums directory : List ℕ) (n at count : ℕ) where
     unfolding toldForm judgePairs _>>=_
     pairs-stop number index k = record {
       judged = λ ends P end ps s h.
-          let p : FirstPair nums at count ps = first-pair ps (h .stand) (h .counted) more in
+          let p : PairView nums at count ps = pair-view ps (h .stand) (h .counted) more in
           rw (p .same, ill-is a _ number index (j .judged ends P end (p .first .state) s (p .state)) k);
     }
 
@@ -110,9 +93,9 @@ module _ (nums directory : List ℕ) (n at count : ℕ) where
     unfolding judgePairs _>>=_
     pairs-next b r k m e = record {
       judged = λ ends P end ps s h.
-          let p : FirstPair nums at count ps = first-pair ps (h .stand) (h .counted) more in
+          let p : PairView nums at count ps = pair-view ps (h .stand) (h .counted) more in
           rw (p .same, well-is a _ (j .judged ends P end (p .first .state) s (p .state)) k)
-          (rw e at (m .judged ends P end (p .others) s (p .rest)));
+          (rw e at (m .judged ends P end (p .others) s (rest-of p)));
     }
 
 pub ruleset pairs = (state-inside, state-small, pair-small, pairs-left, pairs-none, pairs-stop, pairs-next)
@@ -144,7 +127,7 @@ module _ (nums : List ℕ) (width at count : ℕ) where
     unfolding toldForm valuesFit need _>>=_
     values-unfit e = record {
       judged = λ ps h.
-          let p : FirstPair nums at count ps = first-pair ps (h .stand) (h .counted) more in
+          let p : PairView nums at count ps = pair-view ps (h .stand) (h .counted) more in
           rw (p .same, ← p .value .holds .is, ← is, e, p .value .index);
     }
 
@@ -153,8 +136,8 @@ module _ (nums : List ℕ) (width at count : ℕ) where
     unfolding valuesFit need _>>=_
     values-next b r e m q = record {
       judged = λ ps h.
-          let p : FirstPair nums at count ps = first-pair ps (h .stand) (h .counted) more in
-          rw (p .same, ← p .value .holds .is, ← is, e) (rw q at (m .judged (p .others) (p .rest)));
+          let p : PairView nums at count ps = pair-view ps (h .stand) (h .counted) more in
+          rw (p .same, ← p .value .holds .is, ← is, e) (rw q at (m .judged (p .others) (rest-of p)));
     }
 
 pub ruleset values = (values-most, values-inside, values-small, values-left, values-none, values-unfit, values-next)

@@ -7,13 +7,13 @@ use Prim.Native.Nat.{ℕ, zero, suc, _+_, _^_, _≤_, _<_}
 use native.Mathlib.Omega.{arith}
 use native.Mathlib.Numerals.{add-one}
 use lib.ListN.{length, getD, getElem?}
-use Rattle.rules.specs.Syntax.{Expr, Numeral, Pair, Transition, leadTo, select, ParserState, Program}
+use Rattle.rules.specs.Syntax.{Expr, Pair, Transition, select, ParserState, Program}
 use Rattle.rules.specs.Form.{ok, _>>=_, judgeExpr, widthAt, stateScope, judgePairs, valuesFit, judgeTransition, judgeState, judgeStates}
 use Rattle.program.specs.Codes.{tyOf}
-use Rattle.program.specs.Stands.{StandsTransition, on-no-transition, on-accept, on-reject, on-lead-to, on-select, StandsNumeral, StandsState, StandsProgram, SomeProgram}
+use Rattle.program.specs.Stands.{StandsTransition, on-no-transition, on-accept, on-reject, on-lead-to, on-select, StandsState, StandsProgram, SomeProgram}
 use Rattle.program.specs.Looks.{Has, Finds, statesOf, FoundState}
 use Rattle.program.proofs.Found.{At, member-at}
-use Rattle.program.proofs.Views.{expr-begins, stmt-begins}
+use Rattle.program.proofs.Views.{LeadView, lead-view, SelectView, select-view, transition-inside, expr-begins, stmt-begins}
 use Rattle.program.proofs.Seen.{stateSlots, state-scope}
 use Rattle.bodies.specs.declared.Typed.{Typed}
 use Rattle.bodies.specs.declared.Typed.the-variants as typed
@@ -149,60 +149,30 @@ pub ruleset selecting = (
 )
 
 -- a transition, by its tag
-record LeadsTo (nums : List ℕ) (at : ℕ) (t : Transition) : Type 0 where
-  state : Numeral
-  same : t ≡ leadTo state
-  stands : StandsNumeral nums (at + 1) state
-
-record Selects (nums directory ends : List ℕ) (at : ℕ) (P : Program) (t : Transition) : Type 0 where
-  expr : Expr
-  pairs : List Pair
-  same : t ≡ select at expr pairs
-  stands : SelectAt nums directory ends at P expr pairs
-
 module _ (nums directory ends : List ℕ) (at : ℕ) where
-  begins-inside : (t : Transition) → StandsTransition nums ends at t → at < length nums
-  begins-inside t (on-no-transition h) = h .inside
-  begins-inside t (on-accept h) = h .inside
-  begins-inside t (on-reject h e) = h .inside
-  begins-inside t (on-lead-to h s) = h .inside
-  begins-inside t (on-select h e c ps) = h .inside
-
-  leads-to : (t : Transition) → StandsTransition nums ends at t → getD nums at 0 ≡ 3 → LeadsTo nums at t
-  leads-to t (on-no-transition h) k = absurd (omega (arith, h .is, k))
-  leads-to t (on-accept h) k = absurd (omega (arith, h .is, k))
-  leads-to t (on-reject h e) k = absurd (omega (arith, h .is, k))
-  leads-to t (on-lead-to h s) k = record { state = _; same = refl; stands = s }
-  leads-to t (on-select h e c ps) k = absurd (omega (arith, h .is, k))
-
-  selects : (P : Program) (end : ℕ) → StandsProgram nums directory ends P end → (t : Transition)
-      → StandsTransition nums ends at t → getD nums at 0 ≡ 4 → Selects nums directory ends at P t
-  selects P end p t (on-no-transition h) k = absurd (omega (arith, h .is, k))
-  selects P end p t (on-accept h) k = absurd (omega (arith, h .is, k))
-  selects P end p t (on-reject h e) k = absurd (omega (arith, h .is, k))
-  selects P end p t (on-lead-to h s) k = absurd (omega (arith, h .is, k))
-  selects P end p t (on-select h e c ps) k = record {
-    expr = _;
-    pairs = _;
-    same = refl;
-    stands = record { end = end; stands = p; expr = e; count = c; pairs = ps };
-  }
+  select-at : (P : Program) (end : ℕ) → StandsProgram nums directory ends P end → {t : Transition}
+      → (v : SelectView nums ends at t) → SelectAt nums directory ends at P (v .expr) (v .pairs)
+  select-at P end p v = record { end = end; stands = p; expr = v .stands; count = v .count; pairs = v .stand }
 
   module _ (h : AsksTransition nums directory ends at) where
-    pub transition-inside : at < length nums
-    transition-inside = begins-inside (h .transition) (h .transitionStands)
+    pub transition-there : at < length nums
+    transition-there = transition-inside (h .transitionStands)
 
     pub transition-small : at + 1 < 2 ^ 64
-    transition-small = omega (arith, transition-inside, h .stands .numbers)
+    transition-small = omega (arith, transition-there, h .stands .numbers)
 
     pub later-inside : getD nums at 0 ≡ 3 → at + 1 < length nums
-    later-inside k = leads-to (h .transition) (h .transitionStands) k .stands .holds .inside
+    later-inside k = lead-view (h .transitionStands) k .stands .holds .inside
 
     pub transition-select : getD nums at 0 ≡ 4 → AsksSelect nums directory ends at
     transition-select k =
-        let v : Selects nums directory ends at (h .program) (h .transition)
-        = selects (h .program) (h .end) (h .stands) (h .transition) (h .transitionStands) k in
-        record { program = h .program; expr = v .expr; pairs = v .pairs; stands = v .stands }
+        let v : SelectView nums ends at (h .transition) = select-view (h .transitionStands) k in
+        record {
+          program = h .program;
+          expr = v .expr;
+          pairs = v .pairs;
+          stands = select-at (h .program) (h .end) (h .stands) v;
+        }
 
   module _ (n : ℕ) where
     pub transition-none : (getD nums at 0 ≡ 3 → ⊥) → (getD nums at 0 ≡ 4 → ⊥)
@@ -223,7 +193,7 @@ module _ (nums directory ends : List ℕ) (at : ℕ) where
     unfolding judgeTransition
     transition-later r k j = record {
       judged = λ P end t p s.
-          let v : LeadsTo nums at t = leads-to t s k in
+          let v : LeadView nums ends at t = lead-view s k in
           rw (v .same) (j .judged ends P end (v .state) p (v .stands));
     }
 
@@ -231,12 +201,12 @@ module _ (nums directory ends : List ℕ) (at : ℕ) where
         → JudgesTransition nums directory ends n at r
     transition-selects r k j = record {
       judged = λ P end t p s.
-          let v : Selects nums directory ends at P t = selects P end p t s k in
-          rw (v .same) (j .judged P (v .expr) (v .pairs) (v .stands));
+          let v : SelectView nums ends at t = select-view s k in
+          rw (v .same) (j .judged P (v .expr) (v .pairs) (select-at P end p v));
     }
 
 pub ruleset transitions = (
-  transition-inside,
+  transition-there,
   transition-small,
   later-inside,
   transition-select,

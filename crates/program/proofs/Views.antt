@@ -1,7 +1,7 @@
 -- What stands at an index, by the tag that is there: from the number to the construct. A pass that has looked at a tag
 -- learns here what the rules' tree is and where its operands stand.
 use mathlib.Core.Path.{_≡_, refl}
-use mathlib.Core.List.{List}
+use mathlib.Core.List.{List, [], _∷_}
 use Prim.Native.Nat.{ℕ, zero, suc, _+_, _-_, _<_}
 use native.Mathlib.Omega.{arith}
 use lib.ListN.{length, getD}
@@ -9,13 +9,15 @@ use Rattle.rules.specs.Words.{widest}
 use Rattle.rules.specs.Syntax.{Operator, Place, local, parameter, global, field}
 use Rattle.rules.specs.Syntax.{Expr, boolLiteral, bitsLiteral, readOf, validOf, negation, complement, binary, cast, slice, concatenation, callExpr, Args, noArgs, arg}
 use Rattle.rules.specs.Syntax.{Stmt, empty, assign, ifElse, block, callStmt, apply, returnValue, return, exit, setValid, setInvalid, extract, verify, Stmts, noStmts, stmt}
-use Rattle.rules.specs.Reading.{mostError, highestBound, mostArguments, mostMembers}
+use Rattle.rules.specs.Syntax.{Numeral, Pair, Transition, leadTo, select}
+use Rattle.rules.specs.Reading.{deepest, mostError, highestBound, mostArguments, mostMembers, mostPairs}
 use Rattle.program.specs.Codes.{operatorNumber, placeTag, argCount, memberCount}
 use Rattle.program.specs.Stands.{Holds, HoldsWithin, HoldsTag, StandsPlace}
 use Rattle.program.specs.Stands.{StandsExpr, on-bool, on-bits, on-place, on-valid, on-not, on-complement, on-binary, on-cast, on-slice, on-concatenation, on-call}
 use Rattle.program.specs.Stands.{StandsArgs, on-none, on-arg}
 use Rattle.program.specs.Stands.{StandsStmt, on-empty, on-assign, on-if, on-block, on-call-stmt, on-apply, on-return-value, on-return, on-exit, on-set-valid, on-set-invalid, on-extract, on-verify}
 use Rattle.program.specs.Stands.{StandsStmts, on-no-member, on-member}
+use Rattle.program.specs.Stands.{StandsNumeral, StandsPairs, StandsTransition, on-no-transition, on-accept, on-reject, on-lead-to, on-select}
 
 -- expressions, one record for each form
 module _ (nums ends : List ℕ) (depth at : ℕ) (e : Expr) where
@@ -282,6 +284,67 @@ unfolding memberCount
 member-view count ss on-no-member e n = absurd (n e)
 member-view count ss (on-member a s) e n =
     record { first = _; others = _; same = refl; firstStands = a; othersStand = s; fewer = omega (arith, e) }
+
+-- a transition that leads to a state, and a select
+module _ (nums ends : List ℕ) (at : ℕ) (t : Transition) where
+  pub record LeadView : Type 0 where
+    pub state : Numeral
+    pub same : t ≡ leadTo state
+    pub stands : StandsNumeral nums (at + 1) state
+
+  pub record SelectView : Type 0 where
+    pub expr : Expr
+    pub pairs : List Pair
+    pub same : t ≡ select at expr pairs
+    pub stands : StandsExpr nums ends deepest (at + 1) expr
+    pub count : HoldsWithin 0 mostPairs nums (getD ends (at + 1) 0) (length pairs)
+    pub stand : StandsPairs nums (getD ends (at + 1) 0 + 1) pairs
+
+module _ {nums ends : List ℕ} {at : ℕ} where
+  pub transition-inside : {t : Transition} → StandsTransition nums ends at t → at < length nums
+  transition-inside (on-no-transition h) = h .inside
+  transition-inside (on-accept h) = h .inside
+  transition-inside (on-reject h e) = h .inside
+  transition-inside (on-lead-to h s) = h .inside
+  transition-inside (on-select h e n ps) = h .inside
+
+  pub lead-view : {t : Transition} → StandsTransition nums ends at t → getD nums at 0 ≡ 3 → LeadView nums ends at t
+  lead-view (on-no-transition h) k = absurd (omega (arith, h .is, k))
+  lead-view (on-accept h) k = absurd (omega (arith, h .is, k))
+  lead-view (on-reject h e) k = absurd (omega (arith, h .is, k))
+  lead-view (on-lead-to h s) k = record { state = _; same = refl; stands = s }
+  lead-view (on-select h e n ps) k = absurd (omega (arith, h .is, k))
+
+  pub select-view : {t : Transition} → StandsTransition nums ends at t → getD nums at 0 ≡ 4 → SelectView nums ends at t
+  select-view (on-no-transition h) k = absurd (omega (arith, h .is, k))
+  select-view (on-accept h) k = absurd (omega (arith, h .is, k))
+  select-view (on-reject h e) k = absurd (omega (arith, h .is, k))
+  select-view (on-lead-to h s) k = absurd (omega (arith, h .is, k))
+  select-view (on-select h e n ps) k = record { expr = _; pairs = _; same = refl; stands = e; count = n; stand = ps }
+
+-- pairs, by their count
+pub record PairView (nums : List ℕ) (at count : ℕ) (ps : List Pair) : Type 0 where
+  pub first : Pair
+  pub others : List Pair
+  pub same : ps ≡ first ∷ others
+  pub value : StandsNumeral nums at (first .value)
+  pub state : StandsNumeral nums (at + 1) (first .state)
+  pub rest : StandsPairs nums (at + 2) others
+  pub fewer : count - 1 ≡ length others
+
+pub pair-view : {nums : List ℕ} {at count : ℕ} (ps : List Pair) → StandsPairs nums at ps → count ≡ length ps
+    → (count ≡ 0 → ⊥) → PairView nums at count ps
+unfolding StandsPairs
+pair-view [] s e more = absurd (more e)
+pair-view (p ∷ ps) s e more = record {
+  first = p;
+  others = ps;
+  same = refl;
+  value = s .0;
+  state = s .1 .0;
+  rest = s .1 .1;
+  fewer = omega (arith, e);
+}
 
 -- a construct begins inside the numbers, with a level left
 pub record Begins (nums : List ℕ) (depth at : ℕ) : Type 0 where

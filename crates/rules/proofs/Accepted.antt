@@ -15,9 +15,9 @@ use Rattle.rules.specs.Words.{fitsWidth, prefixFits, maskFits}
 use Rattle.rules.specs.Syntax.{bool, KeyKind, exact, lpm, ternary, Global, Parameter, Key, Table, Program}
 use Rattle.rules.specs.Reading.{Got, within, hasParser, readProgram}
 use Rattle.rules.specs.Form.{Res, ok, need, onlyIf, fits, Shape, aVariable, aHeader, shapeIn, inApply, applyScope, judgeTable, judgeTables, judgeGlobals, judgeStates, judgeStmt, judgeProgram}
-use Rattle.rules.specs.Ceiling.{mostSteps, calleeIn, ceilingsBelow, ceilingTable, ceilingParser, ceilingWith, ceilingOf}
+use Rattle.rules.specs.Ceiling.{mostSteps, calleeIn, ceilingsBelow, ceilingTable, ceilingWith, ceilingOf}
 use Rattle.rules.specs.Lists.{Entry, mostEntries, nothingLeft, Cell, variableCell, headerCell, passing, keyWidth, actionAt, numbered, asked, isByte, mostPacket, readBytes, readPacket, readPattern, readPatterns, readArguments, readEntry, readEntries, readFields, readShape, readCell, readCells, readStore, slotsOf}
-use Rattle.rules.specs.Running.{State, Ending, Seen, Out, done, full, M, _>>=_, andThenRun, callsBelow, runStmt, runParser, argumentsFit, argumentsGiven, patternFits, patternsFit, runTable, finish, started, runProgram}
+use Rattle.rules.specs.Running.{State, Ending, Seen, Out, done, full, _>>=_, callsBelow, argumentsFit, argumentsGiven, patternFits, patternsFit, runTable, finish, started, runProgram}
 use Rattle.rules.specs.Answers.{Bench, checked, judgingProgram, judging, Judged, accepted, refused, placed, judgedStream, judged, outcomeOf, runBench, fileOutcome, toldWith, numbersOf, ofSignal, workingSlots, marked}
 use Rattle.rules.proofs.Refusals.{program-reads, Judging-ok, fine, faulty, program-judged, place-within, Stream-ok, whole, breaks, stream-ok}
 use Rattle.rules.proofs.Predicates.{JudgeGives, gives, if-any, and-both, both-true, All2, nil, cons, All, none-left, also, look-all, IfOk, isOk, IfSome, ifNone, ifSome, IfGot, isGot, isBad, SomeOf, isSome, ok-then, ok-map, ok-self, from-ok, if-then, if-map, if-self, Reads, reads-then, reads-pure, reads-looked-up, reads-repeat, at-most, Good, good, isFull, Runs, runs-then, runs-fits}

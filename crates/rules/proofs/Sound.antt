@@ -13,7 +13,7 @@ use Rattle.rules.specs.Syntax.{Expr, boolLiteral, bitsLiteral, readOf, v
 use Rattle.rules.specs.Syntax.{Stmt, empty, assign, ifElse, block, callStmt, apply, returnValue, return, exit, setValid, setInvalid, extract, verify, Stmts, noStmts, stmt}
 use Rattle.rules.specs.Syntax.{Parameter, Callable, Program, placeIn}
 use Rattle.rules.specs.Form.{Res, ok, _>>=_, named, need, onlyIf, sameTy, fits, aHeader, globalAt, callableBelow, wantsPlace, goesIn, comesBack, Body, inFunction, inAction, inApply, inState, Scope, writable, writableIn}
-use Rattle.rules.specs.Form.{judgePlace, judgeHeaderAt, judgeOperator, Given, typesAgree, placesAgree, judgeGiven, functionTy, mayCall, judgeExpr, judgeArgs, judgeReturned, isApply, isFunction, isState, mayLeave, wholeBytes, judgeGlobal, judgeExtracted, judgeStmt, judgeStmts, returnsOn, someReturns, bodyOf, scopeOf, judgeCallable}
+use Rattle.rules.specs.Form.{judgePlace, judgeHeaderAt, judgeOperator, Given, typesAgree, placesAgree, judgeGiven, functionTy, mayCall, judgeExpr, judgeArgs, judgeReturned, isApply, isFunction, isState, mayLeave, judgeGlobal, judgeExtracted, judgeStmt, judgeStmts, returnsOn, someReturns, bodyOf, scopeOf, judgeCallable}
 use Rattle.rules.specs.Ceiling.{ceilingExpr, ceilingArgs, ceilingStmt, ceilingStmts, noTable}
 use Rattle.rules.specs.Lists.{Cell}
 use Rattle.rules.specs.Running.{State, Ending, onward, returned, returnedValue, exited, rejected, Seen, Out, full, M, tick, orStuck, must, nowhere, declared, readAt, writeAt, changeHeader, validAt, validIn, changeStore, makeValid, makeInvalid, shortPacket, fieldsFrom, bitsOfBytes, fillHeader, bytesIn, takeHeader, extractInto, extractAt}
