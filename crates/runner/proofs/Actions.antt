@@ -7,7 +7,7 @@ use Prim.Native.Nat.{ℕ, _+_, _≤_, _<_, _^_}
 use native.Mathlib.Omega.{arith}
 use lib.ListN.{length, getD, getElem?}
 use Rattle.rules.specs.Syntax.{Callable, Numeral, Table, Program}
-use Rattle.rules.specs.Form.{listable, applyScope}
+use Rattle.rules.specs.Form.{isState, listable, applyScope}
 use Rattle.rules.specs.Lists.{Entry}
 use Rattle.rules.specs.Running.{State, Ending, M, _>>=_, pure, withStore, onStore, afterCall, argumentsFit, runAction}
 use Rattle.rules.specs.Answers.{workingSlots}
@@ -138,9 +138,9 @@ module _ (P : Program) (position : ℕ) {nums directory ends scope slots frame :
         t = withStore s (b .cells)
 
         entered : Scene nums directory ends scope slots₁ frame₂ (applyScope P) t
-        unfolding applyScope
+        unfolding applyScope isState
         entered = scene-entered nums directory ends scope slots slots₁ frame frame₂ (applyScope P) s (b .cells)
-            (st .scene) (b .fits) (b .store) (omega (arith, b .same, z .same)) λ i l.
+            (st .scene) refl (b .fits) (b .store) (omega (arith, b .same, z .same)) λ i l.
             absurd (omega (arith, all2-length (st .scene .fits .parameters-fit), all2-length (st .scene .fits .locals-fit)))
 
         body-ran : Ran nums directory ends scope slots slots₁ frame frame₂ (applyScope P)

@@ -12,8 +12,8 @@ use Rattle.program.specs.Codes.{memberCount}
 use Rattle.program.specs.Stands.{StandsStmt, StandsStmts}
 use Rattle.program.proofs.Views.{stmt-begins, BlockView, StmtView, stmt-view, MemberView, member-view, no-members}
 use Rattle.steps.specs.declared.Ended.{Ended}
-use Rattle.steps.specs.declared.Ended.the-variants.{Onward, Returned, ReturnedValue, Exited}
-use Rattle.steps.specs.Outcomes.{Goes, counterOf, Ran, Ends, ends-onward, ends-returned, ends-value, ends-exited, Counts}
+use Rattle.steps.specs.declared.Ended.the-variants.{Onward, Returned, ReturnedValue, Exited, Rejected}
+use Rattle.steps.specs.Outcomes.{Goes, counterOf, Ran, Ends, ends-onward, ends-returned, ends-value, ends-exited, ends-rejected, Counts}
 use Rattle.steps.proofs.Going.{Begun, then-goes, then-is, more-none, more-more}
 use Rattle.runner.specs.Runs.{stmtIn, stmtsIn, Stage}
 use Rattle.runner.specs.Claims.{AsksStmt, RunsStmt, AsksTagged, AsksStmts, RunsStmts}
@@ -128,16 +128,18 @@ unfolding stmtsIn stmtIn runStmts
 members-split Γ used es s ss x xs e = rw e refl
 
 -- a member that goes on, and one that does not
-onward-is : (ended : Ended) (ending : Ending) → Ends ended ending → ended ≡ Onward → ending ≡ onward
+pub onward-is : (ended : Ended) (ending : Ending) → Ends ended ending → ended ≡ Onward → ending ≡ onward
 onward-is ended ending ends-onward e = refl
 onward-is ended ending ends-returned e = let z : _≡_ {A = ℕ} 0 1 = cc in absurd (omega arith)
 onward-is ended ending (ends-value v) e = let z : _≡_ {A = ℕ} 0 1 = cc in absurd (omega arith)
 onward-is ended ending ends-exited e = let z : _≡_ {A = ℕ} 0 1 = cc in absurd (omega arith)
+onward-is ended ending ends-rejected e = let z : _≡_ {A = ℕ} 0 1 = cc in absurd (omega arith)
 
 pub data Stops : Ended → Type 0 where
   stops-returned : Stops Returned
   stops-value : {ty number : ℕ} → Stops (ReturnedValue ty number)
   stops-exited : Stops Exited
+  stops-rejected : {error : ℕ} → Stops (Rejected error)
 
 stops-is : (ended r : Ended) (ending : Ending) (m : M State Ending) (s : State) → Ends ended ending → ended ≡ r
     → Stops r → andThenRun ending m s ≡ done ending s []
@@ -145,9 +147,11 @@ unfolding andThenRun pure
 stops-is ended r ending m s ends-onward e stops-returned = let z : _≡_ {A = ℕ} 0 1 = cc in absurd (omega arith)
 stops-is ended r ending m s ends-onward e stops-value = let z : _≡_ {A = ℕ} 0 1 = cc in absurd (omega arith)
 stops-is ended r ending m s ends-onward e stops-exited = let z : _≡_ {A = ℕ} 0 1 = cc in absurd (omega arith)
+stops-is ended r ending m s ends-onward e stops-rejected = let z : _≡_ {A = ℕ} 0 1 = cc in absurd (omega arith)
 stops-is ended r ending m s ends-returned e w = refl
 stops-is ended r ending m s (ends-value v) e w = refl
 stops-is ended r ending m s ends-exited e w = refl
+stops-is ended r ending m s ends-rejected e w = refl
 
 -- at any stage
 module _ {nums directory ends scope slots₀ slots frame₀ frame : List ℕ} {depth next left : ℕ}
@@ -323,4 +327,5 @@ pub ruleset memberRuns = (
   stops-returned,
   stops-value,
   stops-exited,
+  stops-rejected,
 )

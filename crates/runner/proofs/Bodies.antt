@@ -11,7 +11,7 @@ use borrow.Author.Tests.{le-leb}
 use Rattle.rules.specs.Syntax.{Ty, Callable, Program}
 use Rattle.rules.specs.Form.{andLook, Scope, scopeOf}
 use Rattle.rules.specs.Lists.{Entry, Cell}
-use Rattle.rules.specs.Running.{State, Ending, onward, returned, returnedValue, exited, Seen, Out, done, stuck, full, nowhere, valueOf, bodyEnded, left, leave, fresh, runBody}
+use Rattle.rules.specs.Running.{State, Ending, onward, returned, returnedValue, exited, rejected, Seen, Out, done, stuck, full, nowhere, valueOf, bodyEnded, left, leave, fresh, runBody}
 use Rattle.rules.specs.Answers.{workingSlots}
 use Rattle.rules.proofs.Fits.{all2-length}
 use Rattle.rules.proofs.Sound.{never}
@@ -47,6 +47,7 @@ ended-is (some t) ending other e = go ending e
     go returned q = unfold valueOf andLook in let z : _≡_ {A = ℕ} 0 1 = cc in absurd (omega arith)
     go (returnedValue v) q = unfold valueOf andLook in cc
     go exited q = unfold valueOf andLook in let z : _≡_ {A = ℕ} 0 1 = cc in absurd (omega arith)
+    go (rejected error) q = unfold valueOf andLook in let z : _≡_ {A = ℕ} 0 1 = cc in absurd (omega arith)
 
 left-is : (r : Option Ty) (ending : Ending) (ns : List ℕ) (cells : List Cell) (seen : Seen) (counted : ℕ)
     → Goes counted (left ns cells seen (bodyEnded r ending))

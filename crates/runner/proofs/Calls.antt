@@ -150,7 +150,7 @@ module _ {nums directory ends scope slots frame : List ℕ} {depth at : ℕ} {Γ
 
       entered : Scene nums directory ends scope slots₂ frame₂ Γ (withStore (h .state) cells)
       entered = scene-entered nums directory ends scope slots₁ slots₂ frame₁ frame₂ Γ (h .state) cells (h .scene)
-          (b .fits) (b .store) (back-length frame₁ (ownOf Γ) part′ inside₁ (b .same))
+          (w .outside) (b .fits) (b .store) (back-length frame₁ (ownOf Γ) part′ inside₁ (b .same))
           λ i l. back-below frame₁ (ownOf Γ) part′ inside₁ (b .same) i
           (omega (arith, all2-length (h .scene .fits .parameters-fit), all2-length (h .scene .fits .locals-fit)))
 

@@ -8,7 +8,7 @@ use Rattle.rules.specs.Form.{Scope}
 use Rattle.rules.specs.Running as rules
 use Rattle.rules.specs.Running.{State, Ending, M, tick, orStuck, Calls, runExpr, runStmt}
 use Rattle.program.specs.Stands.{StandsExpr, on-bool, on-bits, on-place, on-valid, on-not, on-complement, on-binary, on-cast, on-slice, on-concatenation, on-call}
-use Rattle.program.specs.Stands.{StandsStmt, on-empty, on-assign, on-if, on-block, on-call-stmt, on-apply, on-return-value, on-return, on-exit, on-set-valid, on-set-invalid}
+use Rattle.program.specs.Stands.{StandsStmt, on-empty, on-assign, on-if, on-block, on-call-stmt, on-apply, on-return-value, on-return, on-exit, on-set-valid, on-set-invalid, on-extract, on-verify}
 use Rattle.program.proofs.Views.{OneView, TwoView, BinaryView, CastView, SliceView, ExprView, expr-view}
 use Rattle.steps.specs.Operands.{leafIn, onOne}
 use Rattle.steps.specs.Singles.{singleIn}
@@ -104,20 +104,22 @@ module _ {nums ends : List ℕ} {depth at : ℕ} where
 
   single-as : {st : Stmt} → StandsStmt nums ends depth at st → (getD nums at 0 ≡ 1 → ⊥) → (getD nums at 0 ≡ 2 → ⊥)
       → (getD nums at 0 ≡ 3 → ⊥) → (getD nums at 0 ≡ 4 → ⊥) → (getD nums at 0 ≡ 5 → ⊥) → (getD nums at 0 ≡ 6 → ⊥)
-      → (Γ : Scope) (used : ℕ) (calls : Calls) (applied : ℕ → M State Ending)
+      → (getD nums at 0 ≡ 12 → ⊥) → (Γ : Scope) (used : ℕ) (calls : Calls) (applied : ℕ → M State Ending)
       → runStmt Γ used calls applied st ≡ tick (singleIn Γ st)
   unfolding runStmt singleIn
-  single-as (on-empty t) a b c d e f Γ used calls applied = refl
-  single-as (on-assign t p w x) a b c d e f Γ used calls applied = absurd (a (t .holds .is))
-  single-as (on-if t x y z) a b c d e f Γ used calls applied = absurd (b (t .holds .is))
-  single-as (on-block t n ss) a b c d e f Γ used calls applied = absurd (c (t .holds .is))
-  single-as (on-call-stmt t n k xs) a b c d e f Γ used calls applied = absurd (d (t .holds .is))
-  single-as (on-apply t n) a b c d e f Γ used calls applied = absurd (e (t .holds .is))
-  single-as (on-return-value t x) a b c d e f Γ used calls applied = absurd (f (t .holds .is))
-  single-as (on-return t) a b c d e f Γ used calls applied = refl
-  single-as (on-exit t) a b c d e f Γ used calls applied = refl
-  single-as (on-set-valid t n) a b c d e f Γ used calls applied = refl
-  single-as (on-set-invalid t n) a b c d e f Γ used calls applied = refl
+  single-as (on-empty t) a b c d e f g Γ used calls applied = refl
+  single-as (on-assign t p w x) a b c d e f g Γ used calls applied = absurd (a (t .holds .is))
+  single-as (on-if t x y z) a b c d e f g Γ used calls applied = absurd (b (t .holds .is))
+  single-as (on-block t n ss) a b c d e f g Γ used calls applied = absurd (c (t .holds .is))
+  single-as (on-call-stmt t n k xs) a b c d e f g Γ used calls applied = absurd (d (t .holds .is))
+  single-as (on-apply t n) a b c d e f g Γ used calls applied = absurd (e (t .holds .is))
+  single-as (on-return-value t x) a b c d e f g Γ used calls applied = absurd (f (t .holds .is))
+  single-as (on-return t) a b c d e f g Γ used calls applied = refl
+  single-as (on-exit t) a b c d e f g Γ used calls applied = refl
+  single-as (on-set-valid t n) a b c d e f g Γ used calls applied = refl
+  single-as (on-set-invalid t n) a b c d e f g Γ used calls applied = refl
+  single-as (on-extract t n) a b c d e f g Γ used calls applied = refl
+  single-as (on-verify t x n) a b c d e f g Γ used calls applied = absurd (g (t .holds .is))
 
 pub leaf-form : (nums ends : List ℕ) (depth at : ℕ) → (getD nums at 0 ≡ 7 → ⊥) → (getD nums at 0 ≡ 8 → ⊥)
     → (getD nums at 0 ≡ 9 → ⊥) → (getD nums at 0 ≡ 10 → ⊥) → (getD nums at 0 ≡ 11 → ⊥) → (getD nums at 0 ≡ 12 → ⊥)
@@ -126,5 +128,5 @@ leaf-form nums ends depth at a b c d e f g = record { is = λ x w. leaf-as w a b
 
 pub single-form : (nums ends : List ℕ) (depth at : ℕ) → (getD nums at 0 ≡ 1 → ⊥) → (getD nums at 0 ≡ 2 → ⊥)
     → (getD nums at 0 ≡ 3 → ⊥) → (getD nums at 0 ≡ 4 → ⊥) → (getD nums at 0 ≡ 5 → ⊥) → (getD nums at 0 ≡ 6 → ⊥)
-    → SingleAt nums ends depth at
-single-form nums ends depth at a b c d e f = record { is = λ st w. single-as w a b c d e f }
+    → (getD nums at 0 ≡ 12 → ⊥) → SingleAt nums ends depth at
+single-form nums ends depth at a b c d e f g = record { is = λ st w. single-as w a b c d e f g }

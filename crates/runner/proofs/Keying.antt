@@ -40,7 +40,7 @@ unfolding keysIn runKeys pure
 no-keys P used s ks e = rw e refl
 
 -- the number of a key that is worked out is its value's
-worked-number : (ty number : ℕ) (v : Value) (w : Worked) → Gave ty number v → worked v ≡ some w → number ≡ w .number
+pub worked-number : (ty number : ℕ) (v : Value) (w : Worked) → Gave ty number v → worked v ≡ some w → number ≡ w .number
 unfolding valueOf
 worked-number ty number v w g e = go (tyOf ty) (rw (g .is) at e)
   where

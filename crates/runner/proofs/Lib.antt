@@ -9,10 +9,16 @@ mod Calls
 mod Bodies
 mod Values
 mod Stmts
+mod Verifying
 mod Blocks
 mod Keying
 mod Actions
 mod Applying
 mod Tabling
 pub mod Prepared
+mod States
+mod Entering
+mod Leading
+mod Selecting
+mod Starting
 mod Wholly

@@ -80,4 +80,5 @@ scene-kept {frame = frame} {Γ = Γ} {s = s} slot n h own =
             getD-set-other frame slot (length (s .parameters) + i) n 0 (λ e. absurd (omega (arith, e, few, own)))
             ∙ h .frames .local i l;
       };
+      packet = h .packet;
     }

@@ -118,12 +118,14 @@ module _ {offsets entries widths directory directory′ : List ℕ} (p : Prepare
         → StandsProgram nums directory′ ends P end
     program-kept s = record {
       numbers = s .numbers;
+      version = s .version;
       room = s .room;
       slots = p .same ∙ s .slots;
       headers = list-kept (omega arith) (s .headers);
       globals = list-kept (omega arith) (s .globals);
       callables = list-kept (omega arith) (s .callables);
       tables = list-kept (omega arith) (s .tables);
+      states = list-kept (omega arith) (s .states);
       body = rw (p .parts bodySlot (omega arith)) (s .body);
       ending = p .parts endSlot (omega arith) ∙ s .ending;
     }

@@ -6,8 +6,8 @@ use Prim.Native.Nat.{ℕ, zero, suc, _+_, _-_, _*_, _≤_, _<_, _^_}
 use native.Mathlib.Omega.{arith}
 use lib.ListN.{length, getD}
 use Rattle.rules.specs.Numbers.{mostBytes}
-use Rattle.rules.specs.Syntax.{Ty, bool, bits, Value, value, Place, Expr, Stmt, empty, assign, ifElse, block, callStmt, apply, returnValue, return, exit, setValid, setInvalid, Stmts}
-use Rattle.rules.specs.Form.{andLook, Body, inFunction, inAction, inApply, Scope}
+use Rattle.rules.specs.Syntax.{Ty, bool, bits, Value, value, Place, Expr, Stmt, empty, assign, ifElse, block, callStmt, apply, returnValue, return, exit, setValid, setInvalid, extract, verify, Stmts}
+use Rattle.rules.specs.Form.{andLook, Body, inFunction, inAction, inApply, inState, Scope}
 use Rattle.rules.specs.Ceiling.{mostSteps}
 use Rattle.rules.specs.Lists.{Entry}
 use Rattle.rules.specs.Running.{State, Ending, onward, returnedValue, M, _>>=_, pure, tick, puts, orStuck, choose, numberOf, put, writeAt, returnedFrom, runStmt}
@@ -69,6 +69,8 @@ stmt-below Γ used es s counted (return at) g = tick-below _ s g
 stmt-below Γ used es s counted (exit at) g = tick-below _ s g
 stmt-below Γ used es s counted (setValid at n) g = tick-below _ s g
 stmt-below Γ used es s counted (setInvalid at n) g = tick-below _ s g
+stmt-below Γ used es s counted (extract at n) g = tick-below _ s g
+stmt-below Γ used es s counted (verify at c e) g = tick-below _ s g
 
 module _ (tag : ℕ) (nums directory ends scope slots frame : List ℕ) (depth at : ℕ)
     (a : AsksTagged tag nums directory ends scope slots frame depth at) where
@@ -116,9 +118,8 @@ module _ (nums directory ends scope slots frame : List ℕ) (depth at : ℕ)
   pub single-count : AsksCount slots
   single-count = count-asks (a .asks .stage) _ single-going
 
-  pub single-asks : (slots₁ : List ℕ) → Counts slots slots₁ → AsksSingle nums directory slots₁ at
+  pub single-asks : (slots₁ : List ℕ) → Counts slots slots₁ → AsksSingle nums directory ends slots₁ at
   single-asks slots₁ c = record {
-    ends = ends;
     scope = scope;
     frame = frame;
     scopeOf = a .asks .scopeOf;
@@ -132,12 +133,12 @@ module _ (nums directory ends scope slots frame : List ℕ) (depth at : ℕ)
   }
 
   pub single-runs : (slots₁ slots₂ : List ℕ) (r : Ended) → Counts slots slots₁
-      → RunsSingle nums directory slots₁ slots₂ at r
+      → RunsSingle nums directory ends slots₁ slots₂ at r
       → RunsStmt nums directory ends scope slots slots₂ frame frame depth at r
   single-runs slots₁ slots₂ r c v = record {
     runs = λ Γ used es s x st w g.
         let same : stmtIn Γ used es x s ≡ tick (singleIn Γ x) s = single-is (a .single) Γ used es s w in
-        rw same (ran-counted st (singleIn Γ x) c (v .runs ends scope frame Γ s x depth (counterOf slots₁)
+        rw same (ran-counted st (singleIn Γ x) c (v .runs scope frame Γ s x depth (counterOf slots₁)
         (stage-counted st c .scene) w (going-counted st (singleIn Γ x) c (rw same at g))));
   }
 
@@ -182,16 +183,16 @@ module _ {nums directory ends scope slots slots₁ frame : List ℕ} {Γ : Scope
     {es : List Entry} {s : State} (e : Expr) (k : Value → M State Ending)
     (st : Stage nums directory ends scope slots frame Γ used es s) (c : Counts slots slots₁)
     (g : Goes (counterOf slots) (tick (exprIn Γ used e >>= k) s)) where
-  operand-begun : Begun (counterOf slots₁) (exprIn Γ used e) k s
+  pub operand-begun : Begun (counterOf slots₁) (exprIn Γ used e) k s
   operand-begun = then-goes _ _ s (going-counted st _ c g)
 
   module _ {slots₂ frame₂ : List ℕ} {v : values.Value}
       (h : Ran nums directory ends scope slots₁ slots₂ frame frame₂ Γ (exprIn Γ used e s)
       (Gave (v .ty) (v .number))) where
-    operand-rest : Goes (counterOf slots₂) (k (valueOf (v .ty) (v .number)) (h .state))
+    pub operand-rest : Goes (counterOf slots₂) (k (valueOf (v .ty) (v .number)) (h .state))
     operand-rest = rw (h .answers .is) at (going-rest (stage-counted st c) (exprIn Γ used e) k operand-begun h)
 
-    operand-ran : {slots₃ frame₃ : List ℕ} {r : Ended}
+    pub operand-ran : {slots₃ frame₃ : List ℕ} {r : Ended}
         → Ran nums directory ends scope slots₂ slots₃ frame₂ frame₃ Γ
         (k (valueOf (v .ty) (v .number)) (h .state)) (Ends r)
         → Ran nums directory ends scope slots slots₃ frame frame₃ Γ (tick (exprIn Γ used e >>= k) s) (Ends r)
@@ -325,7 +326,7 @@ module _ (nums directory ends scope slots frame : List ℕ) (depth at : ℕ)
 pub ruleset assignRuns = (assign-inside, assign-value, assign-write, assign-runs)
 
 -- an if: by the number of its condition
-chosen-zero : (ty number counted : ℕ) (x y : M State Ending) (s : State) → number ≡ 0
+pub chosen-zero : (ty number counted : ℕ) (x y : M State Ending) (s : State) → number ≡ 0
     → Goes counted (choose (valueOf ty number) x y s) → choose (valueOf ty number) x y s ≡ y s
 unfolding valueOf
 chosen-zero ty number counted x y s e g = go (tyOf ty) number e g
@@ -335,7 +336,7 @@ chosen-zero ty number counted x y s e g = go (tyOf ty) number e g
     go bool (suc n) e h = absurd (omega (arith, e))
     go (bits width) n e h = unfold choose in not-nowhere s h
 
-chosen-more : (ty number counted : ℕ) (x y : M State Ending) (s : State) → (number ≡ 0 → ⊥)
+pub chosen-more : (ty number counted : ℕ) (x y : M State Ending) (s : State) → (number ≡ 0 → ⊥)
     → Goes counted (choose (valueOf ty number) x y s) → choose (valueOf ty number) x y s ≡ x s
 unfolding valueOf
 chosen-more ty number counted x y s e g = go (tyOf ty) number e g
@@ -530,6 +531,7 @@ returned-is (inFunction t) ty number ending e = go (numberOf t (valueOf ty numbe
         same ∙ ap returnedValue (sym is)
 returned-is inAction ty number ending e = unfold returnedFrom in let z : _≡_ {A = ℕ} 0 1 = cc in absurd (omega arith)
 returned-is inApply ty number ending e = unfold returnedFrom in let z : _≡_ {A = ℕ} 0 1 = cc in absurd (omega arith)
+returned-is inState ty number ending e = unfold returnedFrom in let z : _≡_ {A = ℕ} 0 1 = cc in absurd (omega arith)
 
 module _ {nums directory ends scope slots slots₁ frame : List ℕ} {depth at : ℕ} {Γ : Scope}
     {used : ℕ} {es : List Entry} {s : State} {x : Stmt} (v : ReturnView nums ends depth at x)

@@ -1,14 +1,15 @@
 -- A call as an expression and as a statement: its callable is found, it runs, and its ending is looked at.
+use mathlib.Core.Bool.{true, false}
 use mathlib.Core.Option.{Option, some}
 use mathlib.Core.Path.{_≡_, refl, _∙_}
 use mathlib.Core.List.{List}
 use Prim.Native.Nat.{ℕ, _+_, _*_, _<_}
 use native.Mathlib.Omega.{arith}
 use lib.ListN.{getD}
-use Rattle.rules.specs.Syntax.{Value, Expr, callExpr, Args, Stmt, callStmt, Callable}
-use Rattle.rules.specs.Form.{callableBelow, mayCall, Scope}
+use Rattle.rules.specs.Syntax.{Ty, Value, Expr, callExpr, Args, Stmt, callStmt, Callable}
+use Rattle.rules.specs.Form.{callableBelow, Body, inFunction, inAction, inApply, inState, mayCall, isState, Scope}
 use Rattle.rules.specs.Lists.{Entry}
-use Rattle.rules.specs.Running.{State, Ending, onward, returned, returnedValue, exited, M, _>>=_, pure, tick, must, orStuck, valueOf, afterCall, runExpr, runCall, runStmt}
+use Rattle.rules.specs.Running.{State, Ending, onward, returned, returnedValue, exited, rejected, M, _>>=_, pure, tick, must, orStuck, valueOf, afterCall, runExpr, runCall, runStmt}
 use Rattle.program.specs.Stands.{StandsExpr, StandsStmt}
 use Rattle.program.proofs.Views.{expr-begins, CallView, ExprView, expr-view, stmt-begins, CallStmtView, StmtView, stmt-view}
 use Rattle.values.specs.declared.Value as values
@@ -28,6 +29,15 @@ value-of onward v e = let z : _≡_ {A = ℕ} 0 1 = cc in absurd (omega arith)
 value-of returned v e = let z : _≡_ {A = ℕ} 0 1 = cc in absurd (omega arith)
 value-of (returnedValue u) v e = cc
 value-of exited v e = let z : _≡_ {A = ℕ} 0 1 = cc in absurd (omega arith)
+value-of (rejected error) v e = let z : _≡_ {A = ℕ} 0 1 = cc in absurd (omega arith)
+
+-- no call stands in a state
+no-state : (b : Body) (returns : Option Ty) → mayCall b returns ≡ true → isState b ≡ false
+unfolding mayCall isState
+no-state (inFunction t) returns e = refl
+no-state inAction returns e = refl
+no-state inApply returns e = refl
+no-state inState returns e = let z : _≡_ {A = ℕ} 0 1 = cc in absurd (omega arith)
 
 -- what is asked before a call's arguments are worked out
 module _ (Γ : Scope) (used : ℕ) (f : ℕ) (xs : Args) where
@@ -48,7 +58,7 @@ module _ (Γ : Scope) (used : ℕ) (f : ℕ) (xs : Args) where
       (λ ns. runCall Γ used (callsOf Γ) f xs (c .parameters) ns) k s
 
   abbrev asExpr : M State Value
-  asExpr = orStuck callee >>= λ c. orStuck (c .returns) >>= λ t.
+  asExpr = orStuck callee >>= λ c. orStuck (c .returns) >>= λ t. must (mayCall (Γ .body) (c .returns)) >>= λ _.
       argsIn Γ used xs (c .parameters) >>= λ ns. runCall Γ used (callsOf Γ) f xs (c .parameters) ns >>= λ ending.
       orStuck (valueOf ending)
 
@@ -69,26 +79,35 @@ module _ (Γ : Scope) (used : ℕ) (f : ℕ) (xs : Args) where
   pub record Valued (s : State) (counted : ℕ) : Type 0 where
     pub found : Callable
     pub is : callee ≡ some found
+    pub outside : isState (Γ .body) ≡ false
     pub same : asExpr s ≡ valued found s
     pub going : Begun counted (callIn Γ used f xs (found .parameters)) (λ ending. orStuck (valueOf ending)) s
 
+  abbrev called : Callable → M State Value
+  called c = argsIn Γ used xs (c .parameters) >>= λ ns. runCall Γ used (callsOf Γ) f xs (c .parameters) ns >>= λ ending.
+      orStuck (valueOf ending)
+
   valued-at : (s : State) (counted : ℕ) → Goes counted (asExpr s) → Valued s counted
   valued-at s counted g =
-      let c = some-then-goes callee (λ c. orStuck (c .returns) >>= λ t. argsIn Γ used xs (c .parameters) >>= λ ns.
-      runCall Γ used (callsOf Γ) f xs (c .parameters) ns >>= λ ending. orStuck (valueOf ending)) s g in
-      let t = some-then-goes (c .member .returns) (λ t. argsIn Γ used xs (c .member .parameters) >>= λ ns.
-      runCall Γ used (callsOf Γ) f xs (c .member .parameters) ns >>= λ ending. orStuck (valueOf ending)) s (c .rest) in
+      let c = some-then-goes callee (λ c. orStuck (c .returns) >>= λ t. must (mayCall (Γ .body) (c .returns)) >>= λ _.
+      called c) s g in
+      let t = some-then-goes (c .member .returns) (λ t. must (mayCall (Γ .body) (c .member .returns)) >>= λ _.
+      called (c .member)) s (c .rest) in
+      let m = must-then-goes (mayCall (Γ .body) (c .member .returns)) (λ _. called (c .member)) s (t .rest) in
       let joined = call-joined (c .member) (λ ending. orStuck (valueOf ending)) s in
       record {
         found = c .member;
         is = c .is;
-        same = some-then-is callee _ s (c .is) ∙ (some-then-is (c .member .returns) _ s (t .is) ∙ joined);
-        going = then-goes _ _ s (rw joined at (t .rest));
+        outside = no-state (Γ .body) (c .member .returns) (m .0);
+        same = some-then-is callee _ s (c .is) ∙ (some-then-is (c .member .returns) _ s (t .is)
+            ∙ (must-then-is (mayCall (Γ .body) (c .member .returns)) _ s (m .0) ∙ joined));
+        going = then-goes _ _ s (rw joined at (m .1));
       }
 
   pub record Dropped (s : State) (counted : ℕ) : Type 0 where
     pub found : Callable
     pub is : callee ≡ some found
+    pub outside : isState (Γ .body) ≡ false
     pub same : asStmt s ≡ dropped found s
     pub going : Begun counted (callIn Γ used f xs (found .parameters)) (λ ending. pure (afterCall ending)) s
 
@@ -103,6 +122,7 @@ module _ (Γ : Scope) (used : ℕ) (f : ℕ) (xs : Args) where
       record {
         found = c .member;
         is = c .is;
+        outside = no-state (Γ .body) (c .member .returns) (t .0);
         same = some-then-is callee _ s (c .is)
             ∙ (must-then-is (mayCall (Γ .body) (c .member .returns)) _ s (t .0) ∙ joined);
         going = then-goes _ _ s (rw joined at (t .1));
@@ -142,6 +162,7 @@ module _ {nums directory ends scope slots slots₁ frame : List ℕ} {depth at :
     count = v .count;
     stand = v .stand;
     is = value-found .is;
+    outside = value-found .outside;
   }
 
   value-ran : {slots₂ frame₂ : List ℕ} {ended : Ended} {ty number : ℕ}
@@ -226,6 +247,7 @@ module _ {nums directory ends scope slots slots₁ frame : List ℕ} {depth at :
     count = v .count;
     stand = v .stand;
     is = call-found .is;
+    outside = call-found .outside;
   }
 
   call-ran : {slots₂ frame₂ : List ℕ} {ended r : Ended}

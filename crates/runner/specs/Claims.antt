@@ -1,5 +1,6 @@
 -- What the functions of the run ask and promise one another. Each asks that the rules go on from what stands in the
 -- slots, and promises what they come to.
+use mathlib.Core.Bool.{false}
 use mathlib.Core.Option.{some}
 use mathlib.Core.Path.{_≡_}
 use mathlib.Core.List.{List, [], _∷_}
@@ -7,7 +8,7 @@ use Prim.Native.Nat.{ℕ, _+_, _-_, _≤_, _<_}
 use lib.ListN.{length, getD}
 use Rattle.rules.specs.Syntax.{Expr, Args, Stmt, Stmts, Parameter, Callable, Key, Table, Program, placeIn}
 use Rattle.rules.specs.Reading.{deepest, mostKeys, mostArguments}
-use Rattle.rules.specs.Form.{callableBelow, Scope, applyScope}
+use Rattle.rules.specs.Form.{callableBelow, isState, Scope, applyScope}
 use Rattle.rules.specs.Lists.{Entry, Cell}
 use Rattle.rules.specs.Running.{State, M, goIn, Worked}
 use Rattle.rules.proofs.Predicates.{All2}
@@ -63,13 +64,14 @@ pub record AsksValue (nums directory ends scope slots frame : List ℕ) (depth a
   pub asks : AsksExpr nums directory ends scope slots frame depth at
   pub tagged : getD nums at 0 ≡ 13
 
--- a call, as an expression or a statement: its callable is found
+-- a call, as an expression or a statement: its callable is found, and it stands in no state
 pub record CallAt (nums ends : List ℕ) (depth at : ℕ) (Γ : Scope) (f : ℕ) (xs : Args) (c : Callable) : Type 0 where
   pub levels : 0 < depth
   pub holds : Holds nums (at + 1) f
   pub count : HoldsWithin 0 mostArguments nums (at + 2) (argCount xs)
   pub stand : StandsArgs nums ends (depth - 1) (at + 3) xs
   pub is : callableBelow (Γ .program) (Γ .reach) f ≡ some c
+  pub outside : isState (Γ .body) ≡ false
 
 pub record AsksCall (nums directory ends scope slots frame : List ℕ) (depth at : ℕ)
     : Type 0 where

@@ -1,5 +1,6 @@
 pub mod Runs
 pub mod Forms
 pub mod Claims
+pub mod Parsing
 pub mod Prepares
 pub mod Whole

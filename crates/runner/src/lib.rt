@@ -1,6 +1,6 @@
 // The runner: runs a judged program by the rules, from the numbers of its file and what the judge left. The store stands
-// in slots of its own, one for each number in file order, and the last of them counts steps; frames stand in the working
-// slots that are lent.
+// in slots of its own, one for each number in file order; behind them one counts steps and one holds the index of the
+// packet's next unread byte. Frames stand in the working slots that are lent.
 ghost use Rattle.runner.specs.Prepares.{AsksLay, Lays, AsksPrepare, Prepares};
 ghost use Rattle.runner.specs.Whole.{AsksRun, RunsWhole, TellsSignal};
 use rules::Signal;
@@ -10,9 +10,10 @@ use store::COUNTER;
 use store::STORE;
 use store::fill::copy;
 
+mod parser;
 mod running;
 
-// How a run ends: by an exit, or done.
+// How a run ends: by an exit, by a reject, or done.
 fn signal_of(ended: Ended) -> Signal
     ensures { λ r. ⌜ TellsSignal ended r ⌝ }
 {
@@ -21,6 +22,7 @@ fn signal_of(ended: Ended) -> Signal
         Ended::Returned => Signal::Done,
         Ended::ReturnedValue { ty, number } => Signal::Done,
         Ended::Exited => Signal::Exit,
+        Ended::Rejected(error) => Signal::Reject(error),
     }
 }
 
@@ -48,8 +50,8 @@ pub fn prepare(
     lay(widths, program::WIDTHS, shape::WIDTHS, directory);
 }
 
-// The run of an accepted file that is prepared, whose store has so many numbers from an index on. It leaves the final
-// store's numbers in the slots, and the steps behind them.
+// The run of an accepted file that is prepared, whose store has so many numbers from an index on; a packet's bytes stand
+// behind the store and their count. It leaves the final store's numbers in the slots, and the steps behind them.
 pub fn run(
     nums: &[u64],
     ends: &[u64],
@@ -64,8 +66,13 @@ pub fn run(
 {
     copy(nums, store, size, slots);
     slots[COUNTER] = 0;
-    let scope = [directory[shape::CALLABLES], 0, 0, 0, 0, program::APPLY, 0];
-    let body = directory[shape::BODY] as usize;
-    let ended = running::run_stmt(nums, ends, directory, &scope, DEEPEST, body, slots, frame);
-    signal_of(ended)
+    let parsed = parser::run_parser(nums, ends, directory, store, size, slots, frame);
+    if parser::goes_on(parsed) {
+        let scope = [directory[shape::CALLABLES], 0, 0, 0, 0, program::APPLY, 0];
+        let body = directory[shape::BODY] as usize;
+        let ended = running::run_stmt(nums, ends, directory, &scope, DEEPEST, body, slots, frame);
+        signal_of(ended)
+    } else {
+        signal_of(parsed)
+    }
 }

@@ -33,8 +33,10 @@ const APPLY: u64 = 5;
 
 const RETURN_VALUE: u64 = 6;
 
+const VERIFY: u64 = 12;
+
 // An expression, by its tag.
-fn run_expr(
+pub(crate) fn run_expr(
     nums: &[u64],
     ends: &[u64],
     directory: &[u64; shape::SLOTS],
@@ -322,6 +324,7 @@ pub(crate) fn run_stmt(
         CALL => run_call_stmt(nums, ends, directory, scope, depth, at, slots, frame),
         APPLY => run_apply(nums, ends, directory, scope, depth, at, slots, frame),
         RETURN_VALUE => run_return(nums, ends, directory, scope, depth, at, slots, frame),
+        VERIFY => run_verify(nums, ends, directory, scope, depth, at, slots, frame),
         _ => run_single(nums, ends, directory, scope, depth, at, slots, frame),
     }
 }
@@ -341,7 +344,7 @@ fn run_single(
     ensures { λ r. ⌜ RunsStmt (now (nums .entry)) (now (directory .entry)) (now (ends .entry)) (now (scope .entry)) (now (slots .entry)) (now (slots .exit)) (now (frame .entry)) (now (frame .exit)) depth at r ⌝ }
 {
     count_step(slots);
-    steps::singles::single(nums, directory, at, slots)
+    steps::singles::single(nums, ends, directory, at, slots)
 }
 
 // An assignment.
@@ -447,6 +450,7 @@ fn run_stmts(
             Ended::Returned => return Ended::Returned,
             Ended::ReturnedValue { ty, number } => return Ended::ReturnedValue { ty, number },
             Ended::Exited => return Ended::Exited,
+            Ended::Rejected(error) => return Ended::Rejected(error),
         }
     }
     Ended::Onward
@@ -499,6 +503,39 @@ fn run_return(
     Ended::ReturnedValue {
         ty: a.ty,
         number: a.number,
+    }
+}
+
+// A verify: where its condition is false it rejects with the error behind it.
+fn run_verify(
+    nums: &[u64],
+    ends: &[u64],
+    directory: &[u64; shape::SLOTS],
+    scope: &[u64; program::SCOPE],
+    depth: usize,
+    at: usize,
+    slots: &mut [u64; STORE],
+    frame: &mut [u64],
+) -> Ended
+    requires { ⌜ AsksTagged 12 (now nums) (now directory) (now ends) (now scope) (now slots) (now frame) depth at ⌝ }
+    ensures { λ r. ⌜ RunsStmt (now (nums .entry)) (now (directory .entry)) (now (ends .entry)) (now (scope .entry)) (now (slots .entry)) (now (slots .exit)) (now (frame .entry)) (now (frame .exit)) depth at r ⌝ }
+{
+    count_step(slots);
+    let c = run_expr(
+        nums,
+        ends,
+        directory,
+        scope,
+        depth - 1,
+        at + 1,
+        slots,
+        frame,
+    );
+    if c.number == 0 {
+        let error = ends[at + 1] as usize;
+        Ended::Rejected(nums[error])
+    } else {
+        Ended::Onward
     }
 }
 

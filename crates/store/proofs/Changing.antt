@@ -56,7 +56,7 @@ same-frame frame own = record { same = refl; free = λ i h. refl }
 -- the unread bytes stay where their index does
 pub packet-stays : (nums slots slots′ packet : List ℕ) → getD slots′ positionSlot 0 ≡ getD slots positionSlot 0
     → MirrorsPacket nums slots packet → MirrorsPacket nums slots′ packet
-packet-stays nums slots slots′ packet e p = record { inside = rw e (p .inside); is = rw e (p .is) }
+packet-stays nums slots slots′ packet e p = rw e p
 
 -- a changed cell, as the rules make it, with the slots of its numbers
 pub record Made (f : Cell → Option Cell) (slots slots′ : List ℕ) (start : ℕ) (c : Cell) : Type 0 where

@@ -181,7 +181,7 @@ module _ (nums directory ends slots : List ℕ) (g : ℕ) where
               state = withPacket (becomes .state) rest;
               is = rw (e, extractInto, taken) refl;
               scene = scene-moved nums directory ends scope slots′ frame Γ (becomes .state) (position + bits / 8) rest
-                  (becomes .scene) (omega (arith, enough, h .packet parsing .inside)) tail;
+                  (becomes .scene) (record { inside = omega (arith, enough, h .packet parsing .inside); is = tail });
               counter = getD-set-other slots′ positionSlot counterSlot (position + bits / 8) 0
                   (λ q. absurd (omega (arith, q))) ∙ becomes .counter;
             }

@@ -6,7 +6,7 @@ use mathlib.Core.Path.{_≡_, refl, sym, _∙_}
 use mathlib.Core.List.{List, [], _∷_}
 use Prim.Native.Nat.{ℕ, _+_, _≤_, _<_}
 use native.Mathlib.Omega.{arith}
-use lib.ListN.{length, getD, set, drop, length-set}
+use lib.ListN.{length, getD, set, length-set}
 use lib.Seq.{getD-set-same, getD-set-other}
 use Rattle.rules.specs.Syntax.{Ty, Callable, Program}
 use Rattle.rules.specs.Form.{bodyOf, isState, Scope, scopeOf, applyScope, stateScope}
@@ -18,7 +18,7 @@ use Rattle.shape.specs.Directory.{offsetsSlot}
 use Rattle.program.specs.Stands.{StandsProgram}
 use Rattle.program.specs.Scopes.{StandsScope}
 use Rattle.lists.specs.Stands.{HoldsAll}
-use Rattle.store.specs.Mirrors.{counterSlot, positionSlot, storeSlots, MirrorsStore, MirrorsPacket, OffsetsOf, Scene}
+use Rattle.store.specs.Mirrors.{counterSlot, positionSlot, storeSlots, MirrorsStore, Unread, MirrorsPacket, OffsetsOf, Scene}
 use Rattle.store.specs.Fills.{Clears, AsksCopy, Copies}
 use Rattle.store.proofs.Changing.{packet-stays}
 use Rattle.store.proofs.Filling.{copy-asks, copied-is}
@@ -39,6 +39,10 @@ position-mirrors slots cells at m = record {
   most = m .most;
   is = λ i h. getD-set-other slots positionSlot i at 0 (λ e. absurd (omega (arith, e, m .most))) ∙ m .is i h;
 }
+
+pub packet-set : (nums slots : List ℕ) (at : ℕ) (packet : List ℕ) → length slots ≡ storeSlots → Unread nums at packet
+    → MirrorsPacket nums (set slots positionSlot at) packet
+packet-set nums slots at packet n u = rw (getD-set-same slots positionSlot at 0 (omega (arith, n))) u
 
 -- the counter is no part of a state
 pub scene-counted : (nums directory ends scope slots frame : List ℕ) (Γ : Scope) (s : State) (n : ℕ)
@@ -106,7 +110,7 @@ scene-fresh nums directory ends scope slots frame frame′ P n c ns cells s o f 
   packet = not-state (callee-outside (c .returns));
 }
 
--- a run begins, with the store's numbers copied, and the counter and the index of the packet set
+-- a run begins, with the store's numbers copied and the counter set
 module _ (nums directory ends : List ℕ) (P : Program) (end store size : ℕ) (cells : List Cell) (packet : List ℕ)
     (s : StandsProgram nums directory ends P end) (h : HoldsAll nums store (slotsOf cells))
     (e : size ≡ length (slotsOf cells)) (f : StoreFits P cells) where
@@ -114,20 +118,19 @@ module _ (nums directory ends : List ℕ) (P : Program) (end store size : ℕ) (
   start-copies slots n = copy-asks nums slots store size (slotsOf cells) (s .numbers) h e
       (omega (arith, n, e, store-most nums directory ends P end s cells f))
 
-  pub scene-start : (scope slots slots′ frame : List ℕ) (n at : ℕ) → StandsScope nums directory ends scope (applyScope P)
+  pub scene-start : (scope slots slots′ frame : List ℕ) (n : ℕ) → StandsScope nums directory ends scope (applyScope P)
       → OffsetsOf P directory offsetsSlot → length slots ≡ storeSlots → Copies nums slots slots′ store size
-      → Scene nums directory ends scope (set (set slots′ counterSlot n) positionSlot at) frame (applyScope P)
-      (started cells packet)
+      → Scene nums directory ends scope (set slots′ counterSlot n) frame (applyScope P) (started cells packet)
   unfolding applyScope started isState
-  scene-start scope slots slots′ frame n at k o m c = record {
+  scene-start scope slots slots′ frame n k o m c = record {
     scopes = k;
     offset = o;
     fits = record { store-fits = f; parameters-fit = nil; locals-fit = nil };
-    store = position-mirrors (set slots′ counterSlot n) cells at (counter-mirrors slots′ cells n (record {
+    store = counter-mirrors slots′ cells n (record {
       count = c .same ∙ m;
       most = store-most nums directory ends P end s cells f;
       is = copied-is nums slots slots′ store size (slotsOf cells) c h e;
-    }));
+    });
     frames = record {
       room = omega arith;
       parameter = λ i q. absurd (omega arith);
@@ -138,28 +141,25 @@ module _ (nums directory ends : List ℕ) (P : Program) (end store size : ℕ) (
 
 -- the packet is read on
 pub scene-moved : (nums directory ends scope slots frame : List ℕ) (Γ : Scope) (s : State) (at : ℕ) (packet : List ℕ)
-    → Scene nums directory ends scope slots frame Γ s → at ≤ length nums → packet ≡ drop at nums
+    → Scene nums directory ends scope slots frame Γ s → Unread nums at packet
     → Scene nums directory ends scope (set slots positionSlot at) frame Γ (withPacket s packet)
 unfolding withPacket
-scene-moved nums directory ends scope slots frame Γ s at packet h i e =
-    let here : getD (set slots positionSlot at) positionSlot 0 ≡ at
-    = getD-set-same slots positionSlot at 0 (omega (arith, h .store .count)) in
-    record {
-      scopes = h .scopes;
-      offset = h .offset;
-      fits = with-packet Γ packet (h .fits);
-      store = position-mirrors slots (s .store) at (h .store);
-      frames = h .frames;
-      packet = λ _. record { inside = rw here i; is = rw here e };
-    }
+scene-moved nums directory ends scope slots frame Γ s at packet h u = record {
+  scopes = h .scopes;
+  offset = h .offset;
+  fits = with-packet Γ packet (h .fits);
+  store = position-mirrors slots (s .store) at (h .store);
+  frames = h .frames;
+  packet = λ _. packet-set nums slots at packet (h .store .count) u;
+}
 
--- the apply body and the states see the same, but for the packet
-pub scene-state : (nums directory ends scope scope′ slots frame : List ℕ) (P : Program) (s : State)
+-- the apply body and the states see the same, but for the packet, whose index is set for them
+pub scene-state : (nums directory ends scope scope′ slots frame : List ℕ) (P : Program) (s : State) (at : ℕ)
     → Scene nums directory ends scope slots frame (applyScope P) s
-    → StandsScope nums directory ends scope′ (stateScope P) → MirrorsPacket nums slots (s .packet)
-    → Scene nums directory ends scope′ slots frame (stateScope P) s
+    → StandsScope nums directory ends scope′ (stateScope P) → Unread nums at (s .packet)
+    → Scene nums directory ends scope′ (set slots positionSlot at) frame (stateScope P) s
 unfolding applyScope stateScope
-scene-state nums directory ends scope scope′ slots frame P s h k p = record {
+scene-state nums directory ends scope scope′ slots frame P s at h k u = record {
   scopes = k;
   offset = h .offset;
   fits = record {
@@ -167,9 +167,9 @@ scene-state nums directory ends scope scope′ slots frame P s h k p = record {
     parameters-fit = h .fits .parameters-fit;
     locals-fit = h .fits .locals-fit;
   };
-  store = h .store;
+  store = position-mirrors slots (s .store) at (h .store);
   frames = h .frames;
-  packet = λ _. p;
+  packet = λ _. packet-set nums slots at (s .packet) (h .store .count) u;
 }
 
 pub scene-apply : (nums directory ends scope scope′ slots frame : List ℕ) (P : Program) (s : State)

@@ -41,9 +41,12 @@ pub record MirrorsFrame (frame ps ls : List ℕ) : Type 0 where
   pub local : (i : ℕ) → i < length ls → getD frame (length ps + i) 0 ≡ getD ls i 0
 
 -- the packet is the last of the lists: its unread bytes are all numbers from an index on
-pub record MirrorsPacket (nums slots packet : List ℕ) : Type 0 where
-  pub inside : getD slots positionSlot 0 ≤ length nums
-  pub is : packet ≡ drop (getD slots positionSlot 0) nums
+pub record Unread (nums : List ℕ) (at : ℕ) (packet : List ℕ) : Type 0 where
+  pub inside : at ≤ length nums
+  pub is : packet ≡ drop at nums
+
+abbrev pub MirrorsPacket : List ℕ → List ℕ → List ℕ → Type 0
+MirrorsPacket nums slots packet = Unread nums (getD slots positionSlot 0) packet
 
 -- how many numbers of the store stand before each global, and in all: in slots one after the other
 pub record OffsetsOf (P : Program) (slots : List ℕ) (first : ℕ) : Type 0 where

@@ -16,6 +16,9 @@ enum-known-ended c = search (signals, needs)
 enum-told-3 : tie.Need-enum-told-3
 enum-told-3 c = search (signals, needs)
 
+enum-known-ended-2 : tie.Need-enum-known-ended-2
+enum-known-ended-2 c = search (signals, needs)
+
 returns : tie.Need-returns
 returns c = search (signals, needs)
 
@@ -28,6 +31,9 @@ returns-3 c = search (signals, needs)
 returns-4 : tie.Need-returns-4
 returns-4 c = search (signals, needs)
 
+returns-5 : tie.Need-returns-5
+returns-5 c = search (signals, needs)
+
 pub signal-of-spec : {M : Type 1} → statement M
 signal-of-spec =
     tie.close
@@ -36,7 +42,9 @@ signal-of-spec =
     enum-told-2
     enum-known-ended
     enum-told-3
+    enum-known-ended-2
     returns
     returns-2
     returns-3
-    returns-4)
+    returns-4
+    returns-5)

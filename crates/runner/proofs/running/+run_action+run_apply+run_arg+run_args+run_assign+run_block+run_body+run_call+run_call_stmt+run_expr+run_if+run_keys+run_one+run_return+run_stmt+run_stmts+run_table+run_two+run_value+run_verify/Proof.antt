@@ -11,6 +11,7 @@ use Rattle.runner.proofs.Calls.{callRuns, call-args, call-args-fall, ca
 use Rattle.runner.proofs.Bodies.{bodyRuns}
 use Rattle.runner.proofs.Values.{valueRuns, callStmtRuns}
 use Rattle.runner.proofs.Stmts.{stmtRuns, taggedRuns, assignRuns, ifRuns, returnRuns, assign-write, branch-fall, if-first-branch, if-low, if-runs-second, if-second}
+use Rattle.runner.proofs.Verifying.{verifyRuns}
 use Rattle.runner.proofs.Blocks.{Blocking, blockRuns, memberRuns, member-inside}
 use Rattle.runner.proofs.Applying.{applyRuns}
 use Rattle.runner.proofs.Keying.{keysRuns, keys-fall, keys-rest, keys-runs}
@@ -21,61 +22,64 @@ use borrow.Fn.Kinds.{In}
 use borrow.Fn.PlainCycle.{Measures, is, falls, and}
 use Rattle.runner.proofs.running.run_action.Reads as run-action
 use Rattle.runner.proofs.running.run_action.Kinds as run-action-kinds
-use Rattle.runner.proofs.running.+run_action+run_apply+run_arg+run_args+run_assign+run_block+run_body+run_call+run_call_stmt+run_expr+run_if+run_keys+run_one+run_return+run_stmt+run_stmts+run_table+run_two+run_value.Lts-run_action as run-action-lts
+use Rattle.runner.proofs.running.+run_action+run_apply+run_arg+run_args+run_assign+run_block+run_body+run_call+run_call_stmt+run_expr+run_if+run_keys+run_one+run_return+run_stmt+run_stmts+run_table+run_two+run_value+run_verify.Lts-run_action as run-action-lts
 use Rattle.runner.proofs.running.run_apply.Reads as run-apply
 use Rattle.runner.proofs.running.run_apply.Kinds as run-apply-kinds
-use Rattle.runner.proofs.running.+run_action+run_apply+run_arg+run_args+run_assign+run_block+run_body+run_call+run_call_stmt+run_expr+run_if+run_keys+run_one+run_return+run_stmt+run_stmts+run_table+run_two+run_value.Lts-run_apply as run-apply-lts
+use Rattle.runner.proofs.running.+run_action+run_apply+run_arg+run_args+run_assign+run_block+run_body+run_call+run_call_stmt+run_expr+run_if+run_keys+run_one+run_return+run_stmt+run_stmts+run_table+run_two+run_value+run_verify.Lts-run_apply as run-apply-lts
 use Rattle.runner.proofs.running.run_arg.Reads as run-arg
 use Rattle.runner.proofs.running.run_arg.Kinds as run-arg-kinds
-use Rattle.runner.proofs.running.+run_action+run_apply+run_arg+run_args+run_assign+run_block+run_body+run_call+run_call_stmt+run_expr+run_if+run_keys+run_one+run_return+run_stmt+run_stmts+run_table+run_two+run_value.Lts-run_arg as run-arg-lts
+use Rattle.runner.proofs.running.+run_action+run_apply+run_arg+run_args+run_assign+run_block+run_body+run_call+run_call_stmt+run_expr+run_if+run_keys+run_one+run_return+run_stmt+run_stmts+run_table+run_two+run_value+run_verify.Lts-run_arg as run-arg-lts
 use Rattle.runner.proofs.running.run_args.Reads as run-args
 use Rattle.runner.proofs.running.run_args.Kinds as run-args-kinds
-use Rattle.runner.proofs.running.+run_action+run_apply+run_arg+run_args+run_assign+run_block+run_body+run_call+run_call_stmt+run_expr+run_if+run_keys+run_one+run_return+run_stmt+run_stmts+run_table+run_two+run_value.Lts-run_args as run-args-lts
+use Rattle.runner.proofs.running.+run_action+run_apply+run_arg+run_args+run_assign+run_block+run_body+run_call+run_call_stmt+run_expr+run_if+run_keys+run_one+run_return+run_stmt+run_stmts+run_table+run_two+run_value+run_verify.Lts-run_args as run-args-lts
 use Rattle.runner.proofs.running.run_assign.Reads as run-assign
 use Rattle.runner.proofs.running.run_assign.Kinds as run-assign-kinds
-use Rattle.runner.proofs.running.+run_action+run_apply+run_arg+run_args+run_assign+run_block+run_body+run_call+run_call_stmt+run_expr+run_if+run_keys+run_one+run_return+run_stmt+run_stmts+run_table+run_two+run_value.Lts-run_assign as run-assign-lts
+use Rattle.runner.proofs.running.+run_action+run_apply+run_arg+run_args+run_assign+run_block+run_body+run_call+run_call_stmt+run_expr+run_if+run_keys+run_one+run_return+run_stmt+run_stmts+run_table+run_two+run_value+run_verify.Lts-run_assign as run-assign-lts
 use Rattle.runner.proofs.running.run_block.Reads as run-block
 use Rattle.runner.proofs.running.run_block.Kinds as run-block-kinds
-use Rattle.runner.proofs.running.+run_action+run_apply+run_arg+run_args+run_assign+run_block+run_body+run_call+run_call_stmt+run_expr+run_if+run_keys+run_one+run_return+run_stmt+run_stmts+run_table+run_two+run_value.Lts-run_block as run-block-lts
+use Rattle.runner.proofs.running.+run_action+run_apply+run_arg+run_args+run_assign+run_block+run_body+run_call+run_call_stmt+run_expr+run_if+run_keys+run_one+run_return+run_stmt+run_stmts+run_table+run_two+run_value+run_verify.Lts-run_block as run-block-lts
 use Rattle.runner.proofs.running.run_body.Reads as run-body
 use Rattle.runner.proofs.running.run_body.Kinds as run-body-kinds
-use Rattle.runner.proofs.running.+run_action+run_apply+run_arg+run_args+run_assign+run_block+run_body+run_call+run_call_stmt+run_expr+run_if+run_keys+run_one+run_return+run_stmt+run_stmts+run_table+run_two+run_value.Lts-run_body as run-body-lts
+use Rattle.runner.proofs.running.+run_action+run_apply+run_arg+run_args+run_assign+run_block+run_body+run_call+run_call_stmt+run_expr+run_if+run_keys+run_one+run_return+run_stmt+run_stmts+run_table+run_two+run_value+run_verify.Lts-run_body as run-body-lts
 use Rattle.runner.proofs.running.run_call.Reads as run-call
 use Rattle.runner.proofs.running.run_call.Kinds as run-call-kinds
-use Rattle.runner.proofs.running.+run_action+run_apply+run_arg+run_args+run_assign+run_block+run_body+run_call+run_call_stmt+run_expr+run_if+run_keys+run_one+run_return+run_stmt+run_stmts+run_table+run_two+run_value.Lts-run_call as run-call-lts
+use Rattle.runner.proofs.running.+run_action+run_apply+run_arg+run_args+run_assign+run_block+run_body+run_call+run_call_stmt+run_expr+run_if+run_keys+run_one+run_return+run_stmt+run_stmts+run_table+run_two+run_value+run_verify.Lts-run_call as run-call-lts
 use Rattle.runner.proofs.running.run_call_stmt.Reads as run-call-stmt
 use Rattle.runner.proofs.running.run_call_stmt.Kinds as run-call-stmt-kinds
-use Rattle.runner.proofs.running.+run_action+run_apply+run_arg+run_args+run_assign+run_block+run_body+run_call+run_call_stmt+run_expr+run_if+run_keys+run_one+run_return+run_stmt+run_stmts+run_table+run_two+run_value.Lts-run_call_stmt as run-call-stmt-lts
+use Rattle.runner.proofs.running.+run_action+run_apply+run_arg+run_args+run_assign+run_block+run_body+run_call+run_call_stmt+run_expr+run_if+run_keys+run_one+run_return+run_stmt+run_stmts+run_table+run_two+run_value+run_verify.Lts-run_call_stmt as run-call-stmt-lts
 use Rattle.runner.proofs.running.run_expr.Reads as run-expr
 use Rattle.runner.proofs.running.run_expr.Kinds as run-expr-kinds
-use Rattle.runner.proofs.running.+run_action+run_apply+run_arg+run_args+run_assign+run_block+run_body+run_call+run_call_stmt+run_expr+run_if+run_keys+run_one+run_return+run_stmt+run_stmts+run_table+run_two+run_value.Lts-run_expr as run-expr-lts
+use Rattle.runner.proofs.running.+run_action+run_apply+run_arg+run_args+run_assign+run_block+run_body+run_call+run_call_stmt+run_expr+run_if+run_keys+run_one+run_return+run_stmt+run_stmts+run_table+run_two+run_value+run_verify.Lts-run_expr as run-expr-lts
 use Rattle.runner.proofs.running.run_if.Reads as run-if
 use Rattle.runner.proofs.running.run_if.Kinds as run-if-kinds
-use Rattle.runner.proofs.running.+run_action+run_apply+run_arg+run_args+run_assign+run_block+run_body+run_call+run_call_stmt+run_expr+run_if+run_keys+run_one+run_return+run_stmt+run_stmts+run_table+run_two+run_value.Lts-run_if as run-if-lts
+use Rattle.runner.proofs.running.+run_action+run_apply+run_arg+run_args+run_assign+run_block+run_body+run_call+run_call_stmt+run_expr+run_if+run_keys+run_one+run_return+run_stmt+run_stmts+run_table+run_two+run_value+run_verify.Lts-run_if as run-if-lts
 use Rattle.runner.proofs.running.run_keys.Reads as run-keys
 use Rattle.runner.proofs.running.run_keys.Kinds as run-keys-kinds
-use Rattle.runner.proofs.running.+run_action+run_apply+run_arg+run_args+run_assign+run_block+run_body+run_call+run_call_stmt+run_expr+run_if+run_keys+run_one+run_return+run_stmt+run_stmts+run_table+run_two+run_value.Lts-run_keys as run-keys-lts
+use Rattle.runner.proofs.running.+run_action+run_apply+run_arg+run_args+run_assign+run_block+run_body+run_call+run_call_stmt+run_expr+run_if+run_keys+run_one+run_return+run_stmt+run_stmts+run_table+run_two+run_value+run_verify.Lts-run_keys as run-keys-lts
 use Rattle.runner.proofs.running.run_one.Reads as run-one
 use Rattle.runner.proofs.running.run_one.Kinds as run-one-kinds
-use Rattle.runner.proofs.running.+run_action+run_apply+run_arg+run_args+run_assign+run_block+run_body+run_call+run_call_stmt+run_expr+run_if+run_keys+run_one+run_return+run_stmt+run_stmts+run_table+run_two+run_value.Lts-run_one as run-one-lts
+use Rattle.runner.proofs.running.+run_action+run_apply+run_arg+run_args+run_assign+run_block+run_body+run_call+run_call_stmt+run_expr+run_if+run_keys+run_one+run_return+run_stmt+run_stmts+run_table+run_two+run_value+run_verify.Lts-run_one as run-one-lts
 use Rattle.runner.proofs.running.run_return.Reads as run-return
 use Rattle.runner.proofs.running.run_return.Kinds as run-return-kinds
-use Rattle.runner.proofs.running.+run_action+run_apply+run_arg+run_args+run_assign+run_block+run_body+run_call+run_call_stmt+run_expr+run_if+run_keys+run_one+run_return+run_stmt+run_stmts+run_table+run_two+run_value.Lts-run_return as run-return-lts
+use Rattle.runner.proofs.running.+run_action+run_apply+run_arg+run_args+run_assign+run_block+run_body+run_call+run_call_stmt+run_expr+run_if+run_keys+run_one+run_return+run_stmt+run_stmts+run_table+run_two+run_value+run_verify.Lts-run_return as run-return-lts
 use Rattle.runner.proofs.running.run_stmt.Reads as run-stmt
 use Rattle.runner.proofs.running.run_stmt.Kinds as run-stmt-kinds
-use Rattle.runner.proofs.running.+run_action+run_apply+run_arg+run_args+run_assign+run_block+run_body+run_call+run_call_stmt+run_expr+run_if+run_keys+run_one+run_return+run_stmt+run_stmts+run_table+run_two+run_value.Lts-run_stmt as run-stmt-lts
+use Rattle.runner.proofs.running.+run_action+run_apply+run_arg+run_args+run_assign+run_block+run_body+run_call+run_call_stmt+run_expr+run_if+run_keys+run_one+run_return+run_stmt+run_stmts+run_table+run_two+run_value+run_verify.Lts-run_stmt as run-stmt-lts
 use Rattle.runner.proofs.running.run_stmts.Reads as run-stmts
 use Rattle.runner.proofs.running.run_stmts.Kinds as run-stmts-kinds
-use Rattle.runner.proofs.running.+run_action+run_apply+run_arg+run_args+run_assign+run_block+run_body+run_call+run_call_stmt+run_expr+run_if+run_keys+run_one+run_return+run_stmt+run_stmts+run_table+run_two+run_value.Lts-run_stmts as run-stmts-lts
+use Rattle.runner.proofs.running.+run_action+run_apply+run_arg+run_args+run_assign+run_block+run_body+run_call+run_call_stmt+run_expr+run_if+run_keys+run_one+run_return+run_stmt+run_stmts+run_table+run_two+run_value+run_verify.Lts-run_stmts as run-stmts-lts
 use Rattle.runner.proofs.running.run_table.Reads as run-table
 use Rattle.runner.proofs.running.run_table.Kinds as run-table-kinds
-use Rattle.runner.proofs.running.+run_action+run_apply+run_arg+run_args+run_assign+run_block+run_body+run_call+run_call_stmt+run_expr+run_if+run_keys+run_one+run_return+run_stmt+run_stmts+run_table+run_two+run_value.Lts-run_table as run-table-lts
+use Rattle.runner.proofs.running.+run_action+run_apply+run_arg+run_args+run_assign+run_block+run_body+run_call+run_call_stmt+run_expr+run_if+run_keys+run_one+run_return+run_stmt+run_stmts+run_table+run_two+run_value+run_verify.Lts-run_table as run-table-lts
 use Rattle.runner.proofs.running.run_two.Reads as run-two
 use Rattle.runner.proofs.running.run_two.Kinds as run-two-kinds
-use Rattle.runner.proofs.running.+run_action+run_apply+run_arg+run_args+run_assign+run_block+run_body+run_call+run_call_stmt+run_expr+run_if+run_keys+run_one+run_return+run_stmt+run_stmts+run_table+run_two+run_value.Lts-run_two as run-two-lts
+use Rattle.runner.proofs.running.+run_action+run_apply+run_arg+run_args+run_assign+run_block+run_body+run_call+run_call_stmt+run_expr+run_if+run_keys+run_one+run_return+run_stmt+run_stmts+run_table+run_two+run_value+run_verify.Lts-run_two as run-two-lts
 use Rattle.runner.proofs.running.run_value.Reads as run-value
 use Rattle.runner.proofs.running.run_value.Kinds as run-value-kinds
-use Rattle.runner.proofs.running.+run_action+run_apply+run_arg+run_args+run_assign+run_block+run_body+run_call+run_call_stmt+run_expr+run_if+run_keys+run_one+run_return+run_stmt+run_stmts+run_table+run_two+run_value.Lts-run_value as run-value-lts
+use Rattle.runner.proofs.running.+run_action+run_apply+run_arg+run_args+run_assign+run_block+run_body+run_call+run_call_stmt+run_expr+run_if+run_keys+run_one+run_return+run_stmt+run_stmts+run_table+run_two+run_value+run_verify.Lts-run_value as run-value-lts
+use Rattle.runner.proofs.running.run_verify.Reads as run-verify
+use Rattle.runner.proofs.running.run_verify.Kinds as run-verify-kinds
+use Rattle.runner.proofs.running.+run_action+run_apply+run_arg+run_args+run_assign+run_block+run_body+run_call+run_call_stmt+run_expr+run_if+run_keys+run_one+run_return+run_stmt+run_stmts+run_table+run_two+run_value+run_verify.Lts-run_verify as run-verify-lts
 use Rattle.lookup.proofs.look_up.Reads as look-up-reads
 use Rattle.program.proofs.frame_of.Reads as frame-of-reads
 use Rattle.program.proofs.head_of.Reads as head-of-reads
@@ -94,10 +98,10 @@ use Rattle.steps.proofs.operands.two.Reads as two-reads
 use Rattle.store.proofs.fill.clear.Reads as clear-reads
 use Rattle.store.proofs.fill.copy.Reads as copy-reads
 use Rattle.store.proofs.write_place.Reads as write-place-reads
-use Rattle.runner.proofs.running.+run_action+run_apply+run_arg+run_args+run_assign+run_block+run_body+run_call+run_call_stmt+run_expr+run_if+run_keys+run_one+run_return+run_stmt+run_stmts+run_table+run_two+run_value.{
+use Rattle.runner.proofs.running.+run_action+run_apply+run_arg+run_args+run_assign+run_block+run_body+run_call+run_call_stmt+run_expr+run_if+run_keys+run_one+run_return+run_stmt+run_stmts+run_table+run_two+run_value+run_verify.{
   statement,
 }
-use Rattle.runner.proofs.running.+run_action+run_apply+run_arg+run_args+run_assign+run_block+run_body+run_call+run_call_stmt+run_expr+run_if+run_keys+run_one+run_return+run_stmt+run_stmts+run_table+run_two+run_value.Tie.{
+use Rattle.runner.proofs.running.+run_action+run_apply+run_arg+run_args+run_assign+run_block+run_body+run_call+run_call_stmt+run_expr+run_if+run_keys+run_one+run_return+run_stmt+run_stmts+run_table+run_two+run_value+run_verify.Tie.{
   close,
 }
 
@@ -157,6 +161,9 @@ abbrev μ-run-two : Measures 6 run-two-kinds.ps ℕ
 
 abbrev μ-run-value : Measures 6 run-value-kinds.ps ℕ
 μ-run-value κs a = rank (getD (a .1 .1 .1 .0 .now) 0 0) (32 * a .1 .1 .1 .1 .0 + 19)
+
+abbrev μ-run-verify : Measures 6 run-verify-kinds.ps ℕ
+μ-run-verify κs a = rank (getD (a .1 .1 .1 .0 .now) 0 0) (2000 + 32 * a .1 .1 .1 .1 .0 + 19)
 
 abbrev run-action-at : ℕ → In 5 run-action-kinds.ps
 run-action-at t =
@@ -295,6 +302,14 @@ abbrev run-value-below : ℕ → In 6 run-value-kinds.ps
 run-value-below t =
     and 6 run-value-kinds.ps (falls 6 run-value-kinds.ps _<_ μ-run-value t) run-value.Pre
 
+abbrev run-verify-at : ℕ → In 6 run-verify-kinds.ps
+run-verify-at t =
+    and 6 run-verify-kinds.ps (is 6 run-verify-kinds.ps μ-run-verify t) run-verify.Pre
+
+abbrev run-verify-below : ℕ → In 6 run-verify-kinds.ps
+run-verify-below t =
+    and 6 run-verify-kinds.ps (falls 6 run-verify-kinds.ps _<_ μ-run-verify t) run-verify.Pre
+
 abbrev run-stmts-Inv-loop : run-stmts-lts.InvT-loop
 run-stmts-Inv-loop nums ends directory scope depth at count slots₀ frame₀ next₀ left₀ slots frame next left = Blocking nums directory ends scope slots₀ slots frame₀ frame depth at count next left
 
@@ -345,7 +360,7 @@ module _ (t : ℕ) where
   run-return-claims = (count-step-reads.Asked, count-step-reads.Learnt, run-expr-below t, run-expr.Post)
 
   abbrev run-stmt-claims : run-stmt-lts.Claims
-  run-stmt-claims = (run-assign-below t, run-assign.Post, run-if-below t, run-if.Post, run-block-below t, run-block.Post, run-call-stmt-below t, run-call-stmt.Post, run-apply-below t, run-apply.Post, run-return-below t, run-return.Post, run-single-reads.Asked, run-single-reads.Learnt)
+  run-stmt-claims = (run-assign-below t, run-assign.Post, run-if-below t, run-if.Post, run-block-below t, run-block.Post, run-call-stmt-below t, run-call-stmt.Post, run-apply-below t, run-apply.Post, run-return-below t, run-return.Post, run-verify-below t, run-verify.Post, run-single-reads.Asked, run-single-reads.Learnt)
 
   abbrev run-stmts-claims : run-stmts-lts.Claims
   run-stmts-claims = (run-stmt-below t, run-stmt.Post)
@@ -358,6 +373,9 @@ module _ (t : ℕ) where
 
   abbrev run-value-claims : run-value-lts.Claims
   run-value-claims = (count-step-reads.Asked, count-step-reads.Learnt, run-call-below t, run-call.Post, returned-reads.Asked, returned-reads.Learnt)
+
+  abbrev run-verify-claims : run-verify-lts.Claims
+  run-verify-claims = (count-step-reads.Asked, count-step-reads.Learnt, run-expr-below t, run-expr.Post)
 
   run-action-mul-position : run-action-lts.Need-mul-position run-action-claims (run-action-at t) run-action.Post
   run-action-mul-position c = search (actionRuns, needs)
@@ -836,6 +854,9 @@ module _ (t : ℕ) where
   run-stmt-run-return-requires : run-stmt-lts.Need-run-return-requires run-stmt-claims (run-stmt-at t) run-stmt.Post
   run-stmt-run-return-requires c κs = search (stmtRuns, needs)
 
+  run-stmt-run-verify-requires : run-stmt-lts.Need-run-verify-requires run-stmt-claims (run-stmt-at t) run-stmt.Post
+  run-stmt-run-verify-requires c κs = search (stmtRuns, needs)
+
   run-stmt-run-single-requires : run-stmt-lts.Need-run-single-requires run-stmt-claims (run-stmt-at t) run-stmt.Post
   run-stmt-run-single-requires c κs = search (stmtRuns, needs)
 
@@ -880,6 +901,12 @@ module _ (t : ℕ) where
 
   run-stmt-returns-7 : run-stmt-lts.Need-returns-7 run-stmt-claims (run-stmt-at t) run-stmt.Post
   run-stmt-returns-7 c = search (stmtRuns, needs)
+
+  run-stmt-same-length-8 : run-stmt-lts.Need-same-length-8 run-stmt-claims (run-stmt-at t) run-stmt.Post
+  run-stmt-same-length-8 c = search (stmtRuns, needs)
+
+  run-stmt-returns-8 : run-stmt-lts.Need-returns-8 run-stmt-claims (run-stmt-at t) run-stmt.Post
+  run-stmt-returns-8 c = search (stmtRuns, needs)
 
   run-stmts-loop-holds : run-stmts-lts.Need-loop-holds run-stmts-claims (run-stmts-at t) run-stmts.Post run-stmts-Inv-loop run-stmts-μ-loop
   run-stmts-loop-holds c = search (memberRuns, needs)
@@ -932,11 +959,20 @@ module _ (t : ℕ) where
   run-stmts-returns-3 : run-stmts-lts.Need-returns-3 run-stmts-claims (run-stmts-at t) run-stmts.Post run-stmts-Inv-loop run-stmts-μ-loop
   run-stmts-returns-3 c = search (memberRuns, needs)
 
+  run-stmts-enum-known-ended-2 : run-stmts-lts.Need-enum-known-ended-2 run-stmts-claims (run-stmts-at t) run-stmts.Post run-stmts-Inv-loop run-stmts-μ-loop
+  run-stmts-enum-known-ended-2 c = search (memberRuns, needs)
+
   run-stmts-same-length-4 : run-stmts-lts.Need-same-length-4 run-stmts-claims (run-stmts-at t) run-stmts.Post run-stmts-Inv-loop run-stmts-μ-loop
   run-stmts-same-length-4 c = search (memberRuns, needs)
 
   run-stmts-returns-4 : run-stmts-lts.Need-returns-4 run-stmts-claims (run-stmts-at t) run-stmts.Post run-stmts-Inv-loop run-stmts-μ-loop
   run-stmts-returns-4 c = search (memberRuns, needs)
+
+  run-stmts-same-length-5 : run-stmts-lts.Need-same-length-5 run-stmts-claims (run-stmts-at t) run-stmts.Post run-stmts-Inv-loop run-stmts-μ-loop
+  run-stmts-same-length-5 c = search (memberRuns, needs)
+
+  run-stmts-returns-5 : run-stmts-lts.Need-returns-5 run-stmts-claims (run-stmts-at t) run-stmts.Post run-stmts-Inv-loop run-stmts-μ-loop
+  run-stmts-returns-5 c = search (memberRuns, needs)
 
   run-table-table-of-requires : run-table-lts.Need-table-of-requires run-table-claims (run-table-at t) run-table.Post
   run-table-table-of-requires c κs = search (tableRuns, needs)
@@ -1037,9 +1073,48 @@ module _ (t : ℕ) where
   run-value-returns : run-value-lts.Need-returns run-value-claims (run-value-at t) run-value.Post
   run-value-returns c = search (valueRuns, needs)
 
-pub +run-action+run-apply+run-arg+run-args+run-assign+run-block+run-body+run-call+run-call-stmt+run-expr+run-if+run-keys+run-one+run-return+run-stmt+run-stmts+run-table+run-two+run-value-spec :
+  run-verify-count-step-requires : run-verify-lts.Need-count-step-requires run-verify-claims (run-verify-at t) run-verify.Post
+  run-verify-count-step-requires c κs = search (verifyRuns, taggedRuns, needs)
+
+  run-verify-sub-run-expr : run-verify-lts.Need-sub-run-expr run-verify-claims (run-verify-at t) run-verify.Post
+  run-verify-sub-run-expr c = search (verifyRuns, taggedRuns, needs)
+
+  run-verify-add-run-expr : run-verify-lts.Need-add-run-expr run-verify-claims (run-verify-at t) run-verify.Post
+  run-verify-add-run-expr c = search (verifyRuns, taggedRuns, needs)
+
+  run-verify-run-expr-requires : run-verify-lts.Need-run-expr-requires run-verify-claims (run-verify-at t) run-verify.Post
+  run-verify-run-expr-requires c κs = search (verifyRuns, taggedRuns, needs)
+
+  run-verify-add-error : run-verify-lts.Need-add-error run-verify-claims (run-verify-at t) run-verify.Post
+  run-verify-add-error c = search (verifyRuns, taggedRuns, needs)
+
+  run-verify-mul-error : run-verify-lts.Need-mul-error run-verify-claims (run-verify-at t) run-verify.Post
+  run-verify-mul-error c = search (verifyRuns, taggedRuns, needs)
+
+  run-verify-shared-slice-read-error : run-verify-lts.Need-shared-slice-read-error run-verify-claims (run-verify-at t) run-verify.Post
+  run-verify-shared-slice-read-error c = search (verifyRuns, taggedRuns, needs)
+
+  run-verify-mul-t20 : run-verify-lts.Need-mul-t20 run-verify-claims (run-verify-at t) run-verify.Post
+  run-verify-mul-t20 c = search (verifyRuns, taggedRuns, needs)
+
+  run-verify-shared-slice-read-t23 : run-verify-lts.Need-shared-slice-read-t23 run-verify-claims (run-verify-at t) run-verify.Post
+  run-verify-shared-slice-read-t23 c = search (verifyRuns, taggedRuns, needs)
+
+  run-verify-same-length : run-verify-lts.Need-same-length run-verify-claims (run-verify-at t) run-verify.Post
+  run-verify-same-length c = search (verifyRuns, taggedRuns, needs)
+
+  run-verify-returns : run-verify-lts.Need-returns run-verify-claims (run-verify-at t) run-verify.Post
+  run-verify-returns c = search (verifyRuns, taggedRuns, needs)
+
+  run-verify-same-length-2 : run-verify-lts.Need-same-length-2 run-verify-claims (run-verify-at t) run-verify.Post
+  run-verify-same-length-2 c = search (verifyRuns, taggedRuns, needs)
+
+  run-verify-returns-2 : run-verify-lts.Need-returns-2 run-verify-claims (run-verify-at t) run-verify.Post
+  run-verify-returns-2 c = search (verifyRuns, taggedRuns, needs)
+
+pub +run-action+run-apply+run-arg+run-args+run-assign+run-block+run-body+run-call+run-call-stmt+run-expr+run-if+run-keys+run-one+run-return+run-stmt+run-stmts+run-table+run-two+run-value+run-verify-spec :
     {M : Type 1} → statement M
-+run-action+run-apply+run-arg+run-args+run-assign+run-block+run-body+run-call+run-call-stmt+run-expr+run-if+run-keys+run-one+run-return+run-stmt+run-stmts+run-table+run-two+run-value-spec =
++run-action+run-apply+run-arg+run-args+run-assign+run-block+run-body+run-call+run-call-stmt+run-expr+run-if+run-keys+run-one+run-return+run-stmt+run-stmts+run-table+run-two+run-value+run-verify-spec =
     close
     μ-run-action
     μ-run-apply
@@ -1060,6 +1135,7 @@ pub +run-action+run-apply+run-arg+run-args+run-assign+run-block+run-body+run-cal
     μ-run-table
     μ-run-two
     μ-run-value
+    μ-run-verify
     (λ t. run-action-lts.spec (run-action-claims t)
     (run-action-at t)
     run-action.Post
@@ -1265,6 +1341,7 @@ pub +run-action+run-apply+run-arg+run-args+run-assign+run-block+run-body+run-cal
     (run-stmt-run-call-stmt-requires t)
     (run-stmt-run-apply-requires t)
     (run-stmt-run-return-requires t)
+    (run-stmt-run-verify-requires t)
     (run-stmt-run-single-requires t)
     (run-stmt-same-length t)
     (run-stmt-returns t)
@@ -1279,7 +1356,9 @@ pub +run-action+run-apply+run-arg+run-args+run-assign+run-block+run-body+run-cal
     (run-stmt-same-length-6 t)
     (run-stmt-returns-6 t)
     (run-stmt-same-length-7 t)
-    (run-stmt-returns-7 t))
+    (run-stmt-returns-7 t)
+    (run-stmt-same-length-8 t)
+    (run-stmt-returns-8 t))
     (λ t. run-stmts-lts.spec
     (run-stmts-claims t)
     (run-stmts-at t)
@@ -1303,8 +1382,11 @@ pub +run-action+run-apply+run-arg+run-args+run-assign+run-block+run-body+run-cal
     (run-stmts-enum-told-3 t)
     (run-stmts-same-length-3 t)
     (run-stmts-returns-3 t)
+    (run-stmts-enum-known-ended-2 t)
     (run-stmts-same-length-4 t)
-    (run-stmts-returns-4 t))
+    (run-stmts-returns-4 t)
+    (run-stmts-same-length-5 t)
+    (run-stmts-returns-5 t))
     (λ t. run-table-lts.spec (run-table-claims t)
     (run-table-at t)
     run-table.Post
@@ -1339,11 +1421,28 @@ pub +run-action+run-apply+run-arg+run-args+run-assign+run-block+run-body+run-cal
     (run-two-returns t)
     (run-two-same-length-2 t)
     (run-two-returns-2 t))
-    λ t. run-value-lts.spec (run-value-claims t)
+    (λ t. run-value-lts.spec (run-value-claims t)
     (run-value-at t)
     run-value.Post
     (run-value-count-step-requires t)
     (run-value-run-call-requires t)
     (run-value-returned-requires t)
     (run-value-same-length t)
-    (run-value-returns t)
+    (run-value-returns t))
+    λ t. run-verify-lts.spec
+    (run-arg-claims t)
+    (run-verify-at t)
+    run-verify.Post
+    (run-verify-count-step-requires t)
+    (run-verify-sub-run-expr t)
+    (run-verify-add-run-expr t)
+    (run-verify-run-expr-requires t)
+    (run-verify-add-error t)
+    (run-verify-mul-error t)
+    (run-verify-shared-slice-read-error t)
+    (run-verify-mul-t20 t)
+    (run-verify-shared-slice-read-t23 t)
+    (run-verify-same-length t)
+    (run-verify-returns t)
+    (run-verify-same-length-2 t)
+    (run-verify-returns-2 t)
