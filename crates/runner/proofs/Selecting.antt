@@ -111,7 +111,8 @@ module _ (nums : List ℕ) (later : ℕ → M State Ending) (number : ℕ) (s : 
   selected-at at (suc r) (p ∷ ps) w o h q =
       let e : at + 2 * suc r ≡ at + 2 + 2 * r = omega arith in
       passed at r p ps w o
-      ∙ rw e (selected-at (at + 2) r ps (unfold StandsPairs in w .1 .1) (others-next at r p ps o) (omega arith) (rw e at q))
+      ∙ rw e (selected-at (at + 2) r ps (unfold StandsPairs in w .1 .1) (others-next at r p ps o) (omega arith)
+      (rw e at q))
 
   unmatched : (at : ℕ) (ps : List Pair) → StandsPairs nums at ps → Others at (length ps) ps
       → selected later number ps s ≡ done (rejected noMatch) s []
@@ -304,7 +305,8 @@ module _ (nums directory ends scope slots frame : List ℕ) (at : ℕ)
               (rw same at (chosen P n v st g o .going))));
         }
 
-        pub unmatched-runs : count ≤ r → RunsTransition nums directory ends scope slots slots₁ frame frame₁ at (Rejected noMatch)
+        pub unmatched-runs : count ≤ r
+            → RunsTransition nums directory ends scope slots slots₁ frame frame₁ at (Rejected noMatch)
         unmatched-runs l = record {
           runs = λ P used es s n T st w g.
               let v = select-is a T w in

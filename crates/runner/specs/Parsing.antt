@@ -1,4 +1,5 @@
--- The parser: what its states and their transitions do by the rules, and what the functions that run them ask and promise.
+-- The parser: what its states and their transitions do by the rules, and what the functions that run them ask and
+-- promise.
 use mathlib.Core.Bool.{Bool, true, false}
 use mathlib.Core.Path.{_≡_}
 use mathlib.Core.List.{List, []}

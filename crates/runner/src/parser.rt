@@ -1,5 +1,5 @@
-// The parser: from state 0 on, each state leads to a later one, until one accepts or rejects. A state entered is a step,
-// and so its work ends.
+// The parser: from state 0 on, each state leads to a later one, until one accepts or rejects. A state entered is a
+// step, and so its work ends.
 ghost use Rattle.runner.specs.Parsing.{TellsOn, AsksState, RunsState, AsksTransition, RunsTransition, AsksSelect, AsksEqual, FirstEqual, AsksParser, RunsParser};
 use super::running::run_expr;
 use super::running::run_stmt;

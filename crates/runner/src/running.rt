@@ -521,7 +521,7 @@ fn run_verify(
     ensures { λ r. ⌜ RunsStmt (now (nums .entry)) (now (directory .entry)) (now (ends .entry)) (now (scope .entry)) (now (slots .entry)) (now (slots .exit)) (now (frame .entry)) (now (frame .exit)) depth at r ⌝ }
 {
     count_step(slots);
-    let c = run_expr(
+    let a = run_expr(
         nums,
         ends,
         directory,
@@ -531,7 +531,7 @@ fn run_verify(
         slots,
         frame,
     );
-    if c.number == 0 {
+    if a.number == 0 {
         let error = ends[at + 1] as usize;
         Ended::Rejected(nums[error])
     } else {

@@ -1,5 +1,5 @@
 -- How a state of the rules stands in slots: the store's numbers in file order, one a slot; a body's parameters and then
--- its locals in the first slots of its frame; in a parser's state the place of the packet's unread bytes among the numbers.
+-- its locals in the first slots of its frame; in a parser's state the index of the packet's unread bytes.
 use mathlib.Core.Bool.{true}
 use mathlib.Core.Path.{_≡_}
 use mathlib.Core.List.{List}
@@ -15,8 +15,8 @@ use Rattle.shape.specs.Directory.{offsetsSlot}
 use Rattle.program.specs.Scopes.{StandsScope}
 use Rattle.lists.specs.Listing.{offsetsFrom}
 
--- how many numbers a store may have; the slot behind them counts steps, and a state says nothing of it; the last one holds
--- the index of the packet's next unread byte
+-- how many numbers a store may have; the slot behind them counts steps, and a state says nothing of it; the last slot
+-- holds the index of the packet's next unread byte
 abbrev pub mostStored : ℕ
 mostStored = mostGlobals * (1 + mostFields)
 

@@ -1,4 +1,5 @@
--- What is asked and promised where a header is filled from the packet: its fields take the next unread bits, highest first.
+-- What is asked and promised where a header is filled from the packet: its fields take the next unread bits, highest
+-- first.
 use mathlib.Core.Bool.{Bool, true, false}
 use mathlib.Core.Option.{some}
 use mathlib.Core.Path.{_≡_}
