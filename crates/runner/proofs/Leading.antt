@@ -4,105 +4,52 @@ use mathlib.Core.List.{List, []}
 use Prim.Native.Nat.{ℕ, _+_, _<_, _^_}
 use native.Mathlib.Omega.{arith}
 use lib.ListN.{length, getD}
-use Rattle.rules.specs.Syntax.{Expr, Numeral, Pair, Transition, noTransition, accept, reject, leadTo, select, Program}
-use Rattle.rules.specs.Reading.{deepest, mostError, mostPairs}
-use Rattle.rules.specs.Form.{stateScope}
-use Rattle.rules.specs.Lists.{Entry}
+use Rattle.rules.specs.Syntax.{Numeral, Transition, noTransition, accept, reject, leadTo, Program}
 use Rattle.rules.specs.Running.{State, onward, rejected, done, pure, noWayOn, runTransition}
-use Rattle.program.specs.Stands.{HoldsWithin, StandsNumeral, StandsExpr, StandsPairs, StandsTransition, on-no-transition, on-accept, on-reject, on-lead-to, on-select}
+use Rattle.program.specs.Stands.{StandsTransition, on-no-transition, on-accept, on-reject, on-lead-to, on-select}
+use Rattle.program.proofs.Views.{lead-view, SelectView, select-view, transition-inside}
 use Rattle.steps.specs.declared.Ended.{Ended}
 use Rattle.steps.specs.declared.Ended.the-variants.{Onward, Rejected}
-use Rattle.steps.specs.Outcomes.{Goes, counterOf, Ran, Ends, ends-onward, ends-rejected}
+use Rattle.steps.specs.Outcomes.{Goes, counterOf, ends-onward, ends-rejected}
 use Rattle.steps.proofs.Going.{ran-here}
-use Rattle.runner.specs.Runs.{Stage}
 use Rattle.runner.specs.Parsing.{stateIn, laterIn, transitionIn, AsksState, RunsState, AsksTransition, RunsTransition, AsksSelect}
 use Rattle.runner.proofs.States.{later-is, left, left-on}
-
--- the transition at a tag
-data TransitionOf (nums ends : List ℕ) (at : ℕ) : ℕ → Transition → Type 0 where
-  is-none : TransitionOf nums ends at 0 noTransition
-  is-accept : TransitionOf nums ends at 1 accept
-  is-reject : {e : ℕ} → HoldsWithin 0 mostError nums (at + 1) e → TransitionOf nums ends at 2 (reject e)
-  is-lead : {s : Numeral} → StandsNumeral nums (at + 1) s → TransitionOf nums ends at 3 (leadTo s)
-  is-select : {e : Expr} {ps : List Pair} → StandsExpr nums ends deepest (at + 1) e
-      → HoldsWithin 0 mostPairs nums (getD ends (at + 1) 0) (length ps)
-      → StandsPairs nums (getD ends (at + 1) 0 + 1) ps → TransitionOf nums ends at 4 (select at e ps)
-
-transition-of : {nums ends : List ℕ} {at : ℕ} {T : Transition} → StandsTransition nums ends at T
-    → TransitionOf nums ends at (getD nums at 0) T
-transition-of (on-no-transition h) = rw (h .is) is-none
-transition-of (on-accept h) = rw (h .is) is-accept
-transition-of (on-reject h e) = rw (h .is) (is-reject e)
-transition-of (on-lead-to h s) = rw (h .is) (is-lead s)
-transition-of (on-select h e n ps) = rw (h .is) (is-select e n ps)
-
-transition-inside : {nums ends : List ℕ} {at : ℕ} {T : Transition} → StandsTransition nums ends at T → at < length nums
-transition-inside (on-no-transition h) = h .inside
-transition-inside (on-accept h) = h .inside
-transition-inside (on-reject h e) = h .inside
-transition-inside (on-lead-to h s) = h .inside
-transition-inside (on-select h e n ps) = h .inside
 
 -- its cases
 record RejectView (nums : List ℕ) (at : ℕ) (T : Transition) : Type 0 where
   inside : at + 1 < length nums
   is : T ≡ reject (getD nums (at + 1) 0)
 
-record LeadView (nums : List ℕ) (at : ℕ) (T : Transition) : Type 0 where
-  state : Numeral
-  stands : StandsNumeral nums (at + 1) state
-  is : T ≡ leadTo state
-
 module _ {nums ends : List ℕ} {at : ℕ} where
-  none-is : {tag : ℕ} {T : Transition} → TransitionOf nums ends at tag T → tag ≡ 0 → T ≡ noTransition
-  none-is is-none q = refl
-  none-is is-accept q = absurd (omega (arith, q))
-  none-is (is-reject h) q = absurd (omega (arith, q))
-  none-is (is-lead h) q = absurd (omega (arith, q))
-  none-is (is-select e n ps) q = absurd (omega (arith, q))
+  none-is : {T : Transition} → StandsTransition nums ends at T → getD nums at 0 ≡ 0 → T ≡ noTransition
+  none-is (on-no-transition h) q = refl
+  none-is (on-accept h) q = absurd (omega (arith, h .is, q))
+  none-is (on-reject h e) q = absurd (omega (arith, h .is, q))
+  none-is (on-lead-to h s) q = absurd (omega (arith, h .is, q))
+  none-is (on-select h e n ps) q = absurd (omega (arith, h .is, q))
 
-  accept-is : {tag : ℕ} {T : Transition} → TransitionOf nums ends at tag T → tag ≡ 1 → T ≡ accept
-  accept-is is-none q = absurd (omega (arith, q))
-  accept-is is-accept q = refl
-  accept-is (is-reject h) q = absurd (omega (arith, q))
-  accept-is (is-lead h) q = absurd (omega (arith, q))
-  accept-is (is-select e n ps) q = absurd (omega (arith, q))
+  accept-is : {T : Transition} → StandsTransition nums ends at T → getD nums at 0 ≡ 1 → T ≡ accept
+  accept-is (on-no-transition h) q = absurd (omega (arith, h .is, q))
+  accept-is (on-accept h) q = refl
+  accept-is (on-reject h e) q = absurd (omega (arith, h .is, q))
+  accept-is (on-lead-to h s) q = absurd (omega (arith, h .is, q))
+  accept-is (on-select h e n ps) q = absurd (omega (arith, h .is, q))
 
-  reject-is : {tag : ℕ} {T : Transition} → TransitionOf nums ends at tag T → tag ≡ 2 → RejectView nums at T
-  reject-is is-none q = absurd (omega (arith, q))
-  reject-is is-accept q = absurd (omega (arith, q))
-  reject-is (is-reject h) q = record { inside = h .holds .inside; is = ap reject (sym (h .holds .is)) }
-  reject-is (is-lead h) q = absurd (omega (arith, q))
-  reject-is (is-select e n ps) q = absurd (omega (arith, q))
-
-  lead-is : {tag : ℕ} {T : Transition} → TransitionOf nums ends at tag T → tag ≡ 3 → LeadView nums at T
-  lead-is is-none q = absurd (omega (arith, q))
-  lead-is is-accept q = absurd (omega (arith, q))
-  lead-is (is-reject h) q = absurd (omega (arith, q))
-  lead-is (is-lead {s = m} h) q = record { state = m; stands = h; is = refl }
-  lead-is (is-select e n ps) q = absurd (omega (arith, q))
-
-pub record SelectView (nums ends : List ℕ) (at : ℕ) (T : Transition) : Type 0 where
-  pub expr : Expr
-  pub pairs : List Pair
-  pub is : T ≡ select at expr pairs
-  pub stands : StandsExpr nums ends deepest (at + 1) expr
-  pub count : HoldsWithin 0 mostPairs nums (getD ends (at + 1) 0) (length pairs)
-  pub pairsStand : StandsPairs nums (getD ends (at + 1) 0 + 1) pairs
-
-select-of : {nums ends : List ℕ} {at tag : ℕ} {T : Transition} → TransitionOf nums ends at tag T → (tag ≡ 0 → ⊥)
-    → (tag ≡ 1 → ⊥) → (tag ≡ 2 → ⊥) → (tag ≡ 3 → ⊥) → SelectView nums ends at T
-select-of is-none a b c d = absurd (a refl)
-select-of is-accept a b c d = absurd (b refl)
-select-of (is-reject h) a b c d = absurd (c refl)
-select-of (is-lead h) a b c d = absurd (d refl)
-select-of (is-select {e = e} {ps = ps} w n z) a b c d =
-    record { expr = e; pairs = ps; is = refl; stands = w; count = n; pairsStand = z }
+  reject-is : {T : Transition} → StandsTransition nums ends at T → getD nums at 0 ≡ 2 → RejectView nums at T
+  reject-is (on-no-transition h) q = absurd (omega (arith, h .is, q))
+  reject-is (on-accept h) q = absurd (omega (arith, h .is, q))
+  reject-is (on-reject h e) q = record { inside = e .holds .inside; is = ap reject (sym (e .holds .is)) }
+  reject-is (on-lead-to h s) q = absurd (omega (arith, h .is, q))
+  reject-is (on-select h e n ps) q = absurd (omega (arith, h .is, q))
 
 pub select-is : {nums directory ends scope slots frame : List ℕ} {at : ℕ}
     → AsksSelect nums directory ends scope slots frame at → (T : Transition) → StandsTransition nums ends at T
     → SelectView nums ends at T
-select-is a T w = select-of (transition-of w) (a .none) (a .accept) (a .reject) (a .lead)
+select-is a T (on-no-transition h) = absurd (a .none (h .is))
+select-is a T (on-accept h) = absurd (a .accept (h .is))
+select-is a T (on-reject h e) = absurd (a .reject (h .is))
+select-is a T (on-lead-to h s) = absurd (a .lead (h .is))
+select-is a T (on-select h e n ps) = select-view (on-select h e n ps) (h .is)
 
 -- what they come to
 module _ (P : Program) (used n : ℕ) (s : State) (T : Transition) where
@@ -129,9 +76,6 @@ module _ (P : Program) (used n : ℕ) (s : State) (T : Transition) where
 
 module _ (nums directory ends scope slots frame : List ℕ) (at : ℕ) where
   module _ (a : AsksTransition nums directory ends scope slots frame at) where
-    this : TransitionOf nums ends at (getD nums at 0) (a .transition)
-    this = transition-of (a .stands)
-
     pub tag-inside : at < length nums
     tag-inside = transition-inside (a .stands)
 
@@ -139,15 +83,15 @@ module _ (nums directory ends scope slots frame : List ℕ) (at : ℕ) where
     tag-next = omega (arith, tag-inside, a .stage .scene .scopes .program .numbers)
 
     pub error-inside : getD nums at 0 ≡ 2 → at + 1 < length nums
-    error-inside q = reject-is this q .inside
+    error-inside q = reject-is (a .stands) q .inside
 
     pub lead-inside : getD nums at 0 ≡ 3 → at + 1 < length nums
-    lead-inside q = lead-is this q .stands .holds .inside
+    lead-inside q = lead-view (a .stands) q .stands .holds .inside
 
     pub lead-asks : (later : ℕ) → getD nums at 0 ≡ 3 → later ≡ getD nums (at + 1) 0
         → AsksState nums directory ends scope slots frame later
     lead-asks later q e =
-        let v = lead-is this q in
+        let v = lead-view (a .stands) q in
         rw (e, v .stands .holds .is) (record {
           program = a .program;
           used = a .used;
@@ -155,7 +99,7 @@ module _ (nums directory ends scope slots frame : List ℕ) (at : ℕ) where
           state = a .state;
           stage = a .stage;
           going = rw (lead-state (a .program) (a .used) (a .from) (a .state) (a .transition) (v .state) (counterOf slots)
-              (v .is) (a .going)) at (a .going);
+              (v .same) (a .going)) at (a .going);
         })
 
     pub select-asks : (getD nums at 0 ≡ 0 → ⊥) → (getD nums at 0 ≡ 1 → ⊥) → (getD nums at 0 ≡ 2 → ⊥)
@@ -166,20 +110,20 @@ module _ (nums directory ends scope slots frame : List ℕ) (at : ℕ) where
       → RunsTransition nums directory ends scope slots slots frame frame at (Rejected noWayOn)
   none-runs q = record {
     runs = λ P used es s n T st w g. ran-here s (rejected noWayOn) (st .scene)
-        (none-ran P used n s T (none-is (transition-of w) q)) ends-rejected;
+        (none-ran P used n s T (none-is w q)) ends-rejected;
   }
 
   pub accept-runs : getD nums at 0 ≡ 1 → RunsTransition nums directory ends scope slots slots frame frame at Onward
   accept-runs q = record {
     runs = λ P used es s n T st w g. ran-here s onward (st .scene)
-        (accept-ran P used n s T (accept-is (transition-of w) q)) ends-onward;
+        (accept-ran P used n s T (accept-is w q)) ends-onward;
   }
 
   pub reject-runs : getD nums at 0 ≡ 2
       → RunsTransition nums directory ends scope slots slots frame frame at (Rejected (getD nums (at + 1) 0))
   reject-runs q = record {
     runs = λ P used es s n T st w g. ran-here s (rejected (getD nums (at + 1) 0)) (st .scene)
-        (reject-ran P used n s T (getD nums (at + 1) 0) (reject-is (transition-of w) q .is)) ends-rejected;
+        (reject-ran P used n s T (getD nums (at + 1) 0) (reject-is w q .is)) ends-rejected;
   }
 
   pub lead-runs : (slots₁ frame₁ : List ℕ) (later : ℕ) (r : Ended) → getD nums at 0 ≡ 3 → later ≡ getD nums (at + 1) 0
@@ -187,8 +131,8 @@ module _ (nums directory ends scope slots frame : List ℕ) (at : ℕ) where
       → RunsTransition nums directory ends scope slots slots₁ frame frame₁ at r
   lead-runs slots₁ frame₁ later r q e k = record {
     runs = λ P used es s n T st w g.
-        let v = lead-is (transition-of w) q in
-        let same = lead-state P used n s T (v .state) (counterOf slots) (v .is) g in
+        let v = lead-view w q in
+        let same = lead-state P used n s T (v .state) (counterOf slots) (v .same) g in
         let there : RunsState nums directory ends scope slots slots₁ frame frame₁ (v .state .number) r
         = rw (e, v .stands .holds .is) at k in
         rw same (there .runs P used es s st (rw same at g));

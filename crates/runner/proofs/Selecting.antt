@@ -13,8 +13,8 @@ use Rattle.rules.specs.Reading.{mostPairs}
 use Rattle.rules.specs.Form.{stateScope, valuesFit}
 use Rattle.rules.specs.Lists.{Entry}
 use Rattle.rules.specs.Running.{State, Ending, rejected, done, M, _>>=_, pure, must, orStuck, Worked, worked, isFine, noMatch, selected, runTransition}
-use Rattle.program.specs.Stands.{StandsPairs, StandsTransition}
-use Rattle.program.proofs.Views.{expr-begins}
+use Rattle.program.specs.Stands.{StandsPairs}
+use Rattle.program.proofs.Views.{SelectView, expr-begins}
 use Rattle.values.specs.declared.Value as values
 use Rattle.steps.specs.declared.Ended.{Ended}
 use Rattle.steps.specs.declared.Ended.the-variants.{Rejected}
@@ -26,7 +26,7 @@ use Rattle.runner.specs.Parsing.{stateIn, laterIn, transitionIn, AsksSta
 use Rattle.runner.proofs.Stages.{stage-ran, going-rest}
 use Rattle.runner.proofs.Keying.{worked-number}
 use Rattle.runner.proofs.States.{later-is, left, left-on}
-use Rattle.runner.proofs.Leading.{SelectView, select-is}
+use Rattle.runner.proofs.Leading.{select-is}
 
 -- the loop over the pairs: those so far are of other values
 pub record Unequal (nums : List ℕ) (at count number i : ℕ) : Type 0 where
@@ -135,7 +135,7 @@ module _ (P : Program) (n : ℕ) {nums directory ends scope slots frame : List �
   select-same : transitionIn P used n T s
       ≡ (exprIn (stateScope P) used (v .expr) >>= thenSelect P used n (v .pairs)) s
   unfolding transitionIn runTransition exprIn
-  select-same = rw (v .is) refl
+  select-same = rw (v .same) refl
 
   select-begun : Begun (counterOf slots) (exprIn (stateScope P) used (v .expr)) (thenSelect P used n (v .pairs)) s
   select-begun = then-goes _ _ s (rw select-same at g)
@@ -188,7 +188,7 @@ module _ (P : Program) (n : ℕ) {nums directory ends scope slots frame : List �
         pair-is l =
             let e : pairs + 1 + 2 * r + 1 ≡ pairs + 2 + 2 * r = omega arith in
             let same = rw e at (selected-at nums (laterIn P used n) (y .number) (h .state) (pairs + 1) r (v .pairs)
-            (v .pairsStand) others (omega (arith, l, v .count .holds .is)) (f .is l)) in
+            (v .stand) others (omega (arith, l, v .count .holds .is)) (f .is l)) in
             same ∙ later-is P used n (getD nums (pairs + 2 + 2 * r) 0) (counterOf slots₁) (h .state)
             (rw same at (chosen .going))
 
@@ -196,7 +196,7 @@ module _ (P : Program) (n : ℕ) {nums directory ends scope slots frame : List �
             → selected (laterIn P used n) (y .number) (v .pairs) (h .state) ≡ done (rejected noMatch) (h .state) []
         none-is l =
             let all : r ≡ length (v .pairs) = omega (arith, l, f .most, v .count .holds .is) in
-            unmatched nums (laterIn P used n) (y .number) (h .state) (pairs + 1) (v .pairs) (v .pairsStand)
+            unmatched nums (laterIn P used n) (y .number) (h .state) (pairs + 1) (v .pairs) (v .stand)
             (rw all at others)
 
 -- from the numbers
@@ -237,7 +237,7 @@ module _ (nums directory ends scope slots frame : List ℕ) (at : ℕ)
       most = omega (arith, this .count .holds .is, this .count .atMost);
       inside = λ i l. omega (
         arith,
-        pairs-inside nums (getD ends (at + 1) 0 + 1) (this .pairs) (this .pairsStand) i
+        pairs-inside nums (getD ends (at + 1) 0 + 1) (this .pairs) (this .stand) i
             (omega (arith, l, this .count .holds .is)),
       );
     })
@@ -252,7 +252,7 @@ module _ (nums directory ends scope slots frame : List ℕ) (at : ℕ)
       inside = omega (
         arith,
         e,
-        pairs-inside nums (getD ends (at + 1) 0 + 1) (this .pairs) (this .pairsStand) r
+        pairs-inside nums (getD ends (at + 1) 0 + 1) (this .pairs) (this .stand) r
             (omega (arith, rw e at l, this .count .holds .is)),
       );
     }
