@@ -39,7 +39,8 @@ use Rattle.judge.proofs.Left.{Leaves, accepted-leaves}
 use Rattle.judge.proofs.Long.{judged-long}
 use Rattle.lookup.proofs.Judged.{entries-stand}
 use Rattle.lists.specs.Stands.{StandsPacket}
-use Rattle.store.specs.Mirrors.{counterSlot, mostStored, storeSlots, Unread}
+use Rattle.store.specs.Mirrors as mirrors
+use Rattle.store.specs.Mirrors.{counterSlot, mostStored, storeSlots}
 use Rattle.store.proofs.Sizes.{store-most}
 use Rattle.store.specs.Fills.{AsksClear, Clears, AsksCopy, Copies}
 use Rattle.steps.specs.Outcomes.{Goes, goes, counterOf}
@@ -88,10 +89,10 @@ module _ {bytes nums directory ends : List ℕ} {ceiling store size : ℕ}
       (accepted-not-full bytes file judged-is) (known .bounded)
 
   -- a program with states has a parser, and so its packet is all that is left behind the packet's count
-  unread : (P .states ≡ [] → ⊥) → Unread nums (store + size + 1) packet
+  unread : (P .states ≡ [] → ⊥) → mirrors.Unread nums (store + size + 1) packet
   unread n = go (hasParser (P .version)) refl
     where
-      go : (b : Bool) → hasParser (P .version) ≡ b → Unread nums (store + size + 1) packet
+      go : (b : Bool) → hasParser (P .version) ≡ b → mirrors.Unread nums (store + size + 1) packet
       go true e =
           let stands : StandsPacket nums (store + size) packet = p .leaves .lists .packetStands e in
           record { inside = omega (arith, stands .count .inside); is = stands .rest }
