@@ -88,7 +88,8 @@ pub record FirstEqual (nums : List ℕ) (at count number r : ℕ) : Type 0 where
   pub before : (i : ℕ) → i < r → number ≡ getD nums (at + 2 * i) 0 → ⊥
   pub is : r < count → number ≡ getD nums (at + 2 * r) 0
 
--- the parser, from where the apply body would run: the packet stands behind a store of so many numbers, and its count
+-- the parser, from where the apply body would run: behind a store of so many numbers stand the packet's count and its
+-- bytes
 pub record AsksParser (nums directory ends slots frame : List ℕ) (store size : ℕ) : Type 0 where
   pub scope : List ℕ
   pub program : Program

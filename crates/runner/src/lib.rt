@@ -50,8 +50,9 @@ pub fn prepare(
     lay(widths, program::WIDTHS, shape::WIDTHS, directory);
 }
 
-// The run of an accepted file that is prepared, whose store has so many numbers from an index on; a packet's bytes stand
-// behind the store and their count. It leaves the final store's numbers in the slots, and the steps behind them.
+// The run of an accepted file that is prepared, whose store has so many numbers from an index on; where there are
+// states, the packet's count and its bytes stand behind. It leaves the final store's numbers in the slots, and the steps
+// behind them.
 pub fn run(
     nums: &[u64],
     ends: &[u64],

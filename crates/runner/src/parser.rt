@@ -36,7 +36,7 @@ pub(crate) fn goes_on(ended: Ended) -> bool
     }
 }
 
-// The parser, where there is one: the packet stands behind a store of so many numbers and a count.
+// The parser, where there is one: behind a store of so many numbers stand the packet's count and its bytes.
 pub(crate) fn run_parser(
     nums: &[u64],
     ends: &[u64],

@@ -7,8 +7,8 @@ use Rattle.calls.proofs.of_run.Tie as tie
 enum-known-answer : tie.Need-enum-known-answer
 enum-known-answer c = search (cases, needs)
 
-of-signal-requires : tie.Need-of-signal-requires
-of-signal-requires c κs = search (cases, needs)
+of-ended-requires : tie.Need-of-ended-requires
+of-ended-requires c κs = search (cases, needs)
 
 enum-known-answer-2 : tie.Need-enum-known-answer-2
 enum-known-answer-2 c = search (cases, needs)
@@ -27,7 +27,7 @@ of-run-spec =
     tie.close
     (tie.spec
     enum-known-answer
-    of-signal-requires
+    of-ended-requires
     enum-known-answer-2
     of-refusal-requires
     returns
