@@ -165,11 +165,21 @@ fields-from [] h = nil
 fields-from (w ∷ widths) {bs} h =
     cons (lt-ltb _ (2 ^ w) (rw (zero-add w) at (bits-fit w 0 0 h (omega arith)))) (fields-from widths (all-drop w h))
 
+-- a header that is filled is valid, and its fields fit
+pub filled-fits : (widths packet : List ℕ) → All2 FitWidth widths (fieldsFrom widths (bitsOfBytes packet))
+filled-fits widths packet = fields-from widths (bits-of-bytes packet)
+
+pub filled-valid : {widths : List ℕ} {c : Cell} (ns : List ℕ) → CellFits (aHeader widths) c
+    → fillHeader ns c ≡ some (headerCell true ns)
+unfolding fillHeader
+filled-valid ns (validFits h) = refl
+filled-valid ns (invalidFits h) = refl
+
 pub fill-header : {widths : List ℕ} {c : Cell} (packet : List ℕ) → CellFits (aHeader widths) c
     → SomeOf (CellFits (aHeader widths)) (fillHeader (fieldsFrom widths (bitsOfBytes packet)) c)
 unfolding fillHeader
-fill-header {widths} packet (validFits h) = isSome (validFits (fields-from widths (bits-of-bytes packet)))
-fill-header {widths} packet (invalidFits h) = isSome (validFits (fields-from widths (bits-of-bytes packet)))
+fill-header {widths} packet (validFits h) = isSome (validFits (filled-fits widths packet))
+fill-header {widths} packet (invalidFits h) = isSome (validFits (filled-fits widths packet))
 
 -- globals: looked up with their shape
 look-global : {P : Program} {g : Global} {o : Option Cell} → SomeOf (GlobalFits P g) o → IfSome (λ shape.

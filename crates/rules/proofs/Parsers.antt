@@ -1,18 +1,19 @@
--- Soundness of the parser block: states that are well formed run, within the ceiling of the dearest path, and the apply body behind them.
+-- Soundness of the parser block: states that are well formed run, within the ceiling of the dearest path, and the apply
+-- body behind them.
 use mathlib.Core.Path.{_≡_, refl, ap}
 use mathlib.Core.Bool.{Bool, true, false, false≢true}
 use mathlib.Core.Option.{Option, some}
-use Prim.Native.Nat.{ℕ, suc, _+_, _-_, _≤_, max}
+use Prim.Native.Nat.{ℕ, suc, _+_, _-_, _≤_, _<_, max}
 use native.Mathlib.Omega.{arith}
 use native.Mathlib.Nat.{add-zero, zero-add, add-suc, suc-add}
 use mathlib.Core.List.{List, [], _∷_, map}
 use lib.Dec.{ltb, eqb}
 use lib.ListN.{getElem?, length}
-use borrow.Author.Tests.{eqb-true, eqb-false, ltb-true}
+use borrow.Author.Tests.{eqb-true, eqb-false, ltb-true, lt-leb}
 use Rattle.rules.specs.Syntax.{Numeral, Pair, Transition, noTransition, accept, reject, leadTo, select, ParserState, Program}
 use Rattle.rules.specs.Form.{onlyIf, inState, Body, isApply, isState, applyScope, stateScope, laterState, judgeLater, judgePairs, valuesFit, judgeTransition, judgeState, judgeStates}
 use Rattle.rules.specs.Ceiling.{noTable, ceilingStmt, largestOf, ceilingTransition, ceilingFrom, ceilingParser}
-use Rattle.rules.specs.Running.{State, Ending, rejected, M, pure, nowhere, andThenRun, Calls, selected, runTransition, runState, runFrom, runParser}
+use Rattle.rules.specs.Running.{State, Ending, rejected, done, M, pure, nowhere, shortPacket, bytesIn, extractInto, andThenRun, Calls, selected, runTransition, runState, runFrom, runParser}
 use Rattle.rules.proofs.Predicates.{All, none-left, also, IfOk, isOk, IfSome, ifNone, ifSome, ok-then, ok-map, ok-self, ok-found, from-ok, from-some, at-most, Runs, runs-then, runs-tick, runs-pure, runs-some, runs-map, runs-le, runs-holds}
 use Rattle.rules.proofs.Fits.{StateFits, ok-bits}
 use Rattle.rules.proofs.Sound.{EndOk, okOnward, okValue, okEnd, okReturn, okExit, okReject, end-weak, and-then-ok, CallsOk, AppliesOk, sound-expr, sound-stmt}
@@ -26,6 +27,12 @@ as-apply P s f = record { store-fits = f .store-fits; parameters-fit = f .parame
 pub as-state : (P : Program) (s : State) → StateFits (applyScope P) s → StateFits (stateScope P) s
 unfolding stateScope applyScope
 as-state P s f = record { store-fits = f .store-fits; parameters-fit = f .parameters-fit; locals-fit = f .locals-fit }
+
+-- a packet that is too short for a header changes nothing
+pub short-changes-nothing : (g : ℕ) (widths : List ℕ) (s : State) → length (s .packet) < bytesIn widths
+    → extractInto g widths s ≡ done (rejected shortPacket) s []
+unfolding extractInto pure
+short-changes-nothing g widths s h = rw (extractInto, lt-leb (bytesIn widths) (length (s .packet)) h) refl
 
 -- behind the parser
 pub parsed-then : {S : Type 0} {F : S → Type 0} {R : Ending → Type 0} {b : Body} {m : Bool} {c : ℕ} {rest : M S Ending}

@@ -1,6 +1,8 @@
 -- What is true of the rules, on one page: each statement is proved by one citation.
 use mathlib.Core.Path.{_≡_, sym, _∙_}
 use Prim.Native.Nat.{ℕ, _<_, _≤_, _^_}
+use mathlib.Core.Bool.{true}
+use mathlib.Core.Option.{some}
 use mathlib.Core.List.{List, [], _∷_}
 use lib.ListN.{length}
 use Rattle.rules.specs.declared.ReadAnswer.{ReadAnswer}
@@ -10,11 +12,14 @@ use Rattle.rules.specs.declared.RunAnswer.{RunAnswer}
 use Rattle.rules.specs.Numbers.{mostBytes, numbers, streamOf, bytesOf}
 use Rattle.rules.specs.Syntax.{Program}
 use Rattle.rules.specs.Ceiling.{calleeIn, ceilingsBelow, ceilingOf}
-use Rattle.rules.specs.Lists.{Cell, slotsOf}
-use Rattle.rules.specs.Running.{full, callsBelow, runProgram}
+use Rattle.rules.specs.Form.{aHeader}
+use Rattle.rules.specs.Lists.{Cell, headerCell, slotsOf}
+use Rattle.rules.specs.Running.{State, rejected, done, full, shortPacket, bitsOfBytes, fieldsFrom, fillHeader, bytesIn, extractInto, callsBelow, runProgram}
 use Rattle.rules.specs.Answers.{ofRead, ofWrite, ofJudge, ofRun, readSays, writeSays, judgeSays, runSays, Bench, judged, accepted, workingSlots, marked}
-use Rattle.rules.proofs.Fits.{StoreFits, store-length}
+use Rattle.rules.proofs.Predicates.{All2}
+use Rattle.rules.proofs.Fits.{FitWidth, CellFits, StoreFits, filled-fits, filled-valid, store-length}
 use Rattle.rules.proofs.Sound.{CallsOk}
+use Rattle.rules.proofs.Parsers.{short-changes-nothing}
 use Rattle.rules.proofs.Callables.{AllJudged, calls-below}
 use Rattle.rules.proofs.Accepted.{Ends, accepted-ends, never-stuck, Answered, judge-answers}
 use Rattle.rules.proofs.Limits.{mostSlots}
@@ -51,6 +56,17 @@ same-with-room = accepted-same
 pub as-many-numbers : (P : Program) (cs ds : List Cell) → StoreFits P cs → StoreFits P ds
     → length (slotsOf cs) ≡ length (slotsOf ds)
 as-many-numbers = store-length
+
+-- Extract: a header that is filled is valid and its fields fit; a packet that is too short changes no header, and rejects with 1.
+pub extract-fills : {widths : List ℕ} {c : Cell} (packet : List ℕ) → CellFits (aHeader widths) c
+    → (fillHeader (fieldsFrom widths (bitsOfBytes packet)) c
+    ≡ some (headerCell true (fieldsFrom widths (bitsOfBytes packet))))
+    × All2 FitWidth widths (fieldsFrom widths (bitsOfBytes packet))
+extract-fills {widths} packet h = (filled-valid (fieldsFrom widths (bitsOfBytes packet)) h, filled-fits widths packet)
+
+pub short-packet : (g : ℕ) (widths : List ℕ) (s : State) → length (s .packet) < bytesIn widths
+    → extractInto g widths s ≡ done (rejected shortPacket) s []
+short-packet = short-changes-nothing
 
 -- Inside a run: a call on numbers that fit its parameters keeps every parameter and local within its type, a function's body returns a
 -- value of its type, and it takes at most its ceiling (`CallsOk` of Sound).

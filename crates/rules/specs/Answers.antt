@@ -1,7 +1,7 @@
 -- What the public operations answer and leave in the slots lent to them (document 01, "The answers"). An answer is a
 -- list of numbers: 0, a refusal's number and its place; or 1 (2 where a run ends by exit, 4 and the error where it ends
--- by a reject) and what is told. A stuck run would be 3, which is no answer. Answers depend on the bytes or numbers given and on how many slots are lent: what the
--- slots held occurs only in what is left.
+-- by a reject) and what is told. A stuck run would be 3, which is no answer. Answers depend on the bytes or numbers
+-- given and on how many slots are lent: what the slots held occurs only in what is left.
 use mathlib.Core.Bool.{true, false, _&&_}
 use Prim.Native.Nat.{ℕ}
 use mathlib.Core.List.{List, [], _∷_, _++_}

@@ -1,6 +1,6 @@
--- The ceiling (document 01, "How it runs", last paragraph; refusal 9; document 02, E2): at least the steps of every run, from the
--- program alone. Each construct counts 1 and its operands; both branches of an if their larger; a call and an apply
--- add what they run.
+-- The ceiling (document 01, "How it runs", last paragraph; refusal 9; document 02, E2): at least the steps of every
+-- run, from the program alone. Each construct counts 1 and its operands; both branches of an if their larger; a call
+-- and an apply add what they run.
 use mathlib.Core.Bool.{true, false}
 use mathlib.Core.Option.{Option, none, some}
 use Prim.Native.Nat.{ℕ, zero, suc, _+_, max}

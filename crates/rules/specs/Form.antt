@@ -1,6 +1,6 @@
--- What is well formed (document 01, the section of that name; refusals 6, 7 and 8; document 02, E2). A part is fine, with what is
--- known of it, or has a fault with its index. A construct's names come first, then its operands from left to right,
--- then itself: 7 before 8.
+-- What is well formed (document 01, the section of that name; refusals 6, 7 and 8; document 02, E2). A part is fine,
+-- with what is known of it, or has a fault with its index. A construct's names come first, then its operands from left
+-- to right, then itself: 7 before 8.
 use mathlib.Core.Bool.{Bool, true, false, not, _&&_, _||_}
 use mathlib.Core.Option.{Option, none, some}
 use Prim.Native.Nat.{ℕ, suc, _+_, _%_}

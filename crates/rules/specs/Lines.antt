@@ -1,4 +1,5 @@
--- The result lines (document 01, the section of that name; document 02, E2): the bytes that the marking program prints, in ASCII.
+-- The result lines (document 01, the section of that name; document 02, E2): the bytes that the marking program prints,
+-- in ASCII.
 use mathlib.Core.Bool.{true, false}
 use Prim.Native.Nat.{ℕ, zero, suc, _+_, _/_, _%_}
 use mathlib.Core.List.{List, [], _∷_, _++_}

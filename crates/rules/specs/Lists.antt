@@ -1,6 +1,6 @@
 -- Entries, store and packet (document 01, "What is well formed", last paragraph; refusals 10, 11 and 12; document 02,
--- E2; refusal 16): the numbers behind the program, strictly in file order. `strict` is true for the judge; where it is false, entries are only
--- cut out of the numbers, fit or not.
+-- E2; refusal 16): the numbers behind the program, strictly in file order. `strict` is true for the judge; where it is
+-- false, entries are only cut out of the numbers, fit or not.
 use mathlib.Core.Bool.{Bool, true, false, not, _&&_, _||_}
 use mathlib.Core.Option.{Option, none, some}
 use Prim.Native.Nat.{ℕ}

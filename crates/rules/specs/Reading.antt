@@ -1,6 +1,6 @@
--- Reading a program from the list of numbers (document 01, "The bench file"; refusals 5 and 4; document 02, E2). A reader takes the
--- numbers that are left and the index of the first of them. It gives what it read, or the fault with its index: the
--- first one in file order, 5 before 4 at one number.
+-- Reading a program from the list of numbers (document 01, "The bench file"; refusals 5 and 4; document 02, E2). A
+-- reader takes the numbers that are left and the index of the first of them. It gives what it read, or the fault with
+-- its index: the first one in file order, 5 before 4 at one number.
 use mathlib.Core.Bool.{Bool, true, false, _&&_}
 use mathlib.Core.Option.{Option, none, some}
 use Prim.Native.Nat.{ℕ, zero, suc, _-_}

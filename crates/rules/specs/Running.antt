@@ -1,8 +1,8 @@
--- How it runs (document 01, the section of that name; document 02, E2). A construct runs to an answer, a later state and the stores
--- that its steps saw; it is stuck where its values, places, names or argument counts are not as "What is well formed"
--- asks; it is full where a call's slots pass the capacity. Directions, copy-in and copy-out are those of source
--- document 000, section 2.2; an out parameter starts at 0, as that document's prose has it and its call rule has not.
--- Calls and signals are 004's.
+-- How it runs (document 01, the section of that name; document 02, E2). A construct runs to an answer, a later state
+-- and the stores that its steps saw; it is stuck where its values, places, names or argument counts are not as "What is
+-- well formed" asks; it is full where a call's slots pass the capacity. Directions, copy-in and copy-out are those of
+-- source document 000, section 2.2; an out parameter starts at 0, as that document's prose has it and its call rule has
+-- not. Calls and signals are 004's.
 use mathlib.Core.Bool.{Bool, true, false, not, _&&_, _||_}
 use mathlib.Core.Option.{Option, none, some}
 use Prim.Native.Nat.{ℕ, zero, suc, _+_, _-_, _*_, _/_, _%_, _^_}

@@ -1,6 +1,6 @@
--- The tree of a program (document 01, "The bench file"; document 02, E2). `at` is the index of a node's tag in the list of numbers
--- (of a callable its kind, of anything else its first number): refusals speak of places. The running rules look at
--- none of them.
+-- The tree of a program (document 01, "The bench file"; document 02, E2). `at` is the index of a node's tag in the list
+-- of numbers (of a callable its kind, of anything else its first number): refusals speak of places. The running rules
+-- look at none of them.
 use mathlib.Core.Option.{Option, none, some}
 use Prim.Native.Nat.{ℕ}
 use mathlib.Core.List.{List}
