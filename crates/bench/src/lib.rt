@@ -1,5 +1,7 @@
 // What users call: numbers read and written, bench files judged and run, their result lines. No operation asks anything of
 // what it is given.
+#![tactic(auto)]
+
 ghost use Rattle.std.specs.Prelude.{◌≡◌, length};
 ghost use Rattle.rules.specs.Numbers.{stream_of, numbers};
 ghost use Rattle.rules.specs.Answers.{of_judge, judge_says};

@@ -1,5 +1,7 @@
 // Refusals 6, 7 and 8 of expressions and statements (the rules' page Form), over the numbers where they stand. Each
 // construct is looked at once, and no callee's body is entered.
+#![tactic(auto)]
+
 pub mod calls;
 pub mod exprs;
 pub mod forms;

@@ -1,5 +1,7 @@
 // The face for C: what users call, under names that C links, with the answer as five numbers in slots that the caller
 // lends. include/nentuvar.h says the same in C.
+#![tactic(auto)]
+
 ghost use Rattle.std.specs.Prelude.{◌≡◌, [], ◌∷◌, ◌++◌};
 ghost use Rattle.rules.specs.Answers.{of_refusal, of_read, of_write, of_judge, of_signal, of_run, judge_says};
 ghost use Rattle.calls.specs.Promises.{in_five, TellsRead, TellsWrite, TellsRun};

@@ -2,6 +2,8 @@
 // alone.
 // Expressions, lists of them, statements and calls count each other, the callable number and the remaining depth
 // falling; a callable's ceiling is worked out once and kept. Sums are cut at one more than a judged program may take.
+#![tactic(auto)]
+
 ghost use Rattle.program.specs.Stands.{SomeProgram};
 ghost use Rattle.ceiling.specs.Claims.{TellsCeiling};
 

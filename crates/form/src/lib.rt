@@ -1,5 +1,7 @@
 // Refusals 6, 7 and 8 of a whole program (the rules' page Form), over the numbers where it stands, in file order: its
 // globals, its callables, its tables, its states and its apply body. Each number is looked at a bounded number of times.
+#![tactic(auto)]
+
 ghost use Rattle.rules.specs.Form.{need};
 ghost use Rattle.program.specs.Stands.{SomeProgram};
 ghost use Rattle.form.specs.Claims.{JudgesForm};

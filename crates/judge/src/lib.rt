@@ -2,6 +2,7 @@
 // document 01's order: shape (5, 4), form (6, 7, 8), the ceiling (9), entries, store, packet and what is left over (10,
 // 11, 16, 12).
 // Beside the answer it leaves what the runner wants to know.
+#![tactic(auto)]
 
 ghost use Rattle.judge.specs.Verdicts.{AsksJudge, JudgesNumbers};
 ghost use Rattle.judge.specs.Passes.{AsksBounded, JudgesBounded, AsksProgram, JudgesProgram};

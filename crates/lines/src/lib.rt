@@ -1,5 +1,7 @@
 // The result lines (document 01, the section of that name), put into lent bytes: measured first, so that too few bytes
 // stay as found.
+#![tactic(auto)]
+
 ghost use Rattle.std.specs.Prelude.{◌≡◌, ◌∷◌, [], ◌+◌, ◌≤◌, length, drop};
 ghost use Rattle.std.proofs.lemmas.List.Edits.{sets};
 ghost use Rattle.rules.specs.Answers.{of_write, ended};

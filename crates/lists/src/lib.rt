@@ -1,6 +1,8 @@
 // The lists behind a program: refusals 10, 11, 16 and 12 over the list of numbers. Entries, store, packet and what is
 // left over are looked at strictly in file order, and each number a fixed number of times, so the time is linear in
 // their count.
+#![tactic(auto)]
+
 ghost use Rattle.lists.specs.Listing.{AsksLists, JudgesLists};
 
 mod entries;

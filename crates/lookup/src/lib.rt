@@ -1,5 +1,7 @@
 // The look-up of an apply: among the entries of a table that match all its keys the one with the longest prefix, where
 // the table has an lpm key and no ternary one, else the earliest.
+#![tactic(auto)]
+
 ghost use Rattle.std.specs.Prelude.{◌+◌, get_or};
 ghost use Rattle.shape.specs.Directory.{entries_slot};
 ghost use Rattle.lookup.specs.LookingUp.{AsksLook, TellsLookUp};

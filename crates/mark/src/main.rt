@@ -1,5 +1,7 @@
 // The marking program: a bench file on standard input, its result lines on standard output. It moves bytes and decides
 // nothing.
+#![tactic(auto)]
+
 ghost use Rattle.mark.specs.Marks.{most_printed, Marks};
 ghost use Rattle.std.specs.Prelude.{◌≤◌, length};
 

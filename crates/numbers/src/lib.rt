@@ -1,4 +1,6 @@
 // Bytes as numbers and back, and the places of numbers.
+#![tactic(auto)]
+
 ghost use Rattle.std.specs.Prelude.{◌≡◌, ◌∷◌, [], ◌+◌, ◌<◌, ◌≤◌, length};
 ghost use Rattle.rules.specs.Numbers.{group_of, tenth, ends_with, stream_from, bytes_of_number, bytes_of, place_of};
 ghost use Rattle.rules.specs.Answers.{with_room, of_read, read_stream, read_says, read_leaves};

@@ -1,5 +1,7 @@
 // A program as it stands in the numbers, for the passes behind the scan: looks at its globals, header types, callables
 // and tables. Each looks at a fixed number of numbers, a table's also at its keys' ends.
+#![tactic(auto)]
+
 ghost use Rattle.std.specs.Prelude.{◌≡◌, ◌+◌};
 ghost use Rattle.program.specs.Looks.{Has, Finds, headers_of, globals_of, callables_of, tables_of, states_of, FoundGlobal, FoundHead, FoundFrame, FoundHeader, FoundTable, FoundState, KeysInside};
 ghost use Rattle.program.specs.Stands.{keys_end};

@@ -1,4 +1,5 @@
 // The answers of the public operations. What each case says in the numbers of the paper is stated in specs/Answers.antt.
+#![tactic(auto)]
 
 // Why a bench file is refused: the refusal's number, and the byte offset of the number at fault.
 #[derive(Drop)]

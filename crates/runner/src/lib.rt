@@ -1,6 +1,8 @@
 // The runner: runs a judged program by the rules, from the numbers of its file and what the judge left. The store stands
 // in slots of its own, one for each number in file order; behind them one counts steps and one holds the index of the
 // packet's next unread byte. Frames stand in the working slots that are lent.
+#![tactic(auto)]
+
 ghost use Rattle.runner.specs.Prepares.{AsksLay, Lays, AsksPrepare, Prepares};
 ghost use Rattle.runner.specs.Whole.{AsksRun, RunsWhole, TellsSignal};
 

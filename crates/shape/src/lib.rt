@@ -1,5 +1,7 @@
 // The shape of a program: refusals 5 and 4 over the list of numbers. The reader descends into operands itself and
 // builds no tree. Each number is looked at a fixed number of times, so the time is linear in their count.
+#![tactic(auto)]
+
 mod callables;
 mod declarations;
 mod expressions;

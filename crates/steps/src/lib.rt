@@ -1,5 +1,6 @@
 // The steps of a run that run no other construct: what an expression makes of its operands' values, what a statement
 // without operands does, and what happens around a call.
+#![tactic(auto)]
 
 pub mod calls;
 pub mod operands;

@@ -1,5 +1,7 @@
 // Where a running body finds its numbers: the places of its frame and of the store. A place is read and written by its
 // index alone, in a fixed number of looks.
+#![tactic(auto)]
+
 ghost use Rattle.store.specs.Places.{AsksPlace, ReadsPlace};
 ghost use Rattle.store.specs.Changes.{AsksWrite, Writes};
 

@@ -1,5 +1,7 @@
 // What the runner does with values once operands are worked out: operators, casts, slices, concatenations. Each answer
 // is the rules' own, and fits its type.
+#![tactic(auto)]
+
 ghost use Rattle.std.proofs.Math.Option.{some};
 ghost use Rattle.rules.specs.Running.{truth, not_on, complement_on, cast_on, slice_on, concatenation_on};
 ghost use Rattle.values.specs.Claims.{value_of, Gives, AsksOne, AsksCast, AsksTwo, AsksBinary, GivesBinary, Made};
