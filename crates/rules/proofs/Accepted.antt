@@ -299,7 +299,7 @@ module _ (capacity : ℕ) (P : Program) (entries : List Entry) (fit : All (Entry
 pub accepted-ends : (capacity : ℕ) (bytes : List ℕ) (bench : Bench) → judged bytes ≡ accepted bench
     → Ends bench.program (run_program capacity bench.program bench.entries bench.store bench.packet)
 accepted-ends capacity bytes bench e = let known = judged-ok bytes bench e in
-    from-ok (rw known.formed at (program-ok capacity bench.program bench.entries known.entries_fit))
+    from-ok (rw known.formed at (program-ok capacity bench.program bench.entries known.entries-fit))
     bench.store bench.packet known.store-fits
 
 -- so no file's result is the stuck one

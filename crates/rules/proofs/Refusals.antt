@@ -391,7 +391,7 @@ module _ (P : Program) where
   lpm-judged : (seen : Bool) (ks : List Key) → Judging-ok (Form.one_lpm seen ks)
   unfolding Form.one_lpm
   lpm-judged seen [] = fine
-  lpm-judged seen (k ∷ ks) = then-judges (needs 8 k.at (gives 8 refl) _) λ _. lpm-judged _ ks
+  lpm-judged seen (k ∷ ks) = then-judges (needs 8 k.at (gives 8 refl) _) λ _. lpm-judged (seen || Form.is_lpm k.kind) ks
 
   listed-judged : (ns : List Numeral) (cs : List Callable) → Judging-ok (Form.judge_listed ns cs)
   unfolding Form.judge_listed
