@@ -7,7 +7,7 @@ use Prim.Native.Nat.{ℕ, ◌+◌, ◌≤◌, ◌<◌, ◌^◌}
 use native.Mathlib.Omega.{arith}
 use lib.ListN.{length, get_or}
 use Rattle.rules.specs.Words.{widest}
-use Rattle.rules.specs.Syntax.{Ty, bool, bits, Value, value, Place, Expr, bool_literal, bits_literal, read_of, valid_of}
+use Rattle.rules.specs.Syntax.{Ty, bool, bits, value, Place, Expr, bool_literal, bits_literal, read_of, valid_of}
 use Rattle.rules.specs.Form.{and_look, only_if, fits, Scope}
 use Rattle.rules.specs.Running.{State, pure, or_stuck, truth, header_only, shape_for, declared, held, read_at, valid_at}
 use Rattle.rules.proofs.Fits.{mark-fits}
