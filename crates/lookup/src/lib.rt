@@ -22,7 +22,7 @@ pub(crate) enum Match {
 }
 
 // The best entry so far: where the position of its action stands, with the arguments behind it, and its prefix length.
-#[derive(Drop)]
+#[derive(Clone, Copy)]
 pub(crate) enum Best {
     Entry { action: usize, prefix: u64 },
     Nothing,

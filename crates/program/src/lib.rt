@@ -63,7 +63,7 @@ pub struct Frame {
 }
 
 // Where a table stands, the count of its actions, and its default.
-#[derive(Drop)]
+#[derive(Clone, Copy)]
 pub struct Parts {
     pub at: usize,
     pub actions: usize,

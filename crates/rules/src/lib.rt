@@ -2,14 +2,14 @@
 #![tactic(auto)]
 
 // Why a bench file is refused: the refusal's number, and the byte offset of the number at fault.
-#[derive(Drop)]
+#[derive(Clone, Copy)]
 pub struct Refusal {
     pub number: u64,
     pub place: usize,
 }
 
 // How a run ends; a reject has its error.
-#[derive(Drop)]
+#[derive(Clone, Copy)]
 pub enum Signal {
     Done,
     Exit,
@@ -17,28 +17,28 @@ pub enum Signal {
 }
 
 // What reading bytes as numbers answers: how many there are.
-#[derive(Drop)]
+#[derive(Clone, Copy)]
 pub enum ReadAnswer {
     Count(usize),
     Unread(Refusal),
 }
 
 // What writing numbers as bytes answers: how many bytes they take.
-#[derive(Drop)]
+#[derive(Clone, Copy)]
 pub enum WriteAnswer {
     Length(usize),
     Unwritten(Refusal),
 }
 
 // What the judge answers: the ceiling and the store's length.
-#[derive(Drop)]
+#[derive(Clone, Copy)]
 pub enum JudgeAnswer {
     Accepted { ceiling: u64, length: usize },
     Refused(Refusal),
 }
 
 // What a run answers: how it ended, its steps, the ceiling and the store's length.
-#[derive(Drop)]
+#[derive(Clone, Copy)]
 pub enum RunAnswer {
     Ended {
         signal: Signal,

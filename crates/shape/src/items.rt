@@ -10,7 +10,7 @@ use super::limits::LAST_DIRECTION;
 use super::looks::{Value, any_number, number_in, two_numbers, type_at, value_in, width_at};
 
 // What stands in lists inside a part of a program.
-#[derive(Drop)]
+#[derive(Clone, Copy)]
 pub(crate) enum Item {
     WidthItem,
     TypeItem,

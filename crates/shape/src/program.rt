@@ -19,7 +19,7 @@ use super::tables::table_at;
 use super::{BODY, CALLABLES, END, GLOBALS, HEADERS, NUMBERS, SLOTS, STATES, Scan, TABLES};
 
 // A part of a program that the directory tells the beginning of.
-#[derive(Drop)]
+#[derive(Clone, Copy)]
 enum Part {
     HeaderPart,
     GlobalPart,

@@ -8,7 +8,7 @@ pub mod singles;
 
 // How a statement ends: the next one goes on; its body ends, without a value or with one; the whole run ends, by an exit
 // or by a reject with its error.
-#[derive(Drop)]
+#[derive(Clone, Copy)]
 pub enum Ended {
     Onward,
     Returned,

@@ -38,7 +38,7 @@ const UNEQUAL: u64 = 9;
 const LESS: u64 = 10;
 
 // A number of a type, the type written as in the program: 0 is bool, any other is bits of that width.
-#[derive(Drop)]
+#[derive(Clone, Copy)]
 pub struct Value {
     pub ty: u64,
     pub number: u64,
