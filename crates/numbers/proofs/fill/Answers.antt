@@ -1,0 +1,29 @@
+-- `numbers::fill` meets its contract: what is stored and what is left to store give the slots' later contents.
+use Prim.Native.Nat.{◌-◌}
+use borrow.Author.Rules.{rules}
+use Rattle.numbers.proofs.Filling.{fillings}
+use Rattle.numbers.proofs.fill.Goals as goal
+
+pub loop-at-init : goal.loop-at-init
+loop-at-init c = search (fillings, rules)
+
+pub bounds-slots-index : goal.bounds-slots-index
+bounds-slots-index c = search (fillings, rules)
+
+pub loop-at-preserved-then-byte-lt128 : goal.loop-at-preserved-then-byte-lt128
+loop-at-preserved-then-byte-lt128 c = search (fillings, rules)
+
+pub bounds-slots-index-in-Whole : goal.bounds-slots-index-in-Whole
+bounds-slots-index-in-Whole c = search (fillings, rules)
+
+pub loop-at-preserved : goal.loop-at-preserved
+loop-at-preserved c = search (fillings, rules)
+
+pub returns-in-Cut : goal.returns-in-Cut
+returns-in-Cut c = search (fillings, rules)
+
+pub returns-in-Wrong : goal.returns-in-Wrong
+returns-in-Wrong c = search (fillings, rules)
+
+pub returns : goal.returns
+returns c = search (fillings, rules)
