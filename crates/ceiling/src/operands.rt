@@ -38,7 +38,7 @@ const VERIFY: u64 = 12;
 
 // The operands of an expression, a level down: where they begin and how many they are; and the callable that it calls,
 // if it calls one.
-#[derive(Drop)]
+#[derive(Clone, Copy)]
 pub(crate) struct Operands {
     pub lower: usize,
     pub first: usize,
@@ -48,7 +48,7 @@ pub(crate) struct Operands {
 }
 
 // The same of a statement, without a call.
-#[derive(Drop)]
+#[derive(Clone, Copy)]
 pub(crate) struct StmtOperands {
     pub lower: usize,
     pub first: usize,
@@ -56,7 +56,7 @@ pub(crate) struct StmtOperands {
 }
 
 // What a statement runs besides its operands: one of two branches, members, a callable's body, what an apply runs.
-#[derive(Drop)]
+#[derive(Clone, Copy)]
 pub(crate) enum Runs {
     Branches {
         lower: usize,

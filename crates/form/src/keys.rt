@@ -9,7 +9,7 @@ use program::{LPM, WIDTHS};
 use shape::limits::DEEPEST;
 
 // The keys are all bits; or the first that is a bool; or, before that, the first fault and its index.
-#[derive(Drop)]
+#[derive(Clone, Copy)]
 pub enum Keyed {
     AllBits,
     Boolean(usize),

@@ -24,7 +24,7 @@ use states::judge_states;
 use tables::judge_tables;
 
 // A program is well formed, or has a fault, 6, 7 or 8, at an index.
-#[derive(Drop)]
+#[derive(Clone, Copy)]
 pub enum Formal {
     Well,
     Ill { number: u64, index: usize },

@@ -13,7 +13,7 @@ use shape::Scan;
 
 // Accepted: the ceiling, where the store begins, and how many numbers it has. Refused: the number of the refusal, and
 // the index of the number at fault, which is the count of numbers where one is missing.
-#[derive(Drop)]
+#[derive(Clone, Copy)]
 pub enum Verdict {
     Accepted {
         ceiling: u64,

@@ -24,7 +24,7 @@ pub const OFFSETS: usize = 33;
 
 // Where the store begins and how many numbers it has; or the fault, 10, 11, 16 or 12, and the index of the number at
 // fault, which is the count of numbers where they run out.
-#[derive(Drop)]
+#[derive(Clone, Copy)]
 pub enum Listed {
     Fine { store: usize, length: usize },
     Fault { number: u64, index: usize },

@@ -15,7 +15,7 @@ mod matching;
 
 // Whether all keys match an entry's patterns: the prefix length of its lpm key, or 0 where it has none, and the index
 // behind the patterns.
-#[derive(Drop)]
+#[derive(Clone, Copy)]
 pub(crate) enum Match {
     Yes { prefix: u64, next: usize },
     No,
@@ -29,7 +29,7 @@ pub(crate) enum Best {
 }
 
 // The entry that is found: where the position of its action stands, with the arguments behind it.
-#[derive(Drop)]
+#[derive(Clone, Copy)]
 pub enum Lookup {
     Found(usize),
     Nothing,

@@ -5,7 +5,7 @@ use crate::Match;
 use program::{EXACT, LPM, MOST_KEYS};
 
 // Whether a key matches, where the next pattern stands, and the prefix length where the key is lpm.
-#[derive(Drop)]
+#[derive(Clone, Copy)]
 struct One {
     matches: bool,
     next: usize,

@@ -14,7 +14,7 @@ use rules::{ReadAnswer, Refusal, WriteAnswer};
 const MOST_BYTES: usize = 4096;
 
 // What a byte is in its number: a group with others behind it, the last group, or wrong there.
-#[derive(Drop)]
+#[derive(Clone, Copy)]
 enum Group {
     More(u64),
     Last(u64),
@@ -22,7 +22,7 @@ enum Group {
 }
 
 // What stands where a number begins: a number and where the next one begins, or one that is cut off or wrong.
-#[derive(Drop)]
+#[derive(Clone, Copy)]
 enum Number {
     Whole { value: u64, next: usize },
     Cut,

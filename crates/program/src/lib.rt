@@ -46,7 +46,7 @@ pub const MOST_KEYS: usize = shape::limits::MOST_KEYS as usize;
 pub const WIDTHS: usize = 32;
 
 // A callable's kind, the type that a function returns, where its parameters begin and how many they are.
-#[derive(Drop)]
+#[derive(Clone, Copy)]
 pub struct Head {
     pub kind: u64,
     pub returns: u64,
@@ -55,7 +55,7 @@ pub struct Head {
 }
 
 // Where a callable's locals begin, how many they are, and where its body stands.
-#[derive(Drop)]
+#[derive(Clone, Copy)]
 pub struct Frame {
     pub locals: usize,
     pub count: u64,

@@ -17,7 +17,7 @@ use Rattle.rules.specs.Syntax.{Expr, bool_literal, bits_literal, read_of, valid_
 use Rattle.rules.specs.Syntax.{Stmt, empty, assign, if_else, block, call_stmt, apply, return_value, return, exit, set_valid, set_invalid, extract, verify, Stmts, no_stmts, stmt}
 use Rattle.rules.specs.Syntax.{Parameter, Callable, Key, Table, Pair, Transition, no_transition, accept, reject, lead_to, select, ParserState, Program, place_in}
 use Rattle.rules.specs.Form.{Res, ok, fault, and_look, only_if, same_ty, fits, Shape, a_variable, a_header, global_at, callable_below, wants_place, goes_in, comes_back}
-use Rattle.rules.specs.Form.{Body, in_function, in_action, in_apply, in_state, Scope, sees_globals, writable, may_call, is_function, is_state, may_leave, scope_of, apply_scope, state_scope, bits_in, whole_bytes, values_fit, is_lpm, one_lpm, listable}
+use Rattle.rules.specs.Form.{Body, in_function, in_action, in_apply, in_state, Scope, sees_globals, writable, may_call, is_state, may_leave, scope_of, apply_scope, state_scope, bits_in, whole_bytes, values_fit, is_lpm, one_lpm, listable}
 use Rattle.rules.specs.Lists.{Pattern, exactly, prefixed, masked, Entry, Cell, variable_cell, header_cell, action_at, mark_of, slots_of}
 
 infixl 20 ◌>>=◌

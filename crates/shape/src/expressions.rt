@@ -12,7 +12,7 @@ use super::looks::{Value, any_number, number_in, too_deep, two_numbers, value_in
 use super::{NUMBERS, Scan};
 
 // An expression or a statement up to its operands: where they begin, how many they are, how many statements follow.
-#[derive(Drop)]
+#[derive(Clone, Copy)]
 pub(crate) enum Lead {
     On {
         next: usize,
@@ -26,7 +26,7 @@ pub(crate) enum Lead {
 }
 
 // What stands behind an expression's tag.
-#[derive(Drop)]
+#[derive(Clone, Copy)]
 enum ExprForm {
     Number,
     Field,

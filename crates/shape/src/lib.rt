@@ -46,7 +46,7 @@ pub const NUMBERS: usize = 4096;
 
 // What scanning at an index finds: the index after what was read; or the fault, 5 or 4, and the index of the number at
 // fault, which is the count of numbers where they run out.
-#[derive(Drop)]
+#[derive(Clone, Copy)]
 pub enum Scan {
     Past(usize),
     Fault { number: u64, index: usize },

@@ -9,7 +9,7 @@ use super::Scan;
 use super::limits::WIDEST;
 
 // A number with its value, and the index after it; or the fault.
-#[derive(Drop)]
+#[derive(Clone, Copy)]
 pub(crate) enum Value {
     Of { value: u64, next: usize },
     Unread { number: u64, index: usize },

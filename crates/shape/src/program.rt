@@ -110,8 +110,8 @@ fn declared_at(
     ends: &mut [u64; NUMBERS],
 ) -> Scan
     requires { length nums.now ≤ most_numbers }
-    ensures lays { Lays (read_declared version) lay_declared nums.now at directory.old directory.new result }
-    ensures lays_2 { Lays (read_declared version) no_ends nums.now at ends.old ends.new result }
+    ensures lays_directory { Lays (read_declared version) lay_declared nums.now at directory.old directory.new result }
+    ensures lays_ends { Lays (read_declared version) no_ends nums.now at ends.old ends.new result }
 {
     let headers = part_list_at(
         nums,
@@ -149,8 +149,8 @@ fn defined_at(
     ends: &mut [u64; NUMBERS],
 ) -> Scan
     requires { length nums.now ≤ most_numbers }
-    ensures lays { Lays (read_defined version) lay_defined nums.now at directory.old directory.new result }
-    ensures lays_2 { Lays (read_defined version) ends_defined nums.now at ends.old ends.new result }
+    ensures lays_directory { Lays (read_defined version) lay_defined nums.now at directory.old directory.new result }
+    ensures lays_ends { Lays (read_defined version) ends_defined nums.now at ends.old ends.new result }
 {
     let callables = part_list_at(
         nums,
@@ -188,8 +188,8 @@ fn states_at(
     ends: &mut [u64; NUMBERS],
 ) -> Scan
     requires { length nums.now ≤ most_numbers }
-    ensures lays { Lays (read_states version) lay_states nums.now at directory.old directory.new result }
-    ensures lays_2 { Lays (read_states version) (lay_all state_at lay_state) nums.now at ends.old ends.new result }
+    ensures lays_directory { Lays (read_states version) lay_states nums.now at directory.old directory.new result }
+    ensures lays_ends { Lays (read_states version) (lay_all state_at lay_state) nums.now at ends.old ends.new result }
 {
     if has_parser(version) {
         part_list_at(
@@ -218,8 +218,8 @@ fn body_at(
     ends: &mut [u64; NUMBERS],
 ) -> Scan
     requires { length nums.now ≤ most_numbers }
-    ensures lays { Lays (read_stmt version deepest) lay_body nums.now at directory.old directory.new result }
-    ensures lays_2 { Lays (read_stmt version deepest) lay_stmt nums.now at ends.old ends.new result }
+    ensures lays_directory { Lays (read_stmt version deepest) lay_body nums.now at directory.old directory.new result }
+    ensures lays_ends { Lays (read_stmt version deepest) lay_stmt nums.now at ends.old ends.new result }
 {
     let body = scan_stmt(nums, version, DEEPEST, at, ends);
     match body {
@@ -241,8 +241,8 @@ fn blocks_at(
     ends: &mut [u64; NUMBERS],
 ) -> Scan
     requires { length nums.now ≤ most_numbers }
-    ensures lays { Lays (read_blocks version) lay_blocks nums.now at directory.old directory.new result }
-    ensures lays_2 { Lays (read_blocks version) ends_blocks nums.now at ends.old ends.new result }
+    ensures lays_directory { Lays (read_blocks version) lay_blocks nums.now at directory.old directory.new result }
+    ensures lays_ends { Lays (read_blocks version) ends_blocks nums.now at ends.old ends.new result }
 {
     let states = states_at(nums, version, at, directory, ends);
     match states {
@@ -260,8 +260,8 @@ fn after_version(
     ends: &mut [u64; NUMBERS],
 ) -> Scan
     requires { length nums.now ≤ most_numbers }
-    ensures lays { Lays (read_after_version version) directory_of nums.now at directory.old directory.new result }
-    ensures lays_2 { Lays (read_after_version version) ends_of nums.now at ends.old ends.new result }
+    ensures lays_directory { Lays (read_after_version version) directory_of nums.now at directory.old directory.new result }
+    ensures lays_ends { Lays (read_after_version version) ends_of nums.now at ends.old ends.new result }
 {
     let declared = declared_at(nums, version, at, directory, ends);
     match declared {
@@ -283,8 +283,8 @@ pub(crate) fn program_at(
     ends: &mut [u64; NUMBERS],
 ) -> Scan
     requires { length nums.now ≤ most_numbers }
-    ensures lays { Lays read_program directory_of nums.now 0 directory.old directory.new result }
-    ensures lays_2 { Lays read_program ends_of nums.now 0 ends.old ends.new result }
+    ensures lays_directory { Lays read_program directory_of nums.now 0 directory.old directory.new result }
+    ensures lays_ends { Lays read_program ends_of nums.now 0 ends.old ends.new result }
 {
     let version = value_in(nums, 1, LATEST, 0);
     match version {

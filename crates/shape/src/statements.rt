@@ -12,7 +12,7 @@ use super::looks::{Value, any_number, number_in, too_deep, two_numbers, value_in
 use super::{NUMBERS, Scan};
 
 // What stands behind the tag of an assignment's target.
-#[derive(Drop)]
+#[derive(Clone, Copy)]
 enum PlaceForm {
     OneNumber,
     TwoNumbers,
@@ -20,7 +20,7 @@ enum PlaceForm {
 }
 
 // What stands behind a statement's tag.
-#[derive(Drop)]
+#[derive(Clone, Copy)]
 enum StmtForm {
     Bare,
     Assign,

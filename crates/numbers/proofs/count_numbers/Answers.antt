@@ -1,5 +1,4 @@
 -- `numbers::count_numbers` meets its contract: what is counted and what is left give the answer.
-use Prim.Native.Nat.{◌-◌}
 use borrow.Author.Rules.{rules}
 use Rattle.numbers.proofs.Counting.{counts}
 use Rattle.numbers.proofs.count_numbers.Goals as goal

@@ -1,5 +1,4 @@
 -- `numbers::fill` meets its contract: what is stored and what is left to store give the slots' later contents.
-use Prim.Native.Nat.{◌-◌}
 use borrow.Author.Rules.{rules}
 use Rattle.numbers.proofs.Filling.{fillings}
 use Rattle.numbers.proofs.fill.Goals as goal

@@ -1,5 +1,4 @@
 -- `numbers::measure` meets its contract: what is counted and what is left give the length, and no sum passes the room.
-use Prim.Native.Nat.{◌-◌}
 use borrow.Author.Rules.{rules}
 use Rattle.numbers.proofs.Measuring.{measurings}
 use Rattle.numbers.proofs.measure.Goals as goal

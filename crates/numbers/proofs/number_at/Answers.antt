@@ -1,5 +1,4 @@
 -- `numbers::number_at` meets its contract: what was read so far and what is left give what stands at the place.
-use Prim.Native.Nat.{◌-◌}
 use borrow.Author.Rules.{rules}
 use Rattle.numbers.proofs.Within.{withins}
 use Rattle.numbers.proofs.number_at.Goals as goal

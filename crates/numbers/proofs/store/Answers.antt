@@ -1,5 +1,4 @@
 -- `numbers::store` meets its contract: what is stored and what is left to store give the bytes' later contents.
-use Prim.Native.Nat.{◌-◌}
 use borrow.Author.Rules.{rules}
 use Rattle.numbers.proofs.Storing.{storings}
 use Rattle.numbers.proofs.store.Goals as goal
