@@ -8,7 +8,7 @@ use lib.ListN.{length, get_or}
 use lib.Dec.{ltb, leb, eqb}
 use borrow.Author.Tests.{leb-true, leb-false, ne_eqb}
 use Rattle.rules.specs.Words.{widest}
-use Rattle.rules.specs.Syntax.{Ty, Parameter}
+use Rattle.rules.specs.Syntax.{Parameter}
 use Rattle.rules.specs.Form.{ok, fault, ◌>>=◌, need, function_ty, may_call}
 use Rattle.program.specs.Codes.{ty_of}
 use Rattle.program.specs.Stands.{StandsParameters}

@@ -6,7 +6,7 @@ use Prim.Native.Nat.{ℕ, suc, ◌+◌, ◌-◌, ◌*◌, ◌≤◌, ◌<◌}
 use native.Mathlib.Omega.{arith}
 use lib.ListN.{length, get_or}
 use Rattle.rules.specs.Words.{widest}
-use Rattle.rules.specs.Syntax.{Ty, Expr, call_expr, Args}
+use Rattle.rules.specs.Syntax.{Expr, call_expr, Args}
 use Rattle.rules.specs.Form.{Res, ok, fault, ◌>>=◌, named, callable_below, Scope, judge_given, judge_expr, judge_args}
 use Rattle.program.specs.Stands.{StandsExpr}
 use Rattle.program.specs.Scopes.{StandsScope}

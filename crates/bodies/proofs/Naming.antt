@@ -10,7 +10,7 @@ use lib.ListN.{length, get_or}
 use lib.Dec.{leb}
 use Rattle.rules.specs.Numbers.{most_bytes}
 use Rattle.rules.specs.Words.{widest}
-use Rattle.rules.specs.Syntax.{Ty, GlobalTy, variable, header, Program}
+use Rattle.rules.specs.Syntax.{GlobalTy, variable, header, Program}
 use Rattle.rules.specs.Syntax.{Direction, by_none, by_in, by_out, by_inout}
 use Rattle.rules.specs.Form.{fault, ◌>>=◌, named, need, and_look, a_variable, shape_in, global_at, callee_may_write, Scope, sees_globals, writable_as, writable}
 use Rattle.rules.specs.Form.{judge_field, judge_place}

@@ -7,7 +7,7 @@ use native.Mathlib.Omega.{arith}
 use lib.ListN.{length, get_or, get_elem?}
 use lib.Dec.{eqb}
 use Rattle.rules.specs.Numbers.{most_bytes}
-use Rattle.rules.specs.Syntax.{Ty, Place, Expr, read_of, Args, place_in, Stmt, empty, assign, call_stmt, apply, return, exit, extract, verify}
+use Rattle.rules.specs.Syntax.{Place, Expr, read_of, Args, place_in, Stmt, empty, assign, call_stmt, apply, return, exit, extract, verify}
 use Rattle.rules.specs.Form.{Res, ok, fault, ◌>>=◌, named, need, callable_below, Scope, writable_in, judge_extracted, judge_global, judge_header_at, need_ty, judge_given, may_call, judge_expr, judge_args, is_apply, is_state, judge_stmt, returns_on}
 use Rattle.program.specs.Codes.{ty_of}
 use Rattle.program.specs.Stands.{Holds, StandsExpr, on-place, StandsStmt, on-empty, on-assign, on-if, on-block, on-call-stmt, on-apply, on-return-value, on_return, on-exit, on-set-valid, on-set-invalid, on-extract, on-verify}

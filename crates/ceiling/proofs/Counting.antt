@@ -1,6 +1,5 @@
 -- The steps of the cycle: what each call asks, what each count then is, and what falls.
 use mathlib.Core.Bool.{Bool, true, false}
-use mathlib.Core.Option.{none}
 use mathlib.Core.Path.{◌≡◌, refl, ◌∙◌}
 use mathlib.Core.List.{List}
 use Prim.Native.Nat.{ℕ, suc, ◌+◌, ◌-◌, ◌*◌, ◌≤◌, ◌<◌, ◌^◌}
@@ -9,7 +8,7 @@ use lib.Dec.{eqb}
 use lib.ListN.{length, get_or, set, length-set}
 use lib.Seq.{get_or-set_same, get_or-set_other}
 use borrow.Author.Tests.{eqb-true, eqb-false}
-use Rattle.rules.specs.Syntax.{Expr, Args, no_args, stmt, Program}
+use Rattle.rules.specs.Syntax.{Expr, Args, no_args, Program}
 use Rattle.rules.specs.Reading.{deepest}
 use Rattle.rules.specs.Ceiling.{most_steps, ceiling_expr, ceiling_args, ceiling_stmt, no_table}
 use Rattle.program.specs.Codes.{arg_count}

@@ -5,7 +5,7 @@ use Prim.Native.Nat.{ℕ, suc, ◌+◌, ◌-◌, ◌*◌, ◌≤◌, ◌<◌, �
 use native.Mathlib.Omega.{arith}
 use lib.ListN.{length, get_or}
 use borrow.Author.Tests.{eq-eqb, ne_eqb}
-use Rattle.rules.specs.Syntax.{Expr, Stmt, if_else, block, Stmts, no_stmts, stmt, Program}
+use Rattle.rules.specs.Syntax.{Expr, Stmt, if_else, block, Stmts, no_stmts, Program}
 use Rattle.rules.specs.Ceiling.{most_steps, ceiling_args, ceiling_stmt, ceiling_stmts}
 use Rattle.program.specs.Codes.{member_count}
 use Rattle.program.specs.Stands.{StandsStmt, StandsStmts}

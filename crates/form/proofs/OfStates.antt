@@ -7,7 +7,7 @@ use Prim.Native.Nat.{ℕ, zero, suc, ◌+◌, ◌^◌, ◌≤◌, ◌<◌}
 use native.Mathlib.Omega.{arith}
 use native.Mathlib.Numerals.{add-one}
 use lib.ListN.{length, get_or, get_elem?}
-use Rattle.rules.specs.Syntax.{Expr, Pair, Transition, select, ParserState, Program}
+use Rattle.rules.specs.Syntax.{Expr, Pair, Transition, ParserState, Program}
 use Rattle.rules.specs.Form.{ok, ◌>>=◌, judge_expr, width_at, state_scope, judge_pairs, values_fit, judge_transition, judge_state, judge_states}
 use Rattle.program.specs.Codes.{ty_of}
 use Rattle.program.specs.Stands.{StandsTransition, on-no-transition, on-accept, on-reject, on-lead-to, on-select, StandsState, StandsProgram, SomeProgram}

@@ -12,7 +12,8 @@ use Rattle.rules.specs.Lists.{Entry, Cell, most_entries, slots_of, read_entries,
 use Rattle.program.specs.Stands.{StandsProgram}
 use Rattle.program.proofs.Found.{member-in}
 use Rattle.lists.specs.declared.Listed.TheVariants.{Fine}
-use Rattle.lists.specs.Listing.{Lists, read_last, listing, starts_from, behind_entries, offsets_from, listed_of, entries_left, offsets_left, ListsJudged}
+use Rattle.rules.specs.Form.{shape_in}
+use Rattle.lists.specs.Listing.{entry_size, shape_size, Lists, read_last, listing, starts_from, behind_entries, offsets_from, listed_of, entries_left, offsets_left, ListsJudged}
 use Rattle.lists.specs.Stands.{ListsStand}
 use Rattle.lists.proofs.Places.{PlacedAt, ListsAt, StandCells, no_cell, a-cell, placed-listing, entry-stands, cell-stands, last-offset, store-stands}
 
@@ -20,12 +21,12 @@ use Rattle.lists.proofs.Places.{PlacedAt, ListsAt, StandCells, no_cell, a-cell, 
 starts-length : (at : ℕ) (es : List Entry) → length (starts_from at es) ≡ length es
 unfolding starts_from
 starts-length at [] = refl
-starts-length at (e ∷ es) = ap suc (starts-length _ es)
+starts-length at (e ∷ es) = ap suc (starts-length (at + entry_size e) es)
 
 offsets-length : (P : Program) (offset : ℕ) (gs : List Global) → length (offsets_from P offset gs) ≡ suc (length gs)
 unfolding offsets_from
 offsets-length P offset [] = refl
-offsets-length P offset (g ∷ gs) = ap suc (offsets-length P _ gs)
+offsets-length P offset (g ∷ gs) = ap suc (offsets-length P (offset + shape_size (shape_in P g.ty)) gs)
 
 cells-counted : {P : Program} {nums : List ℕ} {at : ℕ} {gs : List Global} {cs : List Cell} → StandCells P nums at gs cs
     → length cs ≡ length gs

@@ -67,6 +67,8 @@ first_of nums ends directory keys from count slot j at ks ws ps h more =
           };
         }
     go (k ∷ ks) [] (p ∷ ps) s c v q f = absurd (false≢true f)
+    go (k ∷ ks) [] [] s c v q f = elim q [ ]
+    go (k ∷ ks) (w ∷ ws) [] s c v p f = elim p [ ]
 
 -- what the step over a key asks
 module _ (nums ends directory keys : List ℕ) (from count slot j at : ℕ)
@@ -122,6 +124,8 @@ module _ (nums ends directory keys : List ℕ) (from count slot j at : ℕ) wher
           → Matched at ws ps (Yes 0 at)
       go [] [] [] c on_none = matched {next = at} refl refl (omega arith)
       go [] (w ∷ ws) [] c on_none = matched {next = at} refl refl (omega arith)
+      go [] [] (_ ∷ _) c p = elim p [ ]
+      go [] (w ∷ ws) (_ ∷ _) c p = elim p [ ]
       go (k ∷ ks) ws ps c p = absurd (omega (arith, e, c))
 
   first-unmatched : (m l : Bool) (next prefix : ℕ) → (count ≡ 0 → ⊥)

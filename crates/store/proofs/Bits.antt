@@ -30,6 +30,16 @@ unfolding bits_of_bytes
 bits-length [] = refl
 bits-length (n ∷ ns) = omega (arith, length-append (bits_below 8 n) (bits_of_bytes ns), below_length 8 n, bits-length ns)
 
+bit-first : (n : ℕ) (ns : List ℕ) (j : ℕ) → j < 8 → get_or (bits_of_bytes (n ∷ ns)) j 0 ≡ n / 2 ^ (7 - j) % 2
+unfolding bits_of_bytes
+bit-first n ns j h =
+    get_or-append (bits_below 8 n) (bits_of_bytes ns) 0 j (omega (arith, below_length 8 n)) ∙ below_at 8 n j h
+
+bit-behind : (n : ℕ) (ns : List ℕ) (j : ℕ)
+    → get_or (bits_of_bytes (n ∷ ns)) (length (bits_below 8 n) + j) 0 ≡ get_or (bits_of_bytes ns) j 0
+unfolding bits_of_bytes
+bit-behind n ns j = get_or-append-add (bits_below 8 n) (bits_of_bytes ns) j 0
+
 bit_at : (bytes : List ℕ) (j : ℕ) → j < length bytes * 8
     → get_or (bits_of_bytes bytes) j 0 ≡ get_or bytes (j / 8) 0 / 2 ^ (7 - j % 8) % 2
 bit_at [] j h = absurd (omega arith)
@@ -41,14 +51,13 @@ bit_at (n ∷ ns) j h = go (order j 8) (bit_at ns (j - 8))
     go (under k) rest =
         let q : j / 8 ≡ 0 = omega arith in
         let r : j % 8 ≡ j = omega arith in
-        rw (q, r) (unfold bits_of_bytes in
-        get_or-append (bits_below 8 n) (bits_of_bytes ns) 0 j (omega (arith, below_length 8 n)) ∙ below_at 8 n j k)
+        rw (q, r) (bit-first n ns j k)
     go (beyond k) rest =
         let e : length (bits_below 8 n) + (j - 8) ≡ j = omega (arith, below_length 8 n) in
         let q : j / 8 ≡ suc ((j - 8) / 8) = omega arith in
         let r : j % 8 ≡ (j - 8) % 8 = omega arith in
         let behind : get_or (bits_of_bytes (n ∷ ns)) (length (bits_below 8 n) + (j - 8)) 0 ≡ get_or (bits_of_bytes ns) (j - 8) 0
-        = unfold bits_of_bytes in get_or-append-add (bits_below 8 n) (bits_of_bytes ns) (j - 8) 0 in
+        = bit-behind n ns (j - 8) in
         rw (q, r) (rw e at behind ∙ rest (omega arith))
 
 -- a bit of those from a byte on

@@ -1,0 +1,16 @@
+-- What carries it: what the shape of a global says of the rules' judgement.
+use Rattle.bodies.proofs.Extracting.{extracting}
+use borrow.Author.Rules.{rules}
+use Rattle.bodies.proofs.singles.judge_extract.Goals as goal
+
+pub whole_bytes-whole-requires : goal.whole_bytes-whole-requires
+whole_bytes-whole-requires c = search (extracting, rules)
+
+pub returns-in-Variable : goal.returns-in-Variable
+returns-in-Variable c = search (extracting, rules)
+
+pub returns-in-Header : goal.returns-in-Header
+returns-in-Header c = search (extracting, rules)
+
+pub returns-in-Nothing : goal.returns-in-Nothing
+returns-in-Nothing c = search (extracting, rules)

@@ -1,0 +1,7 @@
+-- What carries it: each rule about types as a test on their numbers.
+use Rattle.bodies.proofs.Typing.{checks}
+use borrow.Author.Rules.{rules}
+use Rattle.bodies.proofs.types.bool_type.Goals as goal
+
+pub returns : goal.returns
+returns c = search (checks, rules)

@@ -1,0 +1,19 @@
+-- States one after the other. What carries it: the steps over a state; fewer are left.
+use borrow.Author.Rules.{rules}
+use Rattle.form.proofs.OfStates.{walked}
+use Rattle.form.proofs.states.+judge_states.Goals as goal
+
+pub judge_state-first-requires : goal.judge_state-first-requires
+judge_state-first-requires t c = search (walked, rules)
+
+pub returns-in-Well-rest : goal.returns-in-Well-rest
+returns-in-Well-rest t c = search (walked, rules)
+
+pub returns-in-Ill-rest : goal.returns-in-Ill-rest
+returns-in-Ill-rest t c = search (walked, rules)
+
+pub returns-in-Ill : goal.returns-in-Ill
+returns-in-Ill t c = search (walked, rules)
+
+pub returns-else-n-directory : goal.returns-else-n-directory
+returns-else-n-directory t c = search (walked, rules)
