@@ -2,8 +2,8 @@
  * and its error, steps and ceiling, then on a second line the store's numbers; or `refused`, the refusal's number and its
  * place.
  *
- *   rt staticlib calls
- *   cc -I include -o mark examples/mark.c target/staticlib/libcalls.a
+ *   (cd crates/calls && rt lib)
+ *   cc -I include -o mark examples/mark.c crates/calls/out/libcalls.a
  *   ./mark FILE
  */
 #include <inttypes.h>

@@ -1,6 +1,6 @@
 /* The calls of Nentuvar for C: numbers read and written, bench files judged and run. They stand in libcalls.a, which
- * `rt staticlib calls` writes to target/staticlib/. What each call answers and leaves is proved, for every content and
- * every length (crate `calls`). docs/RULES.md has the rules.
+ * `rt lib`, run in crates/calls, writes to crates/calls/out/. What each call answers and leaves is proved, for every
+ * content and every length (crate `calls`). docs/RULES.md has the rules.
  *
  * The answer. A call fills the five numbers of `answer`, whatever they held: with 1, or 2 where a run ends by exit, or 4
  * and the error where it ends by a reject, and what it tells; or with 0, the number of a refusal and its place, a byte

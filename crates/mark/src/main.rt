@@ -5,23 +5,25 @@
 ghost use Rattle.mark.specs.Marks.{most_printed, Marks};
 ghost use Rattle.std.specs.Prelude.{◌≤◌, length};
 
-use libc::{STDIN_FILENO, STDOUT_FILENO};
 use rules::WriteAnswer;
+use std::io;
 
 // Bytes enough for the result lines of every file.
 const LINES: usize = 12288;
 
-// The buffer has room for more bytes than a bench file may have, so that a file that has too many is not cut.
-fn main() {
-    let mut file = io::large_buffer();
-    let length = io::read_full(STDIN_FILENO, &mut file);
-    mark(&file[..length]);
+// More bytes than a bench file may have, so that a file that has too many is not cut.
+const FILE: usize = 4097;
+
+fn main(rt: HostRuntime) -> io::Result<()> {
+    let mut file = [0u8; FILE];
+    let length = input::fill(&mut rt.stdin(), &mut file)?;
+    mark(&rt, &file[..length])
 }
 
-fn mark(file: &[u8]) {
+fn mark(rt: &impl Print, file: &[u8]) -> io::Result<()> {
     let mut bytes = [0u8; LINES];
     let length = lines(file, &mut bytes);
-    io::write_all(STDOUT_FILENO, &bytes[..length]);
+    rt.write_all(&bytes[..length])
 }
 
 // The result lines of a file, into the bytes from the first on: how many. All of them fit.

@@ -1,7 +1,11 @@
 // Files of bytes: what each reads as; where it reads, the judge's verdict; where that accepts it, its result lines.
 use crate::print;
 use rules::{JudgeAnswer, ReadAnswer, WriteAnswer};
+use std::rt::Runtime;
+use std::{env, fs, io};
 
+// More bytes than a bench file may have, so that a file that has too many is not cut.
+const FILE: usize = 4097;
 // No file that is read holds more numbers.
 const NUMBERS: usize = 4096;
 // So many of a file's numbers are printed.
@@ -9,73 +13,66 @@ const SHOWN: usize = 4;
 // Bytes enough for the result lines of every file.
 const LINES: usize = 12288;
 
-pub(crate) fn each() {
-    let count = os::arg_count();
-    let mut index = 1;
-    while index < count {
-        named_by(index);
-        index += 1;
+pub(crate) fn each(rt: &impl Runtime) -> io::Result<()> {
+    for name in env::args(rt)?.skip(1) {
+        named_by(rt, name.as_str())?;
+    }
+    Ok(())
+}
+
+// A file that cannot be opened is named on standard error, with the reason, and the others follow all the same.
+fn named_by(rt: &impl Runtime, name: &str) -> io::Result<()> {
+    match fs::open(rt, name) {
+        Ok(mut opened) => file(rt, name, &mut opened),
+        Err(error) => eprintln!(rt; "{name}: {error}"),
     }
 }
 
-fn named_by(argument: usize) {
-    let mut name = io::buffer();
-    let length = os::arg(argument, &mut name);
-    file(&name[..length]);
+fn file(rt: &impl Print, name: &str, opened: &mut impl io::Read) -> io::Result<()> {
+    let mut bytes = [0u8; FILE];
+    let length = input::fill(opened, &mut bytes)?;
+    check(rt, name.as_bytes(), &bytes[..length])
 }
 
-// The buffer has room for more bytes than a bench file may have, so that a file that has too many is not cut.
-fn file(name: &[u8]) {
-    let fd = os::open_read(name);
-    if fd < 0 {
-        os::fail(name);
-        return;
-    }
-    let mut bytes = io::large_buffer();
-    let length = io::read_full(fd, &mut bytes);
-    libc::close(fd);
-    check(name, &bytes[..length]);
-}
-
-fn check(name: &[u8], bytes: &[u8]) {
+fn check(rt: &impl Print, name: &[u8], bytes: &[u8]) -> io::Result<()> {
     let mut slots = [0u64; NUMBERS];
     let answer = bench::read(bytes, &mut slots);
-    print::text(name);
-    print::read(answer);
+    print::text(rt, name)?;
+    print::read(rt, answer)?;
     match answer {
         ReadAnswer::Count(count) => {
-            print::numbers(&slots[..count], SHOWN);
-            print::end();
-            judge(name, bytes);
+            print::numbers(rt, &slots[..count], SHOWN)?;
+            print::end(rt)?;
+            judge(rt, name, bytes)
         }
-        ReadAnswer::Unread(_) => print::end(),
+        ReadAnswer::Unread(_) => print::end(rt),
     }
 }
 
-fn judge(name: &[u8], bytes: &[u8]) {
+fn judge(rt: &impl Print, name: &[u8], bytes: &[u8]) -> io::Result<()> {
     let answer = bench::judge(bytes);
-    print::text(name);
-    print::judged(answer);
-    print::end();
+    print::text(rt, name)?;
+    print::judged(rt, answer)?;
+    print::end(rt)?;
     match answer {
-        JudgeAnswer::Accepted { .. } => run(name, bytes),
-        JudgeAnswer::Refused(_) => {}
+        JudgeAnswer::Accepted { .. } => run(rt, name, bytes),
+        JudgeAnswer::Refused(_) => Ok(()),
     }
 }
 
 // The result lines as they are, with the name before the first.
-fn run(name: &[u8], bytes: &[u8]) {
+fn run(rt: &impl Print, name: &[u8], bytes: &[u8]) -> io::Result<()> {
     let mut result = [0u8; LINES];
     let answer = bench::lines(bytes, &mut result);
-    print::text(name);
+    print::text(rt, name)?;
     match answer {
         WriteAnswer::Length(length) => {
-            print::text(b" ");
-            print::text(&result[..length]);
+            print::text(rt, b" ")?;
+            print::text(rt, &result[..length])
         }
         WriteAnswer::Unwritten(unwritten) => {
-            print::refusal(unwritten);
-            print::end();
+            print::refusal(rt, unwritten)?;
+            print::end(rt)
         }
     }
 }

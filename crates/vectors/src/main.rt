@@ -6,9 +6,11 @@ mod files;
 mod print;
 mod room;
 
-fn main() {
-    files::each();
-    room::reads();
-    room::writes();
-    room::round_trips();
+use std::io;
+
+fn main(rt: HostRuntime) -> io::Result<()> {
+    files::each(&rt)?;
+    room::reads(&rt)?;
+    room::writes(&rt)?;
+    room::round_trips(&rt)
 }

@@ -1,79 +1,72 @@
 // What is printed: words, and numbers and bytes with a blank before each.
-use libc::STDOUT_FILENO;
 use rules::{JudgeAnswer, ReadAnswer, Refusal, WriteAnswer};
+use std::io;
 
-pub(crate) fn text(words: &[u8]) {
-    io::write_all(STDOUT_FILENO, words);
+pub(crate) fn text(rt: &impl Print, words: &[u8]) -> io::Result<()> {
+    rt.write_all(words)
 }
 
-pub(crate) fn end() {
-    text(b"\n");
+pub(crate) fn end(rt: &impl Print) -> io::Result<()> {
+    text(rt, b"\n")
 }
 
-pub(crate) fn number(n: u64) {
-    text(b" ");
-    io::print_decimal(STDOUT_FILENO, n);
+pub(crate) fn number(rt: &impl Print, n: u64) -> io::Result<()> {
+    print!(rt; " {n}")
 }
 
 // Two hexadecimal digits.
-fn byte(b: u8) {
-    text(b" ");
-    io::print_hex(STDOUT_FILENO, b as u64, 2);
+fn byte(rt: &impl Print, b: u8) -> io::Result<()> {
+    print!(rt; " {b:02x}")
 }
 
 // The first `most` numbers, or all where there are fewer.
-pub(crate) fn numbers(list: &[u64], most: usize) {
-    let mut index = 0;
-    while index < list.len() {
-        if most <= index {
-            return;
-        }
-        number(list[index]);
-        index += 1;
+pub(crate) fn numbers(rt: &impl Print, list: &[u64], most: usize) -> io::Result<()> {
+    for n in list.iter().take(most) {
+        number(rt, *n)?;
     }
+    Ok(())
 }
 
-pub(crate) fn bytes(list: &[u8]) {
-    let mut index = 0;
-    while index < list.len() {
-        byte(list[index]);
-        index += 1;
+pub(crate) fn bytes(rt: &impl Print, list: &[u8]) -> io::Result<()> {
+    for b in list {
+        byte(rt, *b)?;
     }
+    Ok(())
 }
 
-pub(crate) fn refusal(refusal: Refusal) {
-    text(b" refused");
-    number(refusal.number);
-    number(refusal.place as u64);
+pub(crate) fn refusal(rt: &impl Print, refusal: Refusal) -> io::Result<()> {
+    text(rt, b" refused")?;
+    number(rt, refusal.number)?;
+    number(rt, refusal.place as u64)
 }
 
-pub(crate) fn read(answer: ReadAnswer) {
+pub(crate) fn read(rt: &impl Print, answer: ReadAnswer) -> io::Result<()> {
     match answer {
         ReadAnswer::Count(count) => {
-            text(b" numbers");
-            number(count as u64);
+            text(rt, b" numbers")?;
+            number(rt, count as u64)
         }
-        ReadAnswer::Unread(unread) => refusal(unread),
+        ReadAnswer::Unread(unread) => refusal(rt, unread),
     }
 }
 
-pub(crate) fn judged(answer: JudgeAnswer) {
+pub(crate) fn judged(rt: &impl Print, answer: JudgeAnswer) -> io::Result<()> {
     match answer {
         JudgeAnswer::Accepted { ceiling, length } => {
-            text(b" judged");
-            number(ceiling);
-            number(length as u64);
+            text(rt, b" judged")?;
+            number(rt, ceiling)?;
+            number(rt, length as u64)
         }
-        JudgeAnswer::Refused(refused) => refusal(refused),
+        JudgeAnswer::Refused(refused) => refusal(rt, refused),
     }
 }
 
-pub(crate) fn written(answer: WriteAnswer) {
+pub(crate) fn written(rt: &impl Print, answer: WriteAnswer) -> io::Result<()> {
     match answer {
         WriteAnswer::Length(length) => {
-            text(b" length");
-            number(length as u64);
+            text(rt, b" length")?;
+            number(rt, length as u64)
         }
-        WriteAnswer::Unwritten(unwritten) => refusal(unwritten),
+        WriteAnswer::Unwritten(unwritten) => refusal(rt, unwritten),
     }
 }

@@ -14,10 +14,8 @@ use std::path::Path;
 use std::process::ExitCode;
 
 const FACTS_PER_MODULE: usize = 40;
-const HEAD: &str = "use mathlib.Core.Path.{_≡_, refl}
-use Prim.Native.Nat.{ℕ}
-use mathlib.Core.List.{List, [], _∷_}
-use Rattle·rules.specs.Answers.{marked, unjudged}
+const HEAD: &str = "use Rattle.std.specs.Prelude.{◌≡◌, refl, ℕ, List, [], ◌∷◌}
+use Rattle.rules.specs.Answers.{marked, unjudged}
 ";
 
 /// That a function of the rules gives the answer for the file's bytes.
