@@ -57,11 +57,11 @@ module _ (nums directory ends scope slots frame : List ℕ) (depth at : ℕ)
           slots₁ c a.asks.stage a.asks.going;
     }
 
-    pub block_runs : (slots₂ frame₂ : List ℕ) (r : Ended)
+    pub block-runs : (slots₂ frame₂ : List ℕ) (r : Ended)
         → RunsStmts nums directory ends scope slots₁ slots₂ frame frame₂ (depth - 1) (at + 2)
         count r
         → RunsStmt nums directory ends scope slots slots₂ frame frame₂ depth at r
-    block_runs slots₂ frame₂ r k = record {
+    block-runs slots₂ frame₂ r k = record {
       runs = λ Γ used es s x st w g.
           let v = block_at x w in
           rw (block-is Γ used es s at x v.members v.same) (ran-counted st _ c (k.runs Γ used es s v.members
@@ -76,7 +76,7 @@ block-fall nums directory ends scope slots frame depth at a t e =
     rank-lower t (get_or scope 0 0) (2000 + 32 * depth + 19) (2000 + 32 * (depth - 1) + 21) e
     (omega (arith, (stmt-begins a.asks.stands).levels))
 
-pub ruleset block_runs = (block_inside, block-members, block_runs, block-fall)
+pub ruleset block_runs = (block_inside, block-members, block-runs, block-fall)
 
 -- its members: what is left of them
 pub record Rest (nums directory ends scope slots₀ slots frame₀ frame : List ℕ)

@@ -8,7 +8,6 @@ use lib.ListN.{length, get_or}
 use Rattle.rules.specs.Numbers.{most_bytes}
 use Rattle.rules.specs.Syntax.{ParserState, Program}
 use Rattle.rules.specs.Form.{state_scope}
-use Rattle.rules.specs.Ceiling.{most_steps}
 use Rattle.rules.specs.Lists.{Entry}
 use Rattle.rules.specs.Running.{State, Ending, onward, done, M, ◌>>=◌, pure, tick, and_then_run}
 use Rattle.program.specs.Stands.{StandsState}
@@ -18,7 +17,7 @@ use Rattle.program.proofs.Views.{stmt-begins}
 use Rattle.steps.specs.declared.Ended.{Ended}
 use Rattle.steps.specs.declared.Ended.TheVariants.{Onward}
 use Rattle.steps.specs.Outcomes.{Goes, counter_of, Ran, Ends, ends-onward, ends-returned, ends-value, ends-exited, ends-rejected, AsksCount, Counts}
-use Rattle.steps.proofs.Going.{Begun, tick-below, then-goes, counter-ticked, ran-here, ran_then}
+use Rattle.steps.proofs.Going.{Begun, then-goes, counter-ticked, ran-here, ran_then}
 use Rattle.runner.specs.Runs.{stmt_in, Stage}
 use Rattle.runner.specs.Claims.{AsksStmt, RunsStmt}
 use Rattle.runner.specs.Parsing.{state_in, transition_in, TellsOn, AsksState, RunsState, AsksTransition, RunsTransition}

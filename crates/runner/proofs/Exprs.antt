@@ -470,10 +470,10 @@ module _ (nums directory ends scope slots frame : List ℕ) (depth at first : �
                   answered = n.is;
                 }
 
-            pub two_runs : (x : values.Value)
+            pub two-runs : (x : values.Value)
                 → GivesTwo nums at v.ty v.number u.ty u.number x.ty x.number
                 → RunsExpr nums directory ends scope slots slots₃ frame frame₃ depth at x
-            two_runs x z = record {
+            two-runs x z = record {
               runs = λ Γ used es s e st w g.
                   let o : TwoIn nums ends depth first e = a.two.two e w in
                   let h = left-ran Γ used es s e o st g in
@@ -484,7 +484,7 @@ module _ (nums directory ends scope slots frame : List ℕ) (depth at first : �
             }
 
 pub ruleset two_runs =
-    (two-count, two-low, two-levels, two-fall, two-stop, two-inside, two-left, two-stops, two-right, two-on, two_runs)
+    (two-count, two-low, two-levels, two-fall, two-stop, two-inside, two-left, two-stops, two-right, two-on, two-runs)
 
 -- an expression by its tag
 module _ (nums directory ends scope slots frame : List ℕ) (depth at : ℕ)

@@ -1,19 +1,19 @@
 -- States by their numbers: where a run of the rules comes to a state, it is found, and it leads to those behind it.
 use mathlib.Core.Bool.{Bool, true, false}
-use mathlib.Core.Option.{Option, some}
+use mathlib.Core.Option.{some}
 use mathlib.Core.Path.{◌≡◌, refl, ◌∙◌, sym, ap}
 use mathlib.Core.List.{List, [], ◌∷◌}
 use Prim.Native.Nat.{ℕ, zero, suc, ◌+◌, ◌-◌, ◌*◌, ◌≤◌, ◌<◌}
 use native.Mathlib.Omega.{arith}
 use lib.Dec.{eqb}
-use lib.ListN.{length, get_elem?, drop}
+use lib.ListN.{get_elem?, drop}
 use lib.Seq.{drop-drop}
-use borrow.Author.Tests.{eqb-true, eqb-false, eq-eqb, ne_eqb}
+use borrow.Author.Tests.{eqb-true, eqb-false}
 use Rattle.rules.specs.Syntax.{ParserState, Program}
 use Rattle.rules.specs.Form.{is_apply, state_scope}
 use Rattle.rules.specs.Ceiling.{most_steps}
 use Rattle.rules.specs.Lists.{Entry}
-use Rattle.rules.specs.Running.{State, Ending, M, ◌>>=◌, nowhere, tick, Calls, and_then_run, run_state, run_from}
+use Rattle.rules.specs.Running.{State, Ending, M, ◌>>=◌, tick, Calls, and_then_run, run_state, run_from}
 use Rattle.steps.specs.Outcomes.{Goes, counter_of}
 use Rattle.steps.proofs.Going.{not-nowhere}
 use Rattle.runner.specs.Runs.{calls_of, applied_in, stmt_in}

@@ -3,7 +3,7 @@ use mathlib.Core.Bool.{true, false, ◌&&◌}
 use mathlib.Core.Option.{some}
 use mathlib.Core.Path.{◌≡◌, refl, ◌∙◌, sym}
 use mathlib.Core.List.{List, [], ◌∷◌, map}
-use Prim.Native.Nat.{ℕ, suc, ◌+◌, ◌-◌, ◌*◌, ◌≤◌, ◌<◌, ◌^◌}
+use Prim.Native.Nat.{ℕ, suc, ◌+◌, ◌*◌, ◌≤◌, ◌<◌, ◌^◌}
 use native.Mathlib.Omega.{arith}
 use lib.ListN.{length, get_or, get_elem?, replicate}
 use Rattle.rules.specs.Words.{widest}
