@@ -12,7 +12,7 @@ use std::io;
 const LINES: usize = 12288;
 
 // More bytes than a bench file may have, so that a file that has too many is not cut.
-const FILE: usize = 4097;
+const FILE: usize = 65536;
 
 fn main(rt: HostRuntime) -> io::Result<()> {
     let mut file = [0u8; FILE];

@@ -5,7 +5,7 @@ use std::rt::Runtime;
 use std::{env, fs, io};
 
 // More bytes than a bench file may have, so that a file that has too many is not cut.
-const FILE: usize = 4097;
+const FILE: usize = 65536;
 // No file that is read holds more numbers.
 const NUMBERS: usize = 4096;
 // So many of a file's numbers are printed.
