@@ -7,7 +7,7 @@ use lib.ListN.{length, length-append}
 use Rattle.rules.specs.declared.Signal.{Signal}
 use Rattle.rules.specs.Lists.{Cell, slots_of}
 use Rattle.rules.specs.Running.{Out, run_program}
-use Rattle.rules.specs.Answers.{Bench, Judged, accepted, refused, judged, ended, fills, outcome_of, run_bench, file_outcome, working_slots}
+use Rattle.rules.specs.Answers.{Bench, Judged, accepted, refused, judged, ended, outcome_of, run_bench, file_outcome, working_slots}
 use Rattle.rules.specs.Lines.{decimal, behind_blanks, between_blanks, word_of, refused_word, refused_line, lines_of, printed}
 use Rattle.rules.proofs.Accepted as accepts
 use Rattle.rules.proofs.Accepted.{judged-ok, Ends, accepted-ends}
