@@ -5,10 +5,10 @@ use mathlib.Core.Bool.{true}
 use mathlib.Core.Option.{some}
 use mathlib.Core.List.{List, [], ◌∷◌}
 use lib.ListN.{length}
-use Rattle.rules.specs.declared.ReadAnswer.{ReadAnswer}
-use Rattle.rules.specs.declared.WriteAnswer.{WriteAnswer}
-use Rattle.rules.specs.declared.JudgeAnswer.{JudgeAnswer}
-use Rattle.rules.specs.declared.RunAnswer.{RunAnswer}
+use Rattle.std.specs.Prelude.{Result}
+use Rattle.rules.specs.declared.Refusal.{Refusal}
+use Rattle.rules.specs.declared.Acceptance.{Acceptance}
+use Rattle.rules.specs.declared.Finished.{Finished}
 use Rattle.rules.specs.Numbers.{most_bytes, numbers, stream_of, bytes_of}
 use Rattle.rules.specs.Syntax.{Program}
 use Rattle.rules.specs.Ceiling.{callee_in, ceilings_below, ceiling_of}
@@ -90,18 +90,18 @@ pub written-bytes : (ns : List ℕ) → Below (2 ^ 64) ns → Below 256 (bytes_o
 written-bytes = write-below
 
 -- Two answers that a promise allows are equal, for every input; what is left in the slots is a function of the input by its type.
-pub read-determined : (bytes : List ℕ) (lent : ℕ) (a b : ReadAnswer) → of_read a ≡ read_says bytes lent
+pub read-determined : (bytes : List ℕ) (lent : ℕ) (a b : Result ℕ Refusal) → of_read a ≡ read_says bytes lent
     → of_read b ≡ read_says bytes lent → a ≡ b
 read-determined bytes lent a b e q = read_same a b (e ∙ sym q)
 
-pub write-determined : (ns : List ℕ) (lent : ℕ) (a b : WriteAnswer) → of_write a ≡ write_says ns lent
+pub write-determined : (ns : List ℕ) (lent : ℕ) (a b : Result ℕ Refusal) → of_write a ≡ write_says ns lent
     → of_write b ≡ write_says ns lent → a ≡ b
 write-determined ns lent a b e q = write_same a b (e ∙ sym q)
 
-pub judge-determined : (bytes : List ℕ) (a b : JudgeAnswer) → of_judge a ≡ judge_says bytes → of_judge b ≡ judge_says bytes
+pub judge-determined : (bytes : List ℕ) (a b : Result Acceptance Refusal) → of_judge a ≡ judge_says bytes → of_judge b ≡ judge_says bytes
     → a ≡ b
 judge-determined bytes a b e q = judge-same a b (e ∙ sym q)
 
-pub run-determined : (bytes : List ℕ) (results working : ℕ) (a b : RunAnswer) → of_run a ≡ run_says bytes results working
+pub run-determined : (bytes : List ℕ) (results working : ℕ) (a b : Result Finished Refusal) → of_run a ≡ run_says bytes results working
     → of_run b ≡ run_says bytes results working → a ≡ b
 run-determined bytes results working a b e q = run-same a b (e ∙ sym q)

@@ -2,18 +2,14 @@
 -- list of numbers: 0, a refusal's number and its place; or 1 (2 where a run ends by exit, 4 and the error where it ends
 -- by a reject) and what is told. A stuck run would be 3, which is no answer. Answers depend on the bytes or numbers
 -- given and on how many slots are lent: what the slots held occurs only in what is left.
-use Rattle.std.specs.Prelude.{true, false, ◌&&◌, ℕ, List, [], ◌∷◌, ◌++◌, leb, length, drop, replicate}
+use Rattle.std.specs.Prelude.{true, false, ◌&&◌, ℕ, List, [], ◌∷◌, ◌++◌, leb, length, drop, replicate, Result, Ok, Err}
+use Rattle.rules.specs.declared.Reason.{Reason}
+use Rattle.rules.specs.declared.Reason.TheVariants as reason
 use Rattle.rules.specs.declared.Refusal.{Refusal}
+use Rattle.rules.specs.declared.Acceptance.{Acceptance}
 use Rattle.rules.specs.declared.Signal.{Signal}
 use Rattle.rules.specs.declared.Signal.TheVariants.{Done, Exit, Reject}
-use Rattle.rules.specs.declared.ReadAnswer.{ReadAnswer}
-use Rattle.rules.specs.declared.ReadAnswer.TheVariants.{Count, Unread}
-use Rattle.rules.specs.declared.WriteAnswer.{WriteAnswer}
-use Rattle.rules.specs.declared.WriteAnswer.TheVariants.{Length, Unwritten}
-use Rattle.rules.specs.declared.JudgeAnswer.{JudgeAnswer}
-use Rattle.rules.specs.declared.JudgeAnswer.TheVariants.{Accepted, Refused}
-use Rattle.rules.specs.declared.RunAnswer.{RunAnswer}
-use Rattle.rules.specs.declared.RunAnswer.TheVariants.{Ended, Unrun}
+use Rattle.rules.specs.declared.Finished.{Finished}
 use Rattle.rules.specs.Numbers.{Stream, numbers, broken, stream_of, bytes_of, place_of}
 use Rattle.rules.specs.Syntax.{Program}
 use Rattle.rules.specs.Reading.{Got, got, bad, Reader, ◌>>=◌, pure, read_program}
@@ -23,33 +19,50 @@ use Rattle.rules.specs.Lists.{Entry, Cell, read_entries, read_store, read_packet
 use Rattle.rules.specs.Running.{Out, done, stuck, full, run_program}
 use Rattle.rules.specs.Computing.{computed}
 
+-- the numbers of the reasons
+abbrev pub number_of : Reason → ℕ
+number_of reason.Size = 1
+number_of reason.CutOff = 2
+number_of reason.Overlong = 3
+number_of reason.Unlisted = 4
+number_of reason.TooDeep = 5
+number_of reason.Unnamed = 6
+number_of reason.Type = 7
+number_of reason.Form = 8
+number_of reason.Ceiling = 9
+number_of reason.Entries = 10
+number_of reason.Store = 11
+number_of reason.LeftOver = 12
+number_of reason.Room = 13
+number_of reason.Packet = 16
+
 -- the cases of the answers in the paper's numbers
 abbrev pub refusing : ℕ → ℕ → List ℕ
 refusing number place = 0 ∷ number ∷ place ∷ []
 
 unfoldable pub of_refusal : Refusal → List ℕ
-of_refusal r = refusing r.number r.place
+of_refusal r = refusing (number_of r.reason) r.place
 
-unfoldable pub of_read : ReadAnswer → List ℕ
-of_read (Count count) = 1 ∷ count ∷ []
-of_read (Unread r) = of_refusal r
+unfoldable pub of_read : Result ℕ Refusal → List ℕ
+of_read (Ok count) = 1 ∷ count ∷ []
+of_read (Err r) = of_refusal r
 
-unfoldable pub of_write : WriteAnswer → List ℕ
-of_write (Length length) = 1 ∷ length ∷ []
-of_write (Unwritten r) = of_refusal r
+unfoldable pub of_write : Result ℕ Refusal → List ℕ
+of_write (Ok length) = 1 ∷ length ∷ []
+of_write (Err r) = of_refusal r
 
-unfoldable pub of_judge : JudgeAnswer → List ℕ
-of_judge (Accepted ceiling length) = 1 ∷ ceiling ∷ length ∷ []
-of_judge (Refused r) = of_refusal r
+unfoldable pub of_judge : Result Acceptance Refusal → List ℕ
+of_judge (Ok a) = 1 ∷ a.ceiling ∷ a.length ∷ []
+of_judge (Err r) = of_refusal r
 
 unfoldable pub of_signal : Signal → List ℕ
 of_signal Done = 1 ∷ []
 of_signal Exit = 2 ∷ []
 of_signal (Reject error) = 4 ∷ error ∷ []
 
-unfoldable pub of_run : RunAnswer → List ℕ
-of_run (Ended signal steps ceiling length) = of_signal signal ++ steps ∷ ceiling ∷ length ∷ []
-of_run (Unrun r) = of_refusal r
+unfoldable pub of_run : Result Finished Refusal → List ℕ
+of_run (Ok f) = of_signal f.signal ++ f.steps ∷ f.ceiling ∷ f.length ∷ []
+of_run (Err r) = of_refusal r
 
 -- so many slots or bytes are wanted and so many lent: the answer, or 13
 unfoldable pub with_room : ℕ → ℕ → List ℕ → List ℕ

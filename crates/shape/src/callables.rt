@@ -16,28 +16,20 @@ use super::{NUMBERS, Scan};
 fn returning_at(nums: &[u64], version: u64, at: usize) -> Scan
     ensures { result ≡ scan_of (read_returning version) nums.now at }
 {
-    let kind = value_in(nums, 0, LAST_CALLABLE_KIND, at);
-    match kind {
-        Value::Of { value, next } => {
-            if value == 0 {
-                Scan::Past(next)
+    let Number { value, next } = value_in(nums, 0, LAST_CALLABLE_KIND, at)?;
+    if value == 0 {
+                Ok(next)
             } else {
                 type_at(nums, version, next)
             }
-        }
-        Value::Unread { number, index } => Scan::Fault { number, index },
-    }
 }
 
 // A callable's parameters and locals.
 fn frame_at(nums: &[u64], version: u64, at: usize) -> Scan
     ensures { result ≡ scan_of (read_frame version) nums.now at }
 {
-    let parameters = list_at(nums, version, Item::ParameterItem, 0, MOST_PARAMETERS, at);
-    match parameters {
-        Scan::Past(next) => list_at(nums, version, Item::TypeItem, 0, MOST_LOCALS, next),
-        Scan::Fault { number, index } => Scan::Fault { number, index },
-    }
+    let next = list_at(nums, version, Item::ParameterItem, 0, MOST_PARAMETERS, at)?;
+    list_at(nums, version, Item::TypeItem, 0, MOST_LOCALS, next)
 }
 
 // A callable: its head, its parameters and locals, its body.
@@ -45,15 +37,7 @@ pub(crate) fn callable_at(nums: &[u64], version: u64, at: usize, ends: &mut [u64
     requires { length nums.now ≤ most_numbers }
     ensures { Lays (read_callable version) lay_callable nums.now at ends.old ends.new result }
 {
-    let returning = returning_at(nums, version, at);
-    match returning {
-        Scan::Past(next) => {
-            let frame = frame_at(nums, version, next);
-            match frame {
-                Scan::Past(body) => scan_stmt(nums, version, DEEPEST, body, ends),
-                Scan::Fault { number, index } => Scan::Fault { number, index },
-            }
-        }
-        Scan::Fault { number, index } => Scan::Fault { number, index },
-    }
+    let next = returning_at(nums, version, at)?;
+    let body = frame_at(nums, version, next)?;
+            scan_stmt(nums, version, DEEPEST, body, ends)
 }

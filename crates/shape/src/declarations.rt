@@ -21,10 +21,7 @@ pub(crate) fn global_at(nums: &[u64], version: u64, at: usize) -> Scan
 {
     let value = number_in(nums, 0, WIDEST, at);
     match value {
-        Scan::Past(next) => Scan::Past(next),
-        Scan::Fault {
-            number: _,
-            index: _,
-        } => number_in(nums, FIRST_HEADER_TYPE, LAST_HEADER_TYPE, at),
+        Ok(next) => Ok(next),
+        Err(Fault { reason: _, index: _ }) => number_in(nums, FIRST_HEADER_TYPE, LAST_HEADER_TYPE, at),
     }
 }

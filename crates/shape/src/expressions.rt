@@ -41,65 +41,53 @@ enum ExprForm {
 }
 
 // The lead that ends where a scan of its numbers does.
-pub(crate) fn lead_by(numbers: Scan, operands: usize, statements: usize) -> Lead
+pub(crate) fn lead_by(numbers: Scan, operands: usize, statements: usize) -> Result<Lead, Fault>
     ensures { result ≡ lead_by numbers operands statements }
 {
     match numbers {
-        Scan::Past(next) => Lead::On {
+        Ok(next) => Ok(Lead {
             next: next,
             operands: operands,
             statements: statements,
-        },
-        Scan::Fault { number, index } => Lead::Off { number, index },
+        }),
+        Err(fault) => Err(fault),
     }
 }
 
 // A call up to its arguments: the callable's number and the count.
-pub(crate) fn call_lead(nums: &[u64], at: usize) -> Lead
+pub(crate) fn call_lead(nums: &[u64], at: usize) -> Result<Lead, Fault>
     ensures { result ≡ call_lead nums.now (scan_of number nums.now at) }
 {
-    let callable = any_number(nums, at);
-    match callable {
-        Scan::Past(next) => arguments_lead(nums, next),
-        Scan::Fault { number, index } => Lead::Off { number, index },
-    }
+    let next = any_number(nums, at)?;
+    arguments_lead(nums, next)
 }
 
 // A list of arguments up to the first of them.
-fn arguments_lead(nums: &[u64], at: usize) -> Lead
+fn arguments_lead(nums: &[u64], at: usize) -> Result<Lead, Fault>
     ensures { result ≡ arguments_lead (value_of 0 most_arguments nums.now at) }
 {
-    let count = value_in(nums, 0, MOST_ARGUMENTS, at);
-    match count {
-        Value::Of { value, next } => Lead::On {
+    let Number { value, next } = value_in(nums, 0, MOST_ARGUMENTS, at)?;
+    Ok(Lead {
             next: next,
             operands: value as usize,
             statements: 0,
-        },
-        Value::Unread { number, index } => Lead::Off { number, index },
-    }
+        })
 }
 
 // A literal's width and value.
 fn literal_at(nums: &[u64], at: usize) -> Scan
     ensures { result ≡ scan_of read_literal nums.now at }
 {
-    let width = width_at(nums, at);
-    match width {
-        Scan::Past(next) => any_number(nums, next),
-        Scan::Fault { number, index } => Scan::Fault { number, index },
-    }
+    let next = width_at(nums, at)?;
+    any_number(nums, next)
 }
 
 // The two bounds of a slice.
 fn bounds_at(nums: &[u64], at: usize) -> Scan
     ensures { result ≡ scan_of (repeat 2 (between 0 highest_bound)) nums.now at }
 {
-    let high = number_in(nums, 0, HIGHEST_BOUND, at);
-    match high {
-        Scan::Past(next) => number_in(nums, 0, HIGHEST_BOUND, next),
-        Scan::Fault { number, index } => Scan::Fault { number, index },
-    }
+    let next = number_in(nums, 0, HIGHEST_BOUND, at)?;
+    number_in(nums, 0, HIGHEST_BOUND, next)
 }
 
 // An operator of the version's list.
@@ -133,7 +121,7 @@ fn expr_form(version: u64, tag: u64) -> ExprForm
 }
 
 // The lead of an expression of that form whose tag is at `at`.
-fn expr_form_lead(nums: &[u64], version: u64, form: ExprForm, at: usize) -> Lead
+fn expr_form_lead(nums: &[u64], version: u64, form: ExprForm, at: usize) -> Result<Lead, Fault>
     requires { at < length nums.now }
     ensures { result ≡ expr_lead version form nums.now at }
 {
@@ -142,31 +130,25 @@ fn expr_form_lead(nums: &[u64], version: u64, form: ExprForm, at: usize) -> Lead
         ExprForm::Number => lead_by(any_number(nums, next), 0, 0),
         ExprForm::Field => lead_by(two_numbers(nums, next), 0, 0),
         ExprForm::Literal => lead_by(literal_at(nums, next), 0, 0),
-        ExprForm::Operand => lead_by(Scan::Past(next), 1, 0),
+        ExprForm::Operand => lead_by(Ok(next), 1, 0),
         ExprForm::Binary => lead_by(operator_at(nums, version, next), 2, 0),
         ExprForm::Cast => lead_by(width_at(nums, next), 1, 0),
         ExprForm::Slice => lead_by(bounds_at(nums, next), 1, 0),
-        ExprForm::Operands => lead_by(Scan::Past(next), 2, 0),
+        ExprForm::Operands => lead_by(Ok(next), 2, 0),
         ExprForm::Call => call_lead(nums, next),
-        ExprForm::Unlisted => Lead::Off {
-            number: 4,
-            index: at,
-        },
+        ExprForm::Unlisted => Err(Fault { reason: Reason::Unlisted, index: at }),
     }
 }
 
 // The lead of the expression at `at`.
-fn expr_lead(nums: &[u64], version: u64, at: usize) -> Lead
+fn expr_lead(nums: &[u64], version: u64, at: usize) -> Result<Lead, Fault>
     ensures { LeadsExpr version nums.now at result }
 {
     if at < nums.len() {
         let tag = nums[at];
         expr_form_lead(nums, version, expr_form(version, tag), at)
     } else {
-        Lead::Off {
-            number: 4,
-            index: at,
-        }
+        Err(Fault { reason: Reason::Unlisted, index: at })
     }
 }
 
@@ -186,24 +168,10 @@ pub(crate) fn scan_expr(
     if depth == 0 {
         too_deep(nums, at)
     } else {
-        let lead = expr_lead(nums, version, at);
-        match lead {
-            Lead::On {
-                next,
-                operands,
-                statements: _,
-            } => {
-                let inside = scan_exprs(nums, version, depth - 1, operands, next, ends);
-                match inside {
-                    Scan::Past(end) => {
-                        ends[at] = end as u64;
-                        Scan::Past(end)
-                    }
-                    Scan::Fault { number, index } => Scan::Fault { number, index },
-                }
-            }
-            Lead::Off { number, index } => Scan::Fault { number, index },
-        }
+        let Lead { next, operands, statements: _, } = expr_lead(nums, version, at)?;
+        let end = scan_exprs(nums, version, depth - 1, operands, next, ends)?;
+                ends[at] = end as u64;
+                        Ok(end)
     }
 }
 
@@ -223,14 +191,9 @@ pub(crate) fn scan_exprs(
     let mut next = at;
     let mut left = count;
     while left != 0 {
-        let one = scan_expr(nums, version, depth, next, ends);
-        match one {
-            Scan::Past(end) => {
-                next = end;
+        let end = scan_expr(nums, version, depth, next, ends)?;
+        next = end;
                 left -= 1;
-            }
-            Scan::Fault { number, index } => return Scan::Fault { number, index },
-        }
     }
-    Scan::Past(next)
+    Ok(next)
 }

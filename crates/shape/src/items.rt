@@ -30,11 +30,8 @@ fn direction_at(nums: &[u64], version: u64, at: usize) -> Scan
 fn parameter_at(nums: &[u64], version: u64, at: usize) -> Scan
     ensures { result ≡ scan_of (read_parameter version) nums.now at }
 {
-    let direction = direction_at(nums, version, at);
-    match direction {
-        Scan::Past(next) => type_at(nums, version, next),
-        Scan::Fault { number, index } => Scan::Fault { number, index },
-    }
+    let next = direction_at(nums, version, at)?;
+    type_at(nums, version, next)
 }
 
 // A number that stands for itself: an action, a position, a literal.
@@ -71,16 +68,11 @@ fn items_at(nums: &[u64], version: u64, item: Item, count: u64, at: usize) -> Sc
     let mut next = at;
     let mut left = count;
     while left != 0 {
-        let one = item_at(nums, version, item, next);
-        match one {
-            Scan::Past(end) => {
-                next = end;
+        let end = item_at(nums, version, item, next)?;
+        next = end;
                 left -= 1;
-            }
-            Scan::Fault { number, index } => return Scan::Fault { number, index },
-        }
     }
-    Scan::Past(next)
+    Ok(next)
 }
 
 // The end of a list of `least` to `most` items: their count, then the items.
@@ -94,9 +86,6 @@ pub(crate) fn list_at(
 ) -> Scan
     ensures { result ≡ list_scan (item_scan version item nums.now) least most nums.now at }
 {
-    let count = value_in(nums, least, most, at);
-    match count {
-        Value::Of { value, next } => items_at(nums, version, item, value, next),
-        Value::Unread { number, index } => Scan::Fault { number, index },
-    }
+    let Number { value, next } = value_in(nums, least, most, at)?;
+    items_at(nums, version, item, value, next)
 }

@@ -61,13 +61,13 @@ pub fn scan_program(nums: &[u64], directory: &mut [u64; SLOTS], ends: &mut [u64;
     let mut filled = *directory;
     let program = program_at(nums, &mut filled, ends);
     match program {
-        Scan::Past(end) => {
+        Ok(end) => {
             *directory = filled;
-            Scan::Past(end)
+            Ok(end)
         }
-        Scan::Fault { number, index } => {
+        Err(fault) => {
             *ends = [0u64; NUMBERS];
-            Scan::Fault { number, index }
+            Err(fault)
         }
     }
 }

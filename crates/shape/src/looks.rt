@@ -20,42 +20,30 @@ pub(crate) fn any_number(nums: &[u64], at: usize) -> Scan
     ensures { result ≡ scan_of number nums.now at }
 {
     if at < nums.len() {
-        Scan::Past(at + 1)
+        Ok(at + 1)
     } else {
-        Scan::Fault {
-            number: 4,
-            index: at,
-        }
+        Err(Fault { reason: Reason::Unlisted, index: at })
     }
 }
 
 // A number from `least` to `most`, with its value.
-pub(crate) fn value_in(nums: &[u64], least: u64, most: u64, at: usize) -> Value
+pub(crate) fn value_in(nums: &[u64], least: u64, most: u64, at: usize) -> Result<Number, Fault>
     ensures { result ≡ value_of least most nums.now at }
 {
     if at < nums.len() {
         let n = nums[at];
         if n < least {
-            Value::Unread {
-                number: 4,
-                index: at,
-            }
+            Err(Fault { reason: Reason::Unlisted, index: at })
         } else if most < n {
-            Value::Unread {
-                number: 4,
-                index: at,
-            }
+            Err(Fault { reason: Reason::Unlisted, index: at })
         } else {
-            Value::Of {
+            Ok(Number {
                 value: n,
                 next: at + 1,
-            }
+            })
         }
     } else {
-        Value::Unread {
-            number: 4,
-            index: at,
-        }
+        Err(Fault { reason: Reason::Unlisted, index: at })
     }
 }
 
@@ -63,22 +51,16 @@ pub(crate) fn value_in(nums: &[u64], least: u64, most: u64, at: usize) -> Value
 pub(crate) fn number_in(nums: &[u64], least: u64, most: u64, at: usize) -> Scan
     ensures { result ≡ scan_of (between least most) nums.now at }
 {
-    let value = value_in(nums, least, most, at);
-    match value {
-        Value::Of { value: _, next } => Scan::Past(next),
-        Value::Unread { number, index } => Scan::Fault { number, index },
-    }
+    let Number { value: _, next } = value_in(nums, least, most, at)?;
+    Ok(next)
 }
 
 // Two numbers of any value.
 pub(crate) fn two_numbers(nums: &[u64], at: usize) -> Scan
     ensures { result ≡ scan_of (repeat 2 number) nums.now at }
 {
-    let first = any_number(nums, at);
-    match first {
-        Scan::Past(next) => any_number(nums, next),
-        Scan::Fault { number, index } => Scan::Fault { number, index },
-    }
+    let next = any_number(nums, at)?;
+    any_number(nums, next)
 }
 
 // A width.
@@ -100,14 +82,8 @@ pub(crate) fn too_deep(nums: &[u64], at: usize) -> Scan
     ensures { result ≡ scan_of (too_deep {A = ℕ}) nums.now at }
 {
     if at < nums.len() {
-        Scan::Fault {
-            number: 5,
-            index: at,
-        }
+        Err(Fault { reason: Reason::TooDeep, index: at })
     } else {
-        Scan::Fault {
-            number: 4,
-            index: at,
-        }
+        Err(Fault { reason: Reason::Unlisted, index: at })
     }
 }

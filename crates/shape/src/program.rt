@@ -62,17 +62,12 @@ fn parts_at(
     let mut left = count;
     while left != 0 {
         directory[entry] = next as u64;
-        let one = part_at(nums, version, part, next, ends);
-        match one {
-            Scan::Past(end) => {
-                next = end;
+        let end = part_at(nums, version, part, next, ends)?;
+        next = end;
                 entry += 1;
                 left -= 1;
-            }
-            Scan::Fault { number, index } => return Scan::Fault { number, index },
-        }
     }
-    Scan::Past(next)
+    Ok(next)
 }
 
 // The end of a list of `least` to `most` parts. Its count and where each begins go into the directory, from `slot` on.
@@ -91,14 +86,9 @@ fn part_list_at(
     ensures walked_list { WalkedList (part_scan version part nums.now) least most nums.now at slot directory.old directory.new result }
     ensures lays_list { LaysList version part least most nums.now at ends.old ends.new result }
 {
-    let count = value_in(nums, least, most, at);
-    match count {
-        Value::Of { value, next } => {
-            directory[slot] = value;
+    let Number { value, next } = value_in(nums, least, most, at)?;
+    directory[slot] = value;
             parts_at(nums, version, part, value, next, slot + 1, directory, ends)
-        }
-        Value::Unread { number, index } => Scan::Fault { number, index },
-    }
 }
 
 // The header types and the globals.
@@ -113,7 +103,7 @@ fn declared_at(
     ensures lays_directory { Lays (read_declared version) lay_declared nums.now at directory.old directory.new result }
     ensures lays_ends { Lays (read_declared version) no_ends nums.now at ends.old ends.new result }
 {
-    let headers = part_list_at(
+    let next = part_list_at(
         nums,
         version,
         Part::HeaderPart,
@@ -123,9 +113,8 @@ fn declared_at(
         HEADERS,
         directory,
         ends,
-    );
-    match headers {
-        Scan::Past(next) => part_list_at(
+    )?;
+    part_list_at(
             nums,
             version,
             Part::GlobalPart,
@@ -135,9 +124,7 @@ fn declared_at(
             GLOBALS,
             directory,
             ends,
-        ),
-        Scan::Fault { number, index } => Scan::Fault { number, index },
-    }
+        )
 }
 
 // The callables and the tables.
@@ -152,7 +139,7 @@ fn defined_at(
     ensures lays_directory { Lays (read_defined version) lay_defined nums.now at directory.old directory.new result }
     ensures lays_ends { Lays (read_defined version) ends_defined nums.now at ends.old ends.new result }
 {
-    let callables = part_list_at(
+    let next = part_list_at(
         nums,
         version,
         Part::CallablePart,
@@ -162,9 +149,8 @@ fn defined_at(
         CALLABLES,
         directory,
         ends,
-    );
-    match callables {
-        Scan::Past(next) => part_list_at(
+    )?;
+    part_list_at(
             nums,
             version,
             Part::TablePart,
@@ -174,9 +160,7 @@ fn defined_at(
             TABLES,
             directory,
             ends,
-        ),
-        Scan::Fault { number, index } => Scan::Fault { number, index },
-    }
+        )
 }
 
 // The parser's states, where the version has a parser.
@@ -205,7 +189,7 @@ fn states_at(
         )
     } else {
         directory[STATES] = 0;
-        Scan::Past(at)
+        Ok(at)
     }
 }
 
@@ -221,15 +205,10 @@ fn body_at(
     ensures lays_directory { Lays (read_stmt version deepest) lay_body nums.now at directory.old directory.new result }
     ensures lays_ends { Lays (read_stmt version deepest) lay_stmt nums.now at ends.old ends.new result }
 {
-    let body = scan_stmt(nums, version, DEEPEST, at, ends);
-    match body {
-        Scan::Past(end) => {
-            directory[BODY] = at as u64;
+    let end = scan_stmt(nums, version, DEEPEST, at, ends)?;
+    directory[BODY] = at as u64;
             directory[END] = end as u64;
-            Scan::Past(end)
-        }
-        Scan::Fault { number, index } => Scan::Fault { number, index },
-    }
+            Ok(end)
 }
 
 // The parser's states and the apply body.
@@ -244,11 +223,8 @@ fn blocks_at(
     ensures lays_directory { Lays (read_blocks version) lay_blocks nums.now at directory.old directory.new result }
     ensures lays_ends { Lays (read_blocks version) ends_blocks nums.now at ends.old ends.new result }
 {
-    let states = states_at(nums, version, at, directory, ends);
-    match states {
-        Scan::Past(next) => body_at(nums, version, next, directory, ends),
-        Scan::Fault { number, index } => Scan::Fault { number, index },
-    }
+    let next = states_at(nums, version, at, directory, ends)?;
+    body_at(nums, version, next, directory, ends)
 }
 
 // What follows the version.
@@ -263,17 +239,9 @@ fn after_version(
     ensures lays_directory { Lays (read_after_version version) directory_of nums.now at directory.old directory.new result }
     ensures lays_ends { Lays (read_after_version version) ends_of nums.now at ends.old ends.new result }
 {
-    let declared = declared_at(nums, version, at, directory, ends);
-    match declared {
-        Scan::Past(next) => {
-            let defined = defined_at(nums, version, next, directory, ends);
-            match defined {
-                Scan::Past(after) => blocks_at(nums, version, after, directory, ends),
-                Scan::Fault { number, index } => Scan::Fault { number, index },
-            }
-        }
-        Scan::Fault { number, index } => Scan::Fault { number, index },
-    }
+    let next = declared_at(nums, version, at, directory, ends)?;
+    let after = defined_at(nums, version, next, directory, ends)?;
+            blocks_at(nums, version, after, directory, ends)
 }
 
 // A program, from the first number on.
@@ -286,9 +254,6 @@ pub(crate) fn program_at(
     ensures lays_directory { Lays read_program directory_of nums.now 0 directory.old directory.new result }
     ensures lays_ends { Lays read_program ends_of nums.now 0 ends.old ends.new result }
 {
-    let version = value_in(nums, 1, LATEST, 0);
-    match version {
-        Value::Of { value, next } => after_version(nums, value, next, directory, ends),
-        Value::Unread { number, index } => Scan::Fault { number, index },
-    }
+    let Number { value, next } = value_in(nums, 1, LATEST, 0)?;
+    after_version(nums, value, next, directory, ends)
 }

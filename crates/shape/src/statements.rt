@@ -54,10 +54,7 @@ fn place_at(nums: &[u64], form: PlaceForm, at: usize) -> Scan
     match form {
         PlaceForm::OneNumber => any_number(nums, at + 1),
         PlaceForm::TwoNumbers => two_numbers(nums, at + 1),
-        PlaceForm::NoPlace => Scan::Fault {
-            number: 4,
-            index: at,
-        },
+        PlaceForm::NoPlace => Err(Fault { reason: Reason::Unlisted, index: at }),
     }
 }
 
@@ -71,10 +68,7 @@ fn target_at(nums: &[u64], version: u64, depth: usize, at: usize) -> Scan
         let tag = nums[at];
         place_at(nums, place_form(version, tag), at)
     } else {
-        Scan::Fault {
-            number: 4,
-            index: at,
-        }
+        Err(Fault { reason: Reason::Unlisted, index: at })
     }
 }
 
@@ -85,37 +79,29 @@ fn target_lead(
     depth: usize,
     at: usize,
     ends: &mut [u64; NUMBERS],
-) -> Lead
+) -> Result<Lead, Fault>
     requires { length nums.now ≤ most_numbers }
     ensures { LeadsTarget version depth nums.now at ends.old ends.new result }
 {
-    let target = target_at(nums, version, depth, at);
-    match target {
-        Scan::Past(next) => {
-            ends[at] = next as u64;
-            Lead::On {
+    let next = target_at(nums, version, depth, at)?;
+    ends[at] = next as u64;
+            Ok(Lead {
                 next: next,
                 operands: 1,
                 statements: 0,
-            }
-        }
-        Scan::Fault { number, index } => Lead::Off { number, index },
-    }
+            })
 }
 
 // A block up to the first of its members.
-fn block_lead(nums: &[u64], at: usize) -> Lead
+fn block_lead(nums: &[u64], at: usize) -> Result<Lead, Fault>
     ensures { result ≡ block_lead (value_of 0 most_members nums.now at) }
 {
-    let count = value_in(nums, 0, MOST_MEMBERS, at);
-    match count {
-        Value::Of { value, next } => Lead::On {
+    let Number { value, next } = value_in(nums, 0, MOST_MEMBERS, at)?;
+    Ok(Lead {
             next: next,
             operands: 0,
             statements: value as usize,
-        },
-        Value::Unread { number, index } => Lead::Off { number, index },
-    }
+        })
 }
 
 // A verify up to its end: its condition, whose end goes into `ends`, and its error.
@@ -125,15 +111,12 @@ fn verify_lead(
     depth: usize,
     at: usize,
     ends: &mut [u64; NUMBERS],
-) -> Lead
+) -> Result<Lead, Fault>
     requires { length nums.now ≤ most_numbers }
     ensures { LeadsVerify version depth nums.now at ends.old ends.new result }
 {
-    let condition = scan_expr(nums, version, depth, at, ends);
-    match condition {
-        Scan::Past(next) => lead_by(number_in(nums, 0, MOST_ERROR, next), 0, 0),
-        Scan::Fault { number, index } => Lead::Off { number, index },
-    }
+    let next = scan_expr(nums, version, depth, at, ends)?;
+    lead_by(number_in(nums, 0, MOST_ERROR, next), 0, 0)
 }
 
 // A form that only versions with a parser block have.
@@ -177,29 +160,26 @@ fn stmt_form_lead(
     form: StmtForm,
     at: usize,
     ends: &mut [u64; NUMBERS],
-) -> Lead
+) -> Result<Lead, Fault>
     requires { (at < length nums.now) × (length nums.now ≤ most_numbers) }
     ensures { LeadsForm version depth form nums.now at ends.old ends.new result }
 {
     let next = at + 1;
     match form {
-        StmtForm::Bare => lead_by(Scan::Past(next), 0, 0),
+        StmtForm::Bare => lead_by(Ok(next), 0, 0),
         StmtForm::Assign => target_lead(nums, version, depth, next, ends),
-        StmtForm::If => lead_by(Scan::Past(next), 1, 2),
+        StmtForm::If => lead_by(Ok(next), 1, 2),
         StmtForm::Block => block_lead(nums, next),
         StmtForm::CallStmt => call_lead(nums, next),
         StmtForm::Named => lead_by(any_number(nums, next), 0, 0),
-        StmtForm::Returned => lead_by(Scan::Past(next), 1, 0),
+        StmtForm::Returned => lead_by(Ok(next), 1, 0),
         StmtForm::Verified => verify_lead(nums, version, depth, next, ends),
-        StmtForm::NoStmt => Lead::Off {
-            number: 4,
-            index: at,
-        },
+        StmtForm::NoStmt => Err(Fault { reason: Reason::Unlisted, index: at }),
     }
 }
 
 // The lead of the statement at `at`, with so many levels allowed below it.
-fn stmt_lead(nums: &[u64], version: u64, depth: usize, at: usize, ends: &mut [u64; NUMBERS]) -> Lead
+fn stmt_lead(nums: &[u64], version: u64, depth: usize, at: usize, ends: &mut [u64; NUMBERS]) -> Result<Lead, Fault>
     requires { length nums.now ≤ most_numbers }
     ensures { LeadsStmt version depth nums.now at ends.old ends.new result }
 {
@@ -207,10 +187,7 @@ fn stmt_lead(nums: &[u64], version: u64, depth: usize, at: usize, ends: &mut [u6
         let tag = nums[at];
         stmt_form_lead(nums, version, depth, stmt_form(version, tag), at, ends)
     } else {
-        Lead::Off {
-            number: 4,
-            index: at,
-        }
+        Err(Fault { reason: Reason::Unlisted, index: at })
     }
 }
 
@@ -230,30 +207,11 @@ pub(crate) fn scan_stmt(
     if depth == 0 {
         too_deep(nums, at)
     } else {
-        let lead = stmt_lead(nums, version, depth - 1, at, ends);
-        match lead {
-            Lead::On {
-                next,
-                operands,
-                statements,
-            } => {
-                let inside = scan_exprs(nums, version, depth - 1, operands, next, ends);
-                match inside {
-                    Scan::Past(after) => {
-                        let members = scan_stmts(nums, version, depth - 1, statements, after, ends);
-                        match members {
-                            Scan::Past(end) => {
-                                ends[at] = end as u64;
-                                Scan::Past(end)
-                            }
-                            Scan::Fault { number, index } => Scan::Fault { number, index },
-                        }
-                    }
-                    Scan::Fault { number, index } => Scan::Fault { number, index },
-                }
-            }
-            Lead::Off { number, index } => Scan::Fault { number, index },
-        }
+        let Lead { next, operands, statements, } = stmt_lead(nums, version, depth - 1, at, ends)?;
+        let after = scan_exprs(nums, version, depth - 1, operands, next, ends)?;
+                let end = scan_stmts(nums, version, depth - 1, statements, after, ends)?;
+                        ends[at] = end as u64;
+                                Ok(end)
     }
 }
 
@@ -273,14 +231,9 @@ fn scan_stmts(
     let mut next = at;
     let mut left = count;
     while left != 0 {
-        let one = scan_stmt(nums, version, depth, next, ends);
-        match one {
-            Scan::Past(end) => {
-                next = end;
+        let end = scan_stmt(nums, version, depth, next, ends)?;
+        next = end;
                 left -= 1;
-            }
-            Scan::Fault { number, index } => return Scan::Fault { number, index },
-        }
     }
-    Scan::Past(next)
+    Ok(next)
 }

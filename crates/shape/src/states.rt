@@ -17,11 +17,8 @@ fn select_at(nums: &[u64], version: u64, at: usize, ends: &mut [u64; NUMBERS]) -
     requires { length nums.now ≤ most_numbers }
     ensures { Lays (read_select version) lay_select nums.now at ends.old ends.new result }
 {
-    let expression = scan_expr(nums, version, DEEPEST, at, ends);
-    match expression {
-        Scan::Past(next) => list_at(nums, version, Item::PairItem, 0, MOST_PAIRS, next),
-        Scan::Fault { number, index } => Scan::Fault { number, index },
-    }
+    let next = scan_expr(nums, version, DEEPEST, at, ends)?;
+    list_at(nums, version, Item::PairItem, 0, MOST_PAIRS, next)
 }
 
 // A transition: its tag, and what stands behind it.
@@ -29,16 +26,13 @@ fn transition_at(nums: &[u64], version: u64, at: usize, ends: &mut [u64; NUMBERS
     requires { length nums.now ≤ most_numbers }
     ensures { Lays (read_transition version) lay_transition nums.now at ends.old ends.new result }
 {
-    let tag = value_in(nums, 0, LAST_TRANSITION, at);
-    match tag {
-        Value::Of { value, next } => match value {
+    let Number { value, next } = value_in(nums, 0, LAST_TRANSITION, at)?;
+    match value {
             2 => number_in(nums, 0, MOST_ERROR, next),
             3 => numeral_at(nums, version, next),
             4 => select_at(nums, version, next, ends),
-            _ => Scan::Past(next),
-        },
-        Value::Unread { number, index } => Scan::Fault { number, index },
-    }
+            _ => Ok(next),
+        }
 }
 
 // A state: its statement and its transition.
@@ -46,9 +40,6 @@ pub(crate) fn state_at(nums: &[u64], version: u64, at: usize, ends: &mut [u64; N
     requires { length nums.now ≤ most_numbers }
     ensures { Lays (read_state version) lay_state nums.now at ends.old ends.new result }
 {
-    let body = scan_stmt(nums, version, DEEPEST, at, ends);
-    match body {
-        Scan::Past(next) => transition_at(nums, version, next, ends),
-        Scan::Fault { number, index } => Scan::Fault { number, index },
-    }
+    let next = scan_stmt(nums, version, DEEPEST, at, ends)?;
+    transition_at(nums, version, next, ends)
 }

@@ -25,11 +25,8 @@ fn key_at(nums: &[u64], version: u64, at: usize, ends: &mut [u64; NUMBERS]) -> S
     requires { length nums.now ≤ most_numbers }
     ensures { Lays (read_key version) lay_key nums.now at ends.old ends.new result }
 {
-    let kind = key_kind_at(nums, version, at);
-    match kind {
-        Scan::Past(next) => scan_expr(nums, version, DEEPEST, next, ends),
-        Scan::Fault { number, index } => Scan::Fault { number, index },
-    }
+    let next = key_kind_at(nums, version, at)?;
+    scan_expr(nums, version, DEEPEST, next, ends)
 }
 
 // The end of so many keys, one after the other.
@@ -40,16 +37,11 @@ fn keys_at(nums: &[u64], version: u64, count: u64, at: usize, ends: &mut [u64; N
     let mut next = at;
     let mut left = count;
     while left != 0 {
-        let one = key_at(nums, version, next, ends);
-        match one {
-            Scan::Past(end) => {
-                next = end;
+        let end = key_at(nums, version, next, ends)?;
+        next = end;
                 left -= 1;
-            }
-            Scan::Fault { number, index } => return Scan::Fault { number, index },
-        }
     }
-    Scan::Past(next)
+    Ok(next)
 }
 
 // The end of a list of keys.
@@ -57,11 +49,8 @@ fn key_list_at(nums: &[u64], version: u64, at: usize, ends: &mut [u64; NUMBERS])
     requires { length nums.now ≤ most_numbers }
     ensures { Lays (list_of 1 most_keys (read_key version)) lay_keys nums.now at ends.old ends.new result }
 {
-    let count = value_in(nums, 1, MOST_KEYS, at);
-    match count {
-        Value::Of { value, next } => keys_at(nums, version, value, next, ends),
-        Value::Unread { number, index } => Scan::Fault { number, index },
-    }
+    let Number { value, next } = value_in(nums, 1, MOST_KEYS, at)?;
+    keys_at(nums, version, value, next, ends)
 }
 
 // A table's keys and actions.
@@ -69,22 +58,16 @@ fn choices_at(nums: &[u64], version: u64, at: usize, ends: &mut [u64; NUMBERS]) 
     requires { length nums.now ≤ most_numbers }
     ensures { Lays (read_choices version) lay_choices nums.now at ends.old ends.new result }
 {
-    let keys = key_list_at(nums, version, at, ends);
-    match keys {
-        Scan::Past(next) => list_at(nums, version, Item::NumeralItem, 1, MOST_ACTIONS, next),
-        Scan::Fault { number, index } => Scan::Fault { number, index },
-    }
+    let next = key_list_at(nums, version, at, ends)?;
+    list_at(nums, version, Item::NumeralItem, 1, MOST_ACTIONS, next)
 }
 
 // A table's default: its position, and its arguments.
 fn default_at(nums: &[u64], version: u64, at: usize) -> Scan
     ensures { result ≡ scan_of (read_default version) nums.now at }
 {
-    let position = numeral_at(nums, version, at);
-    match position {
-        Scan::Past(next) => list_at(nums, version, Item::NumeralItem, 0, MOST_ARGUMENTS, next),
-        Scan::Fault { number, index } => Scan::Fault { number, index },
-    }
+    let next = numeral_at(nums, version, at)?;
+    list_at(nums, version, Item::NumeralItem, 0, MOST_ARGUMENTS, next)
 }
 
 // A table: its keys and actions, its default.
@@ -92,9 +75,6 @@ pub(crate) fn table_at(nums: &[u64], version: u64, at: usize, ends: &mut [u64; N
     requires { length nums.now ≤ most_numbers }
     ensures { Lays (read_table version) lay_table nums.now at ends.old ends.new result }
 {
-    let choices = choices_at(nums, version, at, ends);
-    match choices {
-        Scan::Past(next) => default_at(nums, version, next),
-        Scan::Fault { number, index } => Scan::Fault { number, index },
-    }
+    let next = choices_at(nums, version, at, ends)?;
+    default_at(nums, version, next)
 }
