@@ -7,10 +7,8 @@ use Rattle.rules.specs.Reading.{Got, got, bad, Reader, and_then, ◌>>=◌, pure
 use Rattle.rules.proofs.Readers.{Kept, Keeps, keeps-number, keeps-between, keeps-repeat, Given, Gives}
 use Rattle.shape.specs.Scans.{forget, scan_of}
 use Rattle.shape.specs.Leads.{valued, value_of, lead_by, arguments_lead, call_lead, block_lead, Agree, AgreeOn, Tagged}
-use Rattle.shape.specs.declared.Scan.{Scan}
-use Rattle.shape.specs.declared.Scan.TheVariants.{Past, Fault}
-use Rattle.shape.specs.declared.expressions.Lead.{Lead}
-use Rattle.shape.specs.declared.expressions.Lead.TheVariants.{On, Off}
+use Rattle.shape.specs.Scans.{Scan, Past, Fault}
+use Rattle.shape.specs.Leads.{Lead, On, Off}
 
 pub record Alike {A B : Type 0} (P : A → B → Type 0) (read : Reader A) (parts : Reader B) : Type 0 where
   pub alike : (left : List ℕ) (at : ℕ) → Agree P (read left at) (parts left at)

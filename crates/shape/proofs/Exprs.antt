@@ -17,12 +17,9 @@ use Rattle.shape.specs.Scans.{forget, scan_of}
 use Rattle.shape.specs.Ends.{most_numbers, expr_at, args_at, lay_expr, lay_args, first_at, lay_all}
 use Rattle.shape.specs.Walks.{Laid, Lays}
 use Rattle.shape.specs.Leads.{on_scan, value_of, on_value, lead_by, on_lead, arguments_lead, call_lead, form_of, expr_form, expr_lead, LeadsExpr, Agree, AgreeOn, next_of, Made, lay_exprs, read_operands, Tagged}
-use Rattle.shape.specs.declared.Scan.{Scan}
-use Rattle.shape.specs.declared.Scan.TheVariants.{Past, Fault}
-use Rattle.shape.specs.declared.looks.Value.{Value}
-use Rattle.shape.specs.declared.looks.Value.TheVariants.{Of, Unread}
-use Rattle.shape.specs.declared.expressions.Lead.{Lead}
-use Rattle.shape.specs.declared.expressions.Lead.TheVariants.{On, Off}
+use Rattle.shape.specs.Scans.{Scan, Past, Fault}
+use Rattle.shape.specs.Leads.{Value, Of, Unread}
+use Rattle.shape.specs.Leads.{Lead, On, Off}
 use Rattle.shape.specs.declared.expressions.ExprForm.{ExprForm}
 use Rattle.shape.proofs.Laws.{Scans, scans-self, scans-then, scans-pure, scans-last, scans-as, scan-here, stands-is, stands-none, stands-out}
 use Rattle.shape.proofs.Laws.{scans-none, scans-one, scans-two, list-scan}

@@ -16,10 +16,8 @@ use Rattle.shape.specs.Parts.{list_scan, item_scan, read_returning, read_frame, 
 use Rattle.shape.specs.Ends.{first_at, key_at, lay_expr, lay_stmt, lay_key, lay_callable, numeral_at, lay_table}
 use Rattle.shape.specs.Walks.{Lays, no_ends}
 use Rattle.shape.proofs.Lays.{lays-then, lays-fault, lays-as, lays-none, lays-scan, BegunAt, Begins, begins-list, lays-next, pendings, lays-counted, lays-uncounted, pair_then, then_same, then-assoc}
-use Rattle.shape.specs.declared.Scan.{Scan}
-use Rattle.shape.specs.declared.Scan.TheVariants.{Past, Fault}
-use Rattle.shape.specs.declared.looks.Value.{Value}
-use Rattle.shape.specs.declared.looks.Value.TheVariants.{Of, Unread}
+use Rattle.shape.specs.Scans.{Scan, Past, Fault}
+use Rattle.shape.specs.Leads.{Value, Of, Unread}
 use Rattle.shape.specs.declared.items.Item.TheVariants.{NumeralItem}
 use Rattle.shape.proofs.Laws.{seq-fault}
 use Rattle.shape.proofs.Parts.{scans-key, scans-numerals, behind-head, keeps-returning, keeps-frame}

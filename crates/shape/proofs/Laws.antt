@@ -13,10 +13,8 @@ use Rattle.rules.specs.Reading.{Got, got, bad, Reader, and_then, ◌>>=◌, pure
 use Rattle.rules.proofs.Readers.{Kept, Keeps, keeps-pure, keeps-repeat, keeps-between, looked-in, looked-out, number_in, number-out, deep_in, deep_out}
 use Rattle.shape.specs.Scans.{forget, scan_of}
 use Rattle.shape.specs.Leads.{on_scan, valued, value_of, on_value}
-use Rattle.shape.specs.declared.Scan.{Scan}
-use Rattle.shape.specs.declared.Scan.TheVariants.{Past, Fault}
-use Rattle.shape.specs.declared.looks.Value.{Value}
-use Rattle.shape.specs.declared.looks.Value.TheVariants.{Of, Unread}
+use Rattle.shape.specs.Scans.{Scan, Past, Fault}
+use Rattle.shape.specs.Leads.{Value, Of, Unread}
 
 -- a number of any value
 pub number-is : (nums : List ℕ) (at : ℕ) → at < length nums → Past (at + 1) ≡ scan_of number nums at

@@ -12,10 +12,8 @@ use Rattle.shape.specs.Scans.{forget, scan_of}
 use Rattle.shape.specs.Ends.{first_at, lay_all}
 use Rattle.shape.specs.Leads.{valued, value_of}
 use Rattle.shape.specs.Walks.{Laid, Lays, no_ends}
-use Rattle.shape.specs.declared.Scan.{Scan}
-use Rattle.shape.specs.declared.Scan.TheVariants.{Past, Fault}
-use Rattle.shape.specs.declared.looks.Value.{Value}
-use Rattle.shape.specs.declared.looks.Value.TheVariants.{Of, Unread}
+use Rattle.shape.specs.Scans.{Scan, Past, Fault}
+use Rattle.shape.specs.Leads.{Value, Of, Unread}
 use Rattle.shape.proofs.Laws.{deep-same, repeat-none}
 
 -- what a reader that was scanned gave, with the slots that it filled

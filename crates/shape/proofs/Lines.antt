@@ -18,7 +18,7 @@ use Rattle.rules.proofs.Readers.{Kept, Keeps, keeps-stands, keeps-between, keeps
 use Rattle.shape.specs.Directory.{stmt_at}
 use Rattle.shape.specs.Ends.{expr_at, lay_expr, lay_stmt, first_at, lay_all, key_at, lay_key, callable_at, lay_callable, numeral_at, lay_table, table_at, pair_at, lay_transition, transition_at, state_at, lay_state, states_at, blocks_at, ends_of}
 use Rattle.shape.specs.Ends.{EndedExpr, EndedStmt, EndedAll, EndedKey, EndedCallable, EndedTable, EndedTransition, EndedState, EndedProgram, ends_left, ScansProgram}
-use Rattle.shape.specs.declared.Scan.{Scan}
+use Rattle.shape.specs.Scans.{Scan}
 use Rattle.shape.specs.Parts.{read_choices, lay_keys, lay_choices, read_default}
 use Rattle.shape.specs.Walks.{no_ends, read_defined, ends_defined, read_blocks, ends_blocks}
 use Rattle.shape.proofs.Lays.{BegunAt, Begins, begins-repeat, begins-list}

@@ -1,8 +1,9 @@
 -- Items and parts by their kind, and lists of items.
 use mathlib.Core.Path.{◌≡◌, refl, ◌∙◌}
 use mathlib.Core.List.{List}
-use Prim.Native.Nat.{ℕ, zero, suc, ◌-◌}
+use Prim.Native.Nat.{ℕ, zero, suc, ◌+◌, ◌-◌, ◌<◌, ◌≤◌}
 use native.Mathlib.Numerals.{sub-one}
+use native.Mathlib.Omega.{arith}
 use Rattle.rules.specs.Words.{widest}
 use Rattle.rules.specs.Reading.{between, stands_for}
 use Rattle.rules.specs.Reading.{type_of}
@@ -13,10 +14,8 @@ use Rattle.shape.specs.Parts.{repeat_scan, list_scan, item_scan, part_scan}
 use Rattle.shape.specs.Ends.{lay_callable, lay_table, lay_state}
 use Rattle.shape.specs.Walks.{Lays, part_ends, LaysPart}
 use Rattle.shape.proofs.Lays.{lays-scan}
-use Rattle.shape.specs.declared.Scan.{Scan}
-use Rattle.shape.specs.declared.Scan.TheVariants.{Past, Fault}
-use Rattle.shape.specs.declared.looks.Value.{Value}
-use Rattle.shape.specs.declared.looks.Value.TheVariants.{Of, Unread}
+use Rattle.shape.specs.Scans.{Scan, Past, Fault}
+use Rattle.shape.specs.Leads.{Value, Of, Unread}
 use Rattle.shape.specs.declared.items.Item.{Item}
 use Rattle.shape.specs.declared.items.Item.TheVariants.{WidthItem, TypeItem, ParameterItem, NumeralItem, PairItem}
 use Rattle.shape.specs.declared.program.Part.{Part}
@@ -109,25 +108,27 @@ module _ (one : ℕ → Scan) (count at : ℕ) where
       → Fault f i ≡ repeat_scan one count at
   items-fault f i a x q p = seq-fault _ _ _ (items_more x) a q f i p
 
--- so many items of which some are left: what the rest scans to, all scan to
-pub record Remaining (one : ℕ → Scan) (count at left next : ℕ) : Type 0 where
-  pub rest : repeat_scan one left next ≡ repeat_scan one count at
+-- so many items of which some are done: what the rest scans to, all scan to
+pub record Remaining (one : ℕ → Scan) (count at done next : ℕ) : Type 0 where
+  pub rest : repeat_scan one (count - done) next ≡ repeat_scan one count at
 
-pub remaining-first : (one : ℕ → Scan) (count at : ℕ) → Remaining one count at count at
-remaining-first one count at = record { rest = refl }
+pub remaining-first : (one : ℕ → Scan) (count at : ℕ) → Remaining one count at 0 at
+remaining-first one count at = record { rest = rw sub-zero refl }
 
-module _ (one : ℕ → Scan) (count at left next : ℕ) (w : Remaining one count at left next) where
-  pub remaining-none : left ≡ 0 → Past next ≡ repeat_scan one count at
-  remaining-none e = items-none one left next e ∙ w.rest
+module _ (one : ℕ → Scan) (count at done next : ℕ) (w : Remaining one count at done next) where
+  pub remaining-none : count ≤ done → Past next ≡ repeat_scan one count at
+  remaining-none h = items-none one (count - done) next (omega arith) ∙ w.rest
 
-  pub remaining-past : (n : ℕ) (a : Scan) → (left ≡ 0 → ⊥) → a ≡ one next → a ≡ Past n
-      → Remaining one count at (left - 1) n
-  remaining-past n a x q p =
-      record { rest = items-past one left next n a (repeat_scan one (left - 1) n) x q p refl ∙ w.rest }
+  pub remaining-past : (n : ℕ) (a : Scan) → done < count → a ≡ one next → a ≡ Past n
+      → Remaining one count at (done + 1) n
+  remaining-past n a h q p =
+      let e : count - done - 1 ≡ count - (done + 1) = omega arith in
+      record { rest = items-past one (count - done) next n a (repeat_scan one (count - (done + 1)) n) (λ z. omega arith) q p
+      (rw e refl) ∙ w.rest }
 
-  pub remaining-fault : (f i : ℕ) (a : Scan) → (left ≡ 0 → ⊥) → a ≡ one next → a ≡ Fault f i
+  pub remaining-fault : (f i : ℕ) (a : Scan) → done < count → a ≡ one next → a ≡ Fault f i
       → Fault f i ≡ repeat_scan one count at
-  remaining-fault f i a x q p = items-fault one left next f i a x q p ∙ w.rest
+  remaining-fault f i a h q p = items-fault one (count - done) next f i a (λ z. omega arith) q p ∙ w.rest
 
 module _ (one : ℕ → Scan) (least most : ℕ) (nums : List ℕ) (at : ℕ) (v : Value)
     (q : v ≡ value_of least most nums at) where

@@ -17,9 +17,8 @@ use Rattle.shape.specs.Directory.{stmt_at}
 use Rattle.shape.specs.Ends.{expr_at, first_at}
 use Rattle.shape.specs.Leads.{on_scan, on_lead, valued, value_of, lead_by, arguments_lead, call_lead, block_lead, expr_form, expr_lead, stmt_form, stmt_lead, stmt_laid, read_literal}
 use Rattle.shape.specs.Leads.{Agree, AgreeOn, next_of, read_operands, read_parts, parts_at, LeadsExpr, LeadsStmt}
-use Rattle.shape.specs.declared.Scan.TheVariants.{Past, Fault}
-use Rattle.shape.specs.declared.expressions.Lead.{Lead}
-use Rattle.shape.specs.declared.expressions.Lead.TheVariants.{On, Off}
+use Rattle.shape.specs.Scans.{Past, Fault}
+use Rattle.shape.specs.Leads.{Lead, On, Off}
 use Rattle.shape.specs.declared.expressions.ExprForm.{ExprForm}
 use Rattle.shape.specs.declared.expressions.ExprForm.TheVariants.{Number, Field, Literal, Operand, Binary, Cast, Slice, Operands, Call, Unlisted}
 use Rattle.shape.specs.declared.statements.StmtForm.{StmtForm}

@@ -3,7 +3,7 @@ use mathlib.Core.Path.{◌≡◌, sym, ◌∙◌}
 use mathlib.Core.List.{List}
 use Prim.Native.Nat.{ℕ}
 use Rattle.shape.specs.Ends.{ScansProgram}
-use Rattle.shape.specs.declared.Scan.{Scan}
+use Rattle.shape.specs.Scans.{Scan}
 
 -- the answer, and what the directory and the ends are left with
 pub one-scan-program : (nums directory left other ends laid laid₂ : List ℕ) (r s : Scan)

@@ -18,10 +18,8 @@ use Rattle.rules.proofs.Readers.{Keeps, keeps_then, keeps-number, keeps-stands, 
 use Rattle.shape.specs.Scans.{scan_of}
 use Rattle.shape.specs.Leads.{on_scan, value_of, on_value}
 use Rattle.shape.specs.Parts.{repeat_scan, list_scan, item_scan, read_returning, read_frame, read_default}
-use Rattle.shape.specs.declared.Scan.{Scan}
-use Rattle.shape.specs.declared.Scan.TheVariants.{Past, Fault}
-use Rattle.shape.specs.declared.looks.Value.{Value}
-use Rattle.shape.specs.declared.looks.Value.TheVariants.{Of, Unread}
+use Rattle.shape.specs.Scans.{Scan, Past, Fault}
+use Rattle.shape.specs.Leads.{Value, Of, Unread}
 use Rattle.shape.specs.declared.items.Item.TheVariants.{WidthItem, TypeItem, ParameterItem, NumeralItem, PairItem}
 use Rattle.shape.proofs.Laws.{on_same, Scans, scans-self, scans-then, scans-pure, scans-here, scans-last, scans-as, scans-two, stands-is, seq-past, seq-fault}
 use Rattle.shape.proofs.Laws.{is_some, Spans, some-within, scan-like, spans-scan, spans-list, list-scan, repeat-none, scans-repeat, IsValue, value-inv, between-fault, scan-fault, stands-some, stands-lacks}

@@ -14,10 +14,8 @@ use Rattle.shape.specs.Directory.{stmt_at, directory_of, directory_left}
 use Rattle.shape.specs.Ends.{most_numbers, states_at, blocks_at, ends_of, ends_left, ScansProgram}
 use Rattle.shape.specs.Walks.{Laid, Lays, no_ends, ends_defined, ends_blocks}
 use Rattle.shape.specs.Walks.{read_declared, lay_declared, read_defined, lay_defined, lay_states, lay_body, read_blocks, lay_blocks}
-use Rattle.shape.specs.declared.Scan.{Scan}
-use Rattle.shape.specs.declared.Scan.TheVariants.{Past, Fault}
-use Rattle.shape.specs.declared.looks.Value.{Value}
-use Rattle.shape.specs.declared.looks.Value.TheVariants.{Of, Unread}
+use Rattle.shape.specs.Scans.{Scan, Past, Fault}
+use Rattle.shape.specs.Leads.{Value, Of, Unread}
 use Rattle.shape.proofs.Lays.{lays-then, lays-fault, lays-as, lays-next, pair_then, then_same}
 use Rattle.shape.proofs.Transitions.{begins-blocks}
 

@@ -17,10 +17,8 @@ use Rattle.shape.specs.Directory.{stmt_at, listed, declared, defined, stated}
 use Rattle.shape.specs.Ends.{first_at, lay_all, callable_at, lay_callable, table_at, lay_table, state_at, lay_state}
 use Rattle.shape.specs.Walks.{starts_after, starts, laid_list, WalkedList, Laid, Lays, no_ends, part_ends, ends_after, parts_ends, list_ends, LaysList, ends_defined}
 use Rattle.shape.specs.Walks.{read_declared, lay_declared, read_defined, lay_defined, lay_states, lay_body}
-use Rattle.shape.specs.declared.Scan.{Scan}
-use Rattle.shape.specs.declared.Scan.TheVariants.{Past, Fault}
-use Rattle.shape.specs.declared.looks.Value.{Value}
-use Rattle.shape.specs.declared.looks.Value.TheVariants.{Of}
+use Rattle.shape.specs.Scans.{Scan, Past, Fault}
+use Rattle.shape.specs.Leads.{Value, Of}
 use Rattle.shape.specs.declared.program.Part.{Part}
 use Rattle.shape.specs.declared.program.Part.TheVariants.{HeaderPart, GlobalPart, CallablePart, TablePart, StatePart}
 use Rattle.shape.proofs.Laws.{scans-self}

@@ -20,12 +20,9 @@ use Rattle.shape.specs.Directory.{stmt_at}
 use Rattle.shape.specs.Ends.{most_numbers, expr_at, stmts_at, lay_expr, lay_stmt, lay_stmts, first_at, lay_all}
 use Rattle.shape.specs.Walks.{Lays}
 use Rattle.shape.specs.Leads.{Agree, AgreeOn, next_of, Made, Tagged, lay_exprs, lay_members, read_parts, parts_at, lay_parts, laid_target, read_verify, laid_verify, LaidOn, stmt_laid, LeadsForm, on_scan, value_of, on_value, lead_by, on_lead, block_lead, stmt_form_of, stmt_form, stmt_lead, LeadsStmt}
-use Rattle.shape.specs.declared.Scan.{Scan}
-use Rattle.shape.specs.declared.Scan.TheVariants.{Past, Fault}
-use Rattle.shape.specs.declared.looks.Value.{Value}
-use Rattle.shape.specs.declared.looks.Value.TheVariants.{Of, Unread}
-use Rattle.shape.specs.declared.expressions.Lead.{Lead}
-use Rattle.shape.specs.declared.expressions.Lead.TheVariants.{On, Off}
+use Rattle.shape.specs.Scans.{Scan, Past, Fault}
+use Rattle.shape.specs.Leads.{Value, Of, Unread}
+use Rattle.shape.specs.Leads.{Lead, On, Off}
 use Rattle.shape.specs.declared.statements.StmtForm.{StmtForm}
 use Rattle.shape.proofs.Laws.{on-past, on-fault, on_same, on-last, Scans, scans-self, scans-then, scans-pure, scans-last, scans-as, scan-here, stands-is, stands-none, stands-out}
 use Rattle.shape.proofs.Laws.{repeat-none, scans-one, scans-two}

@@ -13,12 +13,9 @@ use Rattle.rules.proofs.Predicates.{no_member}
 use Rattle.rules.proofs.Readers.{keeps-number, keeps-between}
 use Rattle.shape.specs.Scans.{scan_of}
 use Rattle.shape.specs.Leads.{on_scan, read_literal, value_of, lead_by, on_lead, arguments_lead, call_lead, form_of, expr_form, expr_lead}
-use Rattle.shape.specs.declared.Scan.{Scan}
-use Rattle.shape.specs.declared.Scan.TheVariants.{Past, Fault}
-use Rattle.shape.specs.declared.looks.Value.{Value}
-use Rattle.shape.specs.declared.looks.Value.TheVariants.{Of, Unread}
-use Rattle.shape.specs.declared.expressions.Lead.{Lead}
-use Rattle.shape.specs.declared.expressions.Lead.TheVariants.{On, Off}
+use Rattle.shape.specs.Scans.{Scan, Past, Fault}
+use Rattle.shape.specs.Leads.{Value, Of, Unread}
+use Rattle.shape.specs.Leads.{Lead, On, Off}
 use Rattle.shape.specs.declared.expressions.ExprForm.{ExprForm}
 use Rattle.shape.specs.declared.expressions.ExprForm.TheVariants.{Number, Field, Literal, Operand, Binary, Cast, Slice, Operands, Call, Unlisted}
 use Rattle.shape.proofs.Laws.{on-past, on-fault, Scans, scans-self, scans-then}
@@ -74,7 +71,7 @@ pub operator-is : (version : ℕ) (nums : List ℕ) (at : ℕ) (r : Scan) → r 
     → r ≡ scan_of (stands_for (get_elem? (operators version))) nums at
 operator-is version nums at r e = e ∙ sym (spans-scan nums at (spans-list (operators version) 13 refl))
 
-pub ruleset numbers = (two_past, two-fault, bounds-past, bounds-fault, literal-past, literal-fault, operator-is)
+pub ruleset numbers = (Past, two_past, two-fault, bounds-past, bounds-fault, literal-past, literal-fault, operator-is)
 
 -- leads, case by case
 pub lead-on : (s : Scan) (next operands statements : ℕ) → s ≡ Past next

@@ -19,12 +19,9 @@ use Rattle.shape.specs.Scans.{forget, scan_of}
 use Rattle.shape.specs.Ends.{most_numbers, lay_expr}
 use Rattle.shape.specs.Walks.{Laid, Lays, no_ends}
 use Rattle.shape.specs.Leads.{laid_target, LeadsTarget, read_verify, laid_verify, LaidOn, LeadsVerify, stmt_laid, LeadsForm, on_scan, value_of, lead_by, on_lead, call_lead, block_lead, place_form_of, place_form, place_scan, stmt_form_of, stmt_form, parser_form, stmt_lead}
-use Rattle.shape.specs.declared.Scan.{Scan}
-use Rattle.shape.specs.declared.Scan.TheVariants.{Past, Fault}
-use Rattle.shape.specs.declared.looks.Value.{Value}
-use Rattle.shape.specs.declared.looks.Value.TheVariants.{Of, Unread}
-use Rattle.shape.specs.declared.expressions.Lead.{Lead}
-use Rattle.shape.specs.declared.expressions.Lead.TheVariants.{On, Off}
+use Rattle.shape.specs.Scans.{Scan, Past, Fault}
+use Rattle.shape.specs.Leads.{Value, Of, Unread}
+use Rattle.shape.specs.Leads.{Lead, On, Off}
 use Rattle.shape.specs.declared.statements.PlaceForm.{PlaceForm}
 use Rattle.shape.specs.declared.statements.PlaceForm.TheVariants.{OneNumber, TwoNumbers, NoPlace}
 use Rattle.shape.specs.declared.statements.StmtForm.{StmtForm}

@@ -20,10 +20,8 @@ use Rattle.shape.specs.Leads.{value_of}
 use Rattle.shape.specs.Parts.{list_scan, item_scan, part_scan, read_select, lay_select}
 use Rattle.shape.specs.Ends.{lay_expr, lay_stmt, first_at, lay_all, numeral_at, pair_at, lay_transition, transition_at, state_at, lay_state, states_at}
 use Rattle.shape.specs.Walks.{Laid, Lays, WalkedList, LaysList, no_ends, lay_states, lay_body, read_blocks, lay_blocks, ends_blocks}
-use Rattle.shape.specs.declared.Scan.{Scan}
-use Rattle.shape.specs.declared.Scan.TheVariants.{Past, Fault}
-use Rattle.shape.specs.declared.looks.Value.{Value}
-use Rattle.shape.specs.declared.looks.Value.TheVariants.{Of, Unread}
+use Rattle.shape.specs.Scans.{Scan, Past, Fault}
+use Rattle.shape.specs.Leads.{Value, Of, Unread}
 use Rattle.shape.specs.declared.items.Item.TheVariants.{PairItem}
 use Rattle.shape.specs.declared.program.Part.TheVariants.{StatePart}
 use Rattle.shape.proofs.Laws.{scan-here, scan-fault, spans-scan, spans-list, between-fault, IsValue, value-inv}

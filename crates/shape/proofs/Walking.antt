@@ -11,10 +11,8 @@ use Rattle.shape.specs.Leads.{value_of}
 use Rattle.shape.specs.Parts.{part_scan}
 use Rattle.shape.specs.Directory.{slot_count}
 use Rattle.shape.specs.Walks.{starts_after, starts, Walked, laid_list, WalkedList, part_ends, LaysPart, ends_after, parts_ends, LaysParts, list_ends, LaysList}
-use Rattle.shape.specs.declared.Scan.{Scan}
-use Rattle.shape.specs.declared.Scan.TheVariants.{Past, Fault}
-use Rattle.shape.specs.declared.looks.Value.{Value}
-use Rattle.shape.specs.declared.looks.Value.TheVariants.{Of, Unread}
+use Rattle.shape.specs.Scans.{Scan, Past, Fault}
+use Rattle.shape.specs.Leads.{Value, Of, Unread}
 use Rattle.shape.specs.declared.program.Part.{Part}
 use Rattle.shape.proofs.Laws.{AtMost, value-most}
 use Rattle.shape.proofs.Listings.{items-none, items-past, items-fault, list_of, list-fault}

@@ -10,7 +10,7 @@ use Rattle.rules.specs.Syntax.{Callable, Key, Numeral, Table, Pair, Transition, 
 use Rattle.rules.specs.Reading.{Got, got, bad, read_program}
 use Rattle.shape.specs.Directory.{stmt_at, directory_left}
 use Rattle.shape.specs.Scans.{scan_of}
-use Rattle.shape.specs.declared.Scan.{Scan}
+use Rattle.shape.specs.Scans.{Scan}
 
 -- how many slots there are: one for each number that a file may have
 abbrev pub most_numbers : ℕ

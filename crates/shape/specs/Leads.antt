@@ -9,19 +9,18 @@ use Rattle.rules.specs.Reading.{Got, got, bad, Reader, ◌>>=◌, pure, number, 
 use Rattle.rules.specs.Reading.{PlaceTag, tag_local, tag_parameter, tag_global, tag_field, ExprTag, tag_bool, tag_bits, tag_place, tag_valid, tag_not, tag_complement, tag_binary, tag_cast, tag_slice, tag_concatenation, tag_call}
 use Rattle.rules.specs.Reading.{StmtTag, tag_empty, tag_assign, tag_if, tag_block, tag_call_stmt, tag_apply, tag_return_value, tag_return, tag_exit, tag_set_valid, tag_set_invalid, tag_extract, tag_verify}
 use Rattle.rules.specs.Reading.{operators, expr_tags, place_tag_of, has_parser, stmt_tags, read_expr, read_target, read_stmt}
-use Rattle.shape.specs.declared.Scan.{Scan}
-use Rattle.shape.specs.declared.Scan.TheVariants.{Past, Fault}
-use Rattle.shape.specs.declared.looks.Value.{Value}
-use Rattle.shape.specs.declared.looks.Value.TheVariants.{Of, Unread}
-use Rattle.shape.specs.declared.expressions.Lead.{Lead}
-use Rattle.shape.specs.declared.expressions.Lead.TheVariants.{On, Off}
+use Rattle.std.specs.Prelude.{Result, Ok, Err}
+use Rattle.rules.specs.Answers.{number_of}
+use Rattle.rules.specs.declared.Fault as rules
+use Rattle.shape.specs.declared.looks.Number as looks
+use Rattle.shape.specs.declared.expressions.Lead as expressions
 use Rattle.shape.specs.declared.statements.PlaceForm.{PlaceForm}
 use Rattle.shape.specs.declared.statements.PlaceForm.TheVariants.{OneNumber, TwoNumbers, NoPlace}
 use Rattle.shape.specs.declared.statements.StmtForm.{StmtForm}
 use Rattle.shape.specs.declared.statements.StmtForm.TheVariants.{Bare, Assign, If, Block, CallStmt, Named, Returned, Verified, NoStmt}
 use Rattle.shape.specs.declared.expressions.ExprForm.{ExprForm}
 use Rattle.shape.specs.declared.expressions.ExprForm.TheVariants.{Number, Field, Literal, Operand, Binary, Cast, Slice, Operands, Call, Unlisted}
-use Rattle.shape.specs.Scans.{scan_of}
+use Rattle.shape.specs.Scans.{Scan, Past, Fault, scan_of}
 use Rattle.shape.specs.Directory.{stmt_at}
 use Rattle.shape.specs.Ends.{expr_at, lay_expr, lay_stmt, first_at, lay_all}
 
@@ -34,7 +33,15 @@ on_scan (Fault number index) k = Fault number index
 unfoldable pub read_literal : Reader ℕ
 read_literal = between 1 widest >>= λ width. number
 
--- a number from a least to a most, with its value
+-- a number from a least to a most, with its value and the index after it
+pub data Value : Type 0 where
+  Of : ℕ → ℕ → Value
+  Unread : ℕ → ℕ → Value
+
+abbrev pub told_value : Result looks.Number rules.Fault → Value
+told_value (Ok n) = Of n.value n.next
+told_value (Err f) = Unread (number_of f.reason) f.index
+
 unfoldable pub valued : Got ℕ → Value
 valued (got n left next) = Of n next
 valued (bad number index) = Unread number index
@@ -46,7 +53,15 @@ unfoldable pub on_value : Value → (ℕ → ℕ → Scan) → Scan
 on_value (Of n next) k = k n next
 on_value (Unread number index) k = Fault number index
 
--- a lead read so far, with the counts of what follows it
+-- a lead read so far: where what follows it begins, and how many operands and statements that is
+pub data Lead : Type 0 where
+  On : ℕ → ℕ → ℕ → Lead
+  Off : ℕ → ℕ → Lead
+
+abbrev pub told_lead : Result expressions.Lead rules.Fault → Lead
+told_lead (Ok l) = On l.next l.operands l.statements
+told_lead (Err f) = Off (number_of f.reason) f.index
+
 unfoldable pub lead_by : Scan → ℕ → ℕ → Lead
 lead_by (Past next) operands statements = On next operands statements
 lead_by (Fault number index) operands statements = Off number index

@@ -10,8 +10,7 @@ use Rattle.rules.specs.Reading.{read_expr, read_header, read_global, read_parame
 use Rattle.shape.specs.Scans.{scan_of}
 use Rattle.shape.specs.Ends.{lay_expr, first_at, lay_all, key_at, lay_key, numeral_at, pair_at}
 use Rattle.shape.specs.Leads.{on_scan, value_of, on_value}
-use Rattle.shape.specs.declared.Scan.{Scan}
-use Rattle.shape.specs.declared.Scan.TheVariants.{Past}
+use Rattle.shape.specs.Scans.{Scan, Past}
 use Rattle.shape.specs.declared.items.Item.{Item}
 use Rattle.shape.specs.declared.items.Item.TheVariants.{WidthItem, TypeItem, ParameterItem, NumeralItem, PairItem}
 use Rattle.shape.specs.declared.program.Part.{Part}

@@ -9,10 +9,8 @@ use Rattle.rules.specs.Reading.{read_stmt, read_header, read_global, read_callab
 use Rattle.shape.specs.Scans.{scan_of}
 use Rattle.shape.specs.Leads.{value_of}
 use Rattle.shape.specs.Parts.{repeat_scan, list_scan, part_scan}
-use Rattle.shape.specs.declared.Scan.{Scan}
-use Rattle.shape.specs.declared.Scan.TheVariants.{Past, Fault}
-use Rattle.shape.specs.declared.looks.Value.{Value}
-use Rattle.shape.specs.declared.looks.Value.TheVariants.{Of, Unread}
+use Rattle.shape.specs.Scans.{Scan, Past, Fault}
+use Rattle.shape.specs.Leads.{Value, Of, Unread}
 use Rattle.shape.specs.declared.program.Part.{Part}
 use Rattle.shape.specs.declared.program.Part.TheVariants.{HeaderPart, GlobalPart, CallablePart, TablePart, StatePart}
 use Rattle.shape.specs.Directory.{stmt_at, declared, defined, stated, body_slot}

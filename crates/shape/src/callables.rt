@@ -3,41 +3,46 @@ ghost use Rattle.std.specs.Prelude.{◌≡◌, ◌≤◌, length};
 ghost use Rattle.rules.specs.Reading.{read_callable};
 ghost use Rattle.shape.specs.Walks.{Lays};
 ghost use Rattle.shape.specs.Parts.{read_returning, read_frame};
-ghost use Rattle.shape.specs.Scans.{scan_of};
+ghost use Rattle.shape.specs.Scans.{told, scan_of};
 ghost use Rattle.shape.specs.Ends.{most_numbers, lay_callable};
 
 use super::items::{Item, list_at};
 use super::limits::{DEEPEST, LAST_CALLABLE_KIND, MOST_LOCALS, MOST_PARAMETERS};
-use super::looks::{Value, type_at, value_in};
+use super::looks::{Number, type_at, value_in};
 use super::statements::scan_stmt;
-use super::{NUMBERS, Scan};
+use super::{NUMBERS, Scanned};
 
 // A callable up to its parameters: its kind and, of a function, its return type.
-fn returning_at(nums: &[u64], version: u64, at: usize) -> Scan
-    ensures { result ≡ scan_of (read_returning version) nums.now at }
+fn returning_at(nums: &[u64], version: u64, at: usize) -> Scanned
+    ensures { told result ≡ scan_of (read_returning version) nums.now at }
 {
     let Number { value, next } = value_in(nums, 0, LAST_CALLABLE_KIND, at)?;
     if value == 0 {
-                Ok(next)
-            } else {
-                type_at(nums, version, next)
-            }
+        Ok(next)
+    } else {
+        type_at(nums, version, next)
+    }
 }
 
 // A callable's parameters and locals.
-fn frame_at(nums: &[u64], version: u64, at: usize) -> Scan
-    ensures { result ≡ scan_of (read_frame version) nums.now at }
+fn frame_at(nums: &[u64], version: u64, at: usize) -> Scanned
+    ensures { told result ≡ scan_of (read_frame version) nums.now at }
 {
     let next = list_at(nums, version, Item::ParameterItem, 0, MOST_PARAMETERS, at)?;
     list_at(nums, version, Item::TypeItem, 0, MOST_LOCALS, next)
 }
 
 // A callable: its head, its parameters and locals, its body.
-pub(crate) fn callable_at(nums: &[u64], version: u64, at: usize, ends: &mut [u64; NUMBERS]) -> Scan
+pub(crate) fn callable_at(
+    nums: &[u64],
+    version: u64,
+    at: usize,
+    ends: &mut [u64; NUMBERS],
+) -> Scanned
     requires { length nums.now ≤ most_numbers }
-    ensures { Lays (read_callable version) lay_callable nums.now at ends.old ends.new result }
+    ensures { Lays (read_callable version) lay_callable nums.now at ends.old ends.new (told result) }
 {
     let next = returning_at(nums, version, at)?;
     let body = frame_at(nums, version, next)?;
-            scan_stmt(nums, version, DEEPEST, body, ends)
+    scan_stmt(nums, version, DEEPEST, body, ends)
 }

@@ -1,27 +1,27 @@
 // Header types and globals.
 ghost use Rattle.std.specs.Prelude.{◌≡◌};
 ghost use Rattle.rules.specs.Reading.{read_header, read_global};
-ghost use Rattle.shape.specs.Scans.{scan_of};
+ghost use Rattle.shape.specs.Scans.{told, scan_of};
 
-use super::Scan;
+use super::Scanned;
 use super::items::{Item, list_at};
 use super::limits::{FIRST_HEADER_TYPE, LAST_HEADER_TYPE, MOST_FIELDS, WIDEST};
 use super::looks::number_in;
 
 // A header type: its fields' widths.
-pub(crate) fn header_at(nums: &[u64], version: u64, at: usize) -> Scan
-    ensures { result ≡ scan_of (read_header version) nums.now at }
+pub(crate) fn header_at(nums: &[u64], version: u64, at: usize) -> Scanned
+    ensures { told result ≡ scan_of (read_header version) nums.now at }
 {
     list_at(nums, version, Item::WidthItem, 1, MOST_FIELDS, at)
 }
 
 // A global: the type of a value, or a header type's number.
-pub(crate) fn global_at(nums: &[u64], version: u64, at: usize) -> Scan
-    ensures { result ≡ scan_of (read_global version) nums.now at }
+pub(crate) fn global_at(nums: &[u64], version: u64, at: usize) -> Scanned
+    ensures { told result ≡ scan_of (read_global version) nums.now at }
 {
     let value = number_in(nums, 0, WIDEST, at);
     match value {
         Ok(next) => Ok(next),
-        Err(Fault { reason: _, index: _ }) => number_in(nums, FIRST_HEADER_TYPE, LAST_HEADER_TYPE, at),
+        Err(_) => number_in(nums, FIRST_HEADER_TYPE, LAST_HEADER_TYPE, at),
     }
 }

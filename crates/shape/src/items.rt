@@ -3,11 +3,11 @@ ghost use Rattle.std.specs.Prelude.{◌≡◌};
 ghost use Rattle.std.proofs.Math.ListN.{get_elem?};
 ghost use Rattle.rules.specs.Reading.{stands_for, directions, read_parameter, read_numeral, read_pair};
 ghost use Rattle.shape.specs.Parts.{item_scan, repeat_scan, list_scan};
-ghost use Rattle.shape.specs.Scans.{scan_of};
+ghost use Rattle.shape.specs.Scans.{told, scan_of};
 
-use super::Scan;
+use super::Scanned;
 use super::limits::LAST_DIRECTION;
-use super::looks::{Value, any_number, number_in, two_numbers, type_at, value_in, width_at};
+use super::looks::{Number, any_number, number_in, two_numbers, type_at, value_in, width_at};
 
 // What stands in lists inside a part of a program.
 #[derive(Clone, Copy)]
@@ -20,37 +20,37 @@ pub(crate) enum Item {
 }
 
 // A parameter's direction.
-fn direction_at(nums: &[u64], version: u64, at: usize) -> Scan
-    ensures { result ≡ scan_of (stands_for (get_elem? (directions version))) nums.now at }
+fn direction_at(nums: &[u64], version: u64, at: usize) -> Scanned
+    ensures { told result ≡ scan_of (stands_for (get_elem? (directions version))) nums.now at }
 {
     number_in(nums, 0, LAST_DIRECTION, at)
 }
 
 // A parameter: its direction and its type.
-fn parameter_at(nums: &[u64], version: u64, at: usize) -> Scan
-    ensures { result ≡ scan_of (read_parameter version) nums.now at }
+fn parameter_at(nums: &[u64], version: u64, at: usize) -> Scanned
+    ensures { told result ≡ scan_of (read_parameter version) nums.now at }
 {
     let next = direction_at(nums, version, at)?;
     type_at(nums, version, next)
 }
 
 // A number that stands for itself: an action, a position, a literal.
-pub(crate) fn numeral_at(nums: &[u64], version: u64, at: usize) -> Scan
-    ensures { result ≡ scan_of (read_numeral version) nums.now at }
+pub(crate) fn numeral_at(nums: &[u64], version: u64, at: usize) -> Scanned
+    ensures { told result ≡ scan_of (read_numeral version) nums.now at }
 {
     any_number(nums, at)
 }
 
 // A pair of a select: a value and a state's number.
-fn pair_at(nums: &[u64], version: u64, at: usize) -> Scan
-    ensures { result ≡ scan_of (read_pair version) nums.now at }
+fn pair_at(nums: &[u64], version: u64, at: usize) -> Scanned
+    ensures { told result ≡ scan_of (read_pair version) nums.now at }
 {
     two_numbers(nums, at)
 }
 
 // The end of the item at `at`.
-fn item_at(nums: &[u64], version: u64, item: Item, at: usize) -> Scan
-    ensures { result ≡ item_scan version item nums.now at }
+fn item_at(nums: &[u64], version: u64, item: Item, at: usize) -> Scanned
+    ensures { told result ≡ item_scan version item nums.now at }
 {
     match item {
         Item::WidthItem => width_at(nums, at),
@@ -62,15 +62,12 @@ fn item_at(nums: &[u64], version: u64, item: Item, at: usize) -> Scan
 }
 
 // The end of so many items, one after the other.
-fn items_at(nums: &[u64], version: u64, item: Item, count: u64, at: usize) -> Scan
-    ensures { result ≡ repeat_scan (item_scan version item nums.now) count at }
+fn items_at(nums: &[u64], version: u64, item: Item, count: u64, at: usize) -> Scanned
+    ensures { told result ≡ repeat_scan (item_scan version item nums.now) count at }
 {
     let mut next = at;
-    let mut left = count;
-    while left != 0 {
-        let end = item_at(nums, version, item, next)?;
-        next = end;
-                left -= 1;
+    for _ in 0..count {
+        next = item_at(nums, version, item, next)?;
     }
     Ok(next)
 }
@@ -83,8 +80,8 @@ pub(crate) fn list_at(
     least: u64,
     most: u64,
     at: usize,
-) -> Scan
-    ensures { result ≡ list_scan (item_scan version item nums.now) least most nums.now at }
+) -> Scanned
+    ensures { told result ≡ list_scan (item_scan version item nums.now) least most nums.now at }
 {
     let Number { value, next } = value_in(nums, least, most, at)?;
     items_at(nums, version, item, value, next)

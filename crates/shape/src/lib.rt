@@ -15,8 +15,10 @@ mod tables;
 
 ghost use Rattle.std.specs.Prelude.{◌≤◌, length};
 ghost use Rattle.shape.specs.Ends.{most_numbers, ScansProgram};
+ghost use Rattle.shape.specs.Scans.{told};
 
 use program::program_at;
+use rules::Fault;
 
 // The directory's slot for the count of header types; each one's beginning follows.
 pub const HEADERS: usize = 0;
@@ -44,19 +46,19 @@ pub const SLOTS: usize = 217;
 // How many slots the ends have: one for each number that a file may have.
 pub const NUMBERS: usize = 4096;
 
-// What scanning at an index finds: the index after what was read; or the fault, 5 or 4, and the index of the number at
-// fault, which is the count of numbers where they run out.
-#[derive(Clone, Copy)]
-pub enum Scan {
-    Past(usize),
-    Fault { number: u64, index: usize },
-}
+// What scanning at an index finds: the index after what was read; or the fault, which is at the count of numbers where
+// they run out.
+pub type Scanned = Result<usize, Fault>;
 
 // The end of the program at the head of `nums`, or its first fault. Where its parts begin goes into the directory, and
 // where each expression and statement ends into `ends`; a fault leaves the one as found and the other as zeros.
-pub fn scan_program(nums: &[u64], directory: &mut [u64; SLOTS], ends: &mut [u64; NUMBERS]) -> Scan
+pub fn scan_program(
+    nums: &[u64],
+    directory: &mut [u64; SLOTS],
+    ends: &mut [u64; NUMBERS],
+) -> Scanned
     requires { length nums.now ≤ most_numbers }
-    ensures { ScansProgram nums.now directory.old directory.new ends.old ends.new result }
+    ensures { ScansProgram nums.now directory.old directory.new ends.old ends.new (told result) }
 {
     let mut filled = *directory;
     let program = program_at(nums, &mut filled, ends);

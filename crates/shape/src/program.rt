@@ -5,6 +5,7 @@ ghost use Rattle.shape.specs.Walks.{Walked, WalkedList, Lays, read_declared, lay
 ghost use Rattle.shape.specs.Directory.{directory_of, slot_count};
 ghost use Rattle.shape.specs.Parts.{part_scan};
 ghost use Rattle.shape.specs.Ends.{most_numbers, lay_stmt, lay_all, state_at, lay_state, ends_of};
+ghost use Rattle.shape.specs.Scans.{told};
 
 use super::callables::callable_at;
 use super::declarations::{global_at, header_at};
@@ -12,11 +13,11 @@ use super::limits::{
     DEEPEST, LATEST, MOST_CALLABLES, MOST_GLOBALS, MOST_HEADERS, MOST_STATES, MOST_TABLES,
     has_parser,
 };
-use super::looks::{Value, value_in};
+use super::looks::{Number, value_in};
 use super::statements::scan_stmt;
 use super::states::state_at;
 use super::tables::table_at;
-use super::{BODY, CALLABLES, END, GLOBALS, HEADERS, NUMBERS, SLOTS, STATES, Scan, TABLES};
+use super::{BODY, CALLABLES, END, GLOBALS, HEADERS, NUMBERS, SLOTS, STATES, Scanned, TABLES};
 
 // A part of a program that the directory tells the beginning of.
 #[derive(Clone, Copy)]
@@ -29,9 +30,9 @@ enum Part {
 }
 
 // The end of the part at `at`.
-fn part_at(nums: &[u64], version: u64, part: Part, at: usize, ends: &mut [u64; NUMBERS]) -> Scan
+fn part_at(nums: &[u64], version: u64, part: Part, at: usize, ends: &mut [u64; NUMBERS]) -> Scanned
     requires { length nums.now ≤ most_numbers }
-    ensures { LaysPart version part nums.now at ends.old ends.new result }
+    ensures { LaysPart version part nums.now at ends.old ends.new (told result) }
 {
     match part {
         Part::HeaderPart => header_at(nums, version, at),
@@ -52,10 +53,10 @@ fn parts_at(
     slot: usize,
     directory: &mut [u64; SLOTS],
     ends: &mut [u64; NUMBERS],
-) -> Scan
+) -> Scanned
     requires { (slot + count ≤ slot_count) × (length nums.now ≤ most_numbers) }
-    ensures walked { Walked (part_scan version part nums.now) count at slot directory.old directory.new result }
-    ensures lays_parts { LaysParts version part count nums.now at ends.old ends.new result }
+    ensures walked { Walked (part_scan version part nums.now) count at slot directory.old directory.new (told result) }
+    ensures lays_parts { LaysParts version part count nums.now at ends.old ends.new (told result) }
 {
     let mut next = at;
     let mut entry = slot;
@@ -64,8 +65,8 @@ fn parts_at(
         directory[entry] = next as u64;
         let end = part_at(nums, version, part, next, ends)?;
         next = end;
-                entry += 1;
-                left -= 1;
+        entry += 1;
+        left -= 1;
     }
     Ok(next)
 }
@@ -81,14 +82,14 @@ fn part_list_at(
     slot: usize,
     directory: &mut [u64; SLOTS],
     ends: &mut [u64; NUMBERS],
-) -> Scan
+) -> Scanned
     requires { (slot + most < slot_count) × (length nums.now ≤ most_numbers) }
-    ensures walked_list { WalkedList (part_scan version part nums.now) least most nums.now at slot directory.old directory.new result }
-    ensures lays_list { LaysList version part least most nums.now at ends.old ends.new result }
+    ensures walked_list { WalkedList (part_scan version part nums.now) least most nums.now at slot directory.old directory.new (told result) }
+    ensures lays_list { LaysList version part least most nums.now at ends.old ends.new (told result) }
 {
     let Number { value, next } = value_in(nums, least, most, at)?;
     directory[slot] = value;
-            parts_at(nums, version, part, value, next, slot + 1, directory, ends)
+    parts_at(nums, version, part, value, next, slot + 1, directory, ends)
 }
 
 // The header types and the globals.
@@ -98,10 +99,10 @@ fn declared_at(
     at: usize,
     directory: &mut [u64; SLOTS],
     ends: &mut [u64; NUMBERS],
-) -> Scan
+) -> Scanned
     requires { length nums.now ≤ most_numbers }
-    ensures lays_directory { Lays (read_declared version) lay_declared nums.now at directory.old directory.new result }
-    ensures lays_ends { Lays (read_declared version) no_ends nums.now at ends.old ends.new result }
+    ensures lays_directory { Lays (read_declared version) lay_declared nums.now at directory.old directory.new (told result) }
+    ensures lays_ends { Lays (read_declared version) no_ends nums.now at ends.old ends.new (told result) }
 {
     let next = part_list_at(
         nums,
@@ -115,16 +116,16 @@ fn declared_at(
         ends,
     )?;
     part_list_at(
-            nums,
-            version,
-            Part::GlobalPart,
-            0,
-            MOST_GLOBALS,
-            next,
-            GLOBALS,
-            directory,
-            ends,
-        )
+        nums,
+        version,
+        Part::GlobalPart,
+        0,
+        MOST_GLOBALS,
+        next,
+        GLOBALS,
+        directory,
+        ends,
+    )
 }
 
 // The callables and the tables.
@@ -134,10 +135,10 @@ fn defined_at(
     at: usize,
     directory: &mut [u64; SLOTS],
     ends: &mut [u64; NUMBERS],
-) -> Scan
+) -> Scanned
     requires { length nums.now ≤ most_numbers }
-    ensures lays_directory { Lays (read_defined version) lay_defined nums.now at directory.old directory.new result }
-    ensures lays_ends { Lays (read_defined version) ends_defined nums.now at ends.old ends.new result }
+    ensures lays_directory { Lays (read_defined version) lay_defined nums.now at directory.old directory.new (told result) }
+    ensures lays_ends { Lays (read_defined version) ends_defined nums.now at ends.old ends.new (told result) }
 {
     let next = part_list_at(
         nums,
@@ -151,16 +152,16 @@ fn defined_at(
         ends,
     )?;
     part_list_at(
-            nums,
-            version,
-            Part::TablePart,
-            0,
-            MOST_TABLES,
-            next,
-            TABLES,
-            directory,
-            ends,
-        )
+        nums,
+        version,
+        Part::TablePart,
+        0,
+        MOST_TABLES,
+        next,
+        TABLES,
+        directory,
+        ends,
+    )
 }
 
 // The parser's states, where the version has a parser.
@@ -170,10 +171,10 @@ fn states_at(
     at: usize,
     directory: &mut [u64; SLOTS],
     ends: &mut [u64; NUMBERS],
-) -> Scan
+) -> Scanned
     requires { length nums.now ≤ most_numbers }
-    ensures lays_directory { Lays (read_states version) lay_states nums.now at directory.old directory.new result }
-    ensures lays_ends { Lays (read_states version) (lay_all state_at lay_state) nums.now at ends.old ends.new result }
+    ensures lays_directory { Lays (read_states version) lay_states nums.now at directory.old directory.new (told result) }
+    ensures lays_ends { Lays (read_states version) (lay_all state_at lay_state) nums.now at ends.old ends.new (told result) }
 {
     if has_parser(version) {
         part_list_at(
@@ -200,15 +201,15 @@ fn body_at(
     at: usize,
     directory: &mut [u64; SLOTS],
     ends: &mut [u64; NUMBERS],
-) -> Scan
+) -> Scanned
     requires { length nums.now ≤ most_numbers }
-    ensures lays_directory { Lays (read_stmt version deepest) lay_body nums.now at directory.old directory.new result }
-    ensures lays_ends { Lays (read_stmt version deepest) lay_stmt nums.now at ends.old ends.new result }
+    ensures lays_directory { Lays (read_stmt version deepest) lay_body nums.now at directory.old directory.new (told result) }
+    ensures lays_ends { Lays (read_stmt version deepest) lay_stmt nums.now at ends.old ends.new (told result) }
 {
     let end = scan_stmt(nums, version, DEEPEST, at, ends)?;
     directory[BODY] = at as u64;
-            directory[END] = end as u64;
-            Ok(end)
+    directory[END] = end as u64;
+    Ok(end)
 }
 
 // The parser's states and the apply body.
@@ -218,10 +219,10 @@ fn blocks_at(
     at: usize,
     directory: &mut [u64; SLOTS],
     ends: &mut [u64; NUMBERS],
-) -> Scan
+) -> Scanned
     requires { length nums.now ≤ most_numbers }
-    ensures lays_directory { Lays (read_blocks version) lay_blocks nums.now at directory.old directory.new result }
-    ensures lays_ends { Lays (read_blocks version) ends_blocks nums.now at ends.old ends.new result }
+    ensures lays_directory { Lays (read_blocks version) lay_blocks nums.now at directory.old directory.new (told result) }
+    ensures lays_ends { Lays (read_blocks version) ends_blocks nums.now at ends.old ends.new (told result) }
 {
     let next = states_at(nums, version, at, directory, ends)?;
     body_at(nums, version, next, directory, ends)
@@ -234,14 +235,14 @@ fn after_version(
     at: usize,
     directory: &mut [u64; SLOTS],
     ends: &mut [u64; NUMBERS],
-) -> Scan
+) -> Scanned
     requires { length nums.now ≤ most_numbers }
-    ensures lays_directory { Lays (read_after_version version) directory_of nums.now at directory.old directory.new result }
-    ensures lays_ends { Lays (read_after_version version) ends_of nums.now at ends.old ends.new result }
+    ensures lays_directory { Lays (read_after_version version) directory_of nums.now at directory.old directory.new (told result) }
+    ensures lays_ends { Lays (read_after_version version) ends_of nums.now at ends.old ends.new (told result) }
 {
     let next = declared_at(nums, version, at, directory, ends)?;
     let after = defined_at(nums, version, next, directory, ends)?;
-            blocks_at(nums, version, after, directory, ends)
+    blocks_at(nums, version, after, directory, ends)
 }
 
 // A program, from the first number on.
@@ -249,10 +250,10 @@ pub(crate) fn program_at(
     nums: &[u64],
     directory: &mut [u64; SLOTS],
     ends: &mut [u64; NUMBERS],
-) -> Scan
+) -> Scanned
     requires { length nums.now ≤ most_numbers }
-    ensures lays_directory { Lays read_program directory_of nums.now 0 directory.old directory.new result }
-    ensures lays_ends { Lays read_program ends_of nums.now 0 ends.old ends.new result }
+    ensures lays_directory { Lays read_program directory_of nums.now 0 directory.old directory.new (told result) }
+    ensures lays_ends { Lays read_program ends_of nums.now 0 ends.old ends.new (told result) }
 {
     let Number { value, next } = value_in(nums, 1, LATEST, 0)?;
     after_version(nums, value, next, directory, ends)

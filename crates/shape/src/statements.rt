@@ -2,14 +2,15 @@
 ghost use Rattle.std.specs.Prelude.{◌≡◌, ◌<◌, ◌≤◌, length};
 ghost use Rattle.rules.specs.Reading.{repeat, read_target, read_stmt, most_members};
 ghost use Rattle.shape.specs.Walks.{Lays};
-ghost use Rattle.shape.specs.Scans.{scan_of};
+ghost use Rattle.shape.specs.Scans.{told, scan_of};
 ghost use Rattle.shape.specs.Ends.{most_numbers, lay_stmt};
-ghost use Rattle.shape.specs.Leads.{value_of, block_lead, lay_members, place_form, place_scan, parser_form, stmt_form, LeadsTarget, LeadsVerify, LeadsForm, LeadsStmt};
+ghost use Rattle.shape.specs.Leads.{told_lead, value_of, block_lead, lay_members, place_form, place_scan, parser_form, stmt_form, LeadsTarget, LeadsVerify, LeadsForm, LeadsStmt};
 
 use super::expressions::{Lead, call_lead, lead_by, scan_expr, scan_exprs};
 use super::limits::{MOST_ERROR, MOST_MEMBERS, has_parser};
-use super::looks::{Value, any_number, number_in, too_deep, two_numbers, value_in};
-use super::{NUMBERS, Scan};
+use super::looks::{Number, any_number, number_in, too_deep, two_numbers, value_in};
+use super::{NUMBERS, Scanned};
+use rules::{Fault, Reason};
 
 // What stands behind the tag of an assignment's target.
 #[derive(Clone, Copy)]
@@ -47,20 +48,23 @@ fn place_form(version: u64, tag: u64) -> PlaceForm
 }
 
 // The end of a target of that form whose tag is at `at`.
-fn place_at(nums: &[u64], form: PlaceForm, at: usize) -> Scan
+fn place_at(nums: &[u64], form: PlaceForm, at: usize) -> Scanned
     requires { at < length nums.now }
-    ensures { result ≡ place_scan form nums.now at }
+    ensures { told result ≡ place_scan form nums.now at }
 {
     match form {
         PlaceForm::OneNumber => any_number(nums, at + 1),
         PlaceForm::TwoNumbers => two_numbers(nums, at + 1),
-        PlaceForm::NoPlace => Err(Fault { reason: Reason::Unlisted, index: at }),
+        PlaceForm::NoPlace => Err(Fault {
+            reason: Reason::Unlisted,
+            index: at,
+        }),
     }
 }
 
 // The end of an assignment's target, with so many levels allowed.
-fn target_at(nums: &[u64], version: u64, depth: usize, at: usize) -> Scan
-    ensures { result ≡ scan_of (read_target version depth) nums.now at }
+fn target_at(nums: &[u64], version: u64, depth: usize, at: usize) -> Scanned
+    ensures { told result ≡ scan_of (read_target version depth) nums.now at }
 {
     if depth == 0 {
         too_deep(nums, at)
@@ -68,7 +72,10 @@ fn target_at(nums: &[u64], version: u64, depth: usize, at: usize) -> Scan
         let tag = nums[at];
         place_at(nums, place_form(version, tag), at)
     } else {
-        Err(Fault { reason: Reason::Unlisted, index: at })
+        Err(Fault {
+            reason: Reason::Unlisted,
+            index: at,
+        })
     }
 }
 
@@ -81,27 +88,27 @@ fn target_lead(
     ends: &mut [u64; NUMBERS],
 ) -> Result<Lead, Fault>
     requires { length nums.now ≤ most_numbers }
-    ensures { LeadsTarget version depth nums.now at ends.old ends.new result }
+    ensures { LeadsTarget version depth nums.now at ends.old ends.new (told_lead result) }
 {
     let next = target_at(nums, version, depth, at)?;
     ends[at] = next as u64;
-            Ok(Lead {
-                next: next,
-                operands: 1,
-                statements: 0,
-            })
+    Ok(Lead {
+        next: next,
+        operands: 1,
+        statements: 0,
+    })
 }
 
 // A block up to the first of its members.
 fn block_lead(nums: &[u64], at: usize) -> Result<Lead, Fault>
-    ensures { result ≡ block_lead (value_of 0 most_members nums.now at) }
+    ensures { told_lead result ≡ block_lead (value_of 0 most_members nums.now at) }
 {
     let Number { value, next } = value_in(nums, 0, MOST_MEMBERS, at)?;
     Ok(Lead {
-            next: next,
-            operands: 0,
-            statements: value as usize,
-        })
+        next: next,
+        operands: 0,
+        statements: value as usize,
+    })
 }
 
 // A verify up to its end: its condition, whose end goes into `ends`, and its error.
@@ -113,7 +120,7 @@ fn verify_lead(
     ends: &mut [u64; NUMBERS],
 ) -> Result<Lead, Fault>
     requires { length nums.now ≤ most_numbers }
-    ensures { LeadsVerify version depth nums.now at ends.old ends.new result }
+    ensures { LeadsVerify version depth nums.now at ends.old ends.new (told_lead result) }
 {
     let next = scan_expr(nums, version, depth, at, ends)?;
     lead_by(number_in(nums, 0, MOST_ERROR, next), 0, 0)
@@ -162,7 +169,7 @@ fn stmt_form_lead(
     ends: &mut [u64; NUMBERS],
 ) -> Result<Lead, Fault>
     requires { (at < length nums.now) × (length nums.now ≤ most_numbers) }
-    ensures { LeadsForm version depth form nums.now at ends.old ends.new result }
+    ensures { LeadsForm version depth form nums.now at ends.old ends.new (told_lead result) }
 {
     let next = at + 1;
     match form {
@@ -174,20 +181,32 @@ fn stmt_form_lead(
         StmtForm::Named => lead_by(any_number(nums, next), 0, 0),
         StmtForm::Returned => lead_by(Ok(next), 1, 0),
         StmtForm::Verified => verify_lead(nums, version, depth, next, ends),
-        StmtForm::NoStmt => Err(Fault { reason: Reason::Unlisted, index: at }),
+        StmtForm::NoStmt => Err(Fault {
+            reason: Reason::Unlisted,
+            index: at,
+        }),
     }
 }
 
 // The lead of the statement at `at`, with so many levels allowed below it.
-fn stmt_lead(nums: &[u64], version: u64, depth: usize, at: usize, ends: &mut [u64; NUMBERS]) -> Result<Lead, Fault>
+fn stmt_lead(
+    nums: &[u64],
+    version: u64,
+    depth: usize,
+    at: usize,
+    ends: &mut [u64; NUMBERS],
+) -> Result<Lead, Fault>
     requires { length nums.now ≤ most_numbers }
-    ensures { LeadsStmt version depth nums.now at ends.old ends.new result }
+    ensures { LeadsStmt version depth nums.now at ends.old ends.new (told_lead result) }
 {
     if at < nums.len() {
         let tag = nums[at];
         stmt_form_lead(nums, version, depth, stmt_form(version, tag), at, ends)
     } else {
-        Err(Fault { reason: Reason::Unlisted, index: at })
+        Err(Fault {
+            reason: Reason::Unlisted,
+            index: at,
+        })
     }
 }
 
@@ -200,18 +219,22 @@ pub(crate) fn scan_stmt(
     depth: usize,
     at: usize,
     ends: &mut [u64; NUMBERS],
-) -> Scan
+) -> Scanned
     requires { length nums.now ≤ most_numbers }
-    ensures { Lays (read_stmt version depth) lay_stmt nums.now at ends.old ends.new result }
+    ensures { Lays (read_stmt version depth) lay_stmt nums.now at ends.old ends.new (told result) }
 {
     if depth == 0 {
         too_deep(nums, at)
     } else {
-        let Lead { next, operands, statements, } = stmt_lead(nums, version, depth - 1, at, ends)?;
+        let Lead {
+            next,
+            operands,
+            statements,
+        } = stmt_lead(nums, version, depth - 1, at, ends)?;
         let after = scan_exprs(nums, version, depth - 1, operands, next, ends)?;
-                let end = scan_stmts(nums, version, depth - 1, statements, after, ends)?;
-                        ends[at] = end as u64;
-                                Ok(end)
+        let end = scan_stmts(nums, version, depth - 1, statements, after, ends)?;
+        ends[at] = end as u64;
+        Ok(end)
     }
 }
 
@@ -224,16 +247,16 @@ fn scan_stmts(
     count: usize,
     at: usize,
     ends: &mut [u64; NUMBERS],
-) -> Scan
+) -> Scanned
     requires { length nums.now ≤ most_numbers }
-    ensures { Lays (repeat count (read_stmt version depth)) lay_members nums.now at ends.old ends.new result }
+    ensures { Lays (repeat count (read_stmt version depth)) lay_members nums.now at ends.old ends.new (told result) }
 {
     let mut next = at;
     let mut left = count;
     while left != 0 {
         let end = scan_stmt(nums, version, depth, next, ends)?;
         next = end;
-                left -= 1;
+        left -= 1;
     }
     Ok(next)
 }

@@ -3,8 +3,8 @@ use Rattle.shape.proofs.Parts.{parts}
 use borrow.Author.Rules.{rules}
 use Rattle.shape.proofs.declarations.global_at.Goals as goal
 
-pub returns-in-Past : goal.returns-in-Past
-returns-in-Past c = search (parts, rules)
+pub returns-in-Ok : goal.returns-in-Ok
+returns-in-Ok c = search (parts, rules)
 
-pub returns-in-Fault : goal.returns-in-Fault
-returns-in-Fault c = search (parts, rules)
+pub returns-in-Err : goal.returns-in-Err
+returns-in-Err c = search (parts, rules)

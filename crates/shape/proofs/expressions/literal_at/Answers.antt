@@ -1,10 +1,11 @@
 -- What carries it: the laws of the numbers behind a tag.
+use Rattle.std.proofs.lemmas.Result.{err_from_is_err_and}
 use Rattle.shape.proofs.Tags.{numbers}
 use borrow.Author.Rules.{rules}
 use Rattle.shape.proofs.expressions.literal_at.Goals as goal
 
-pub returns-in-Past : goal.returns-in-Past
-returns-in-Past c = search (numbers, rules)
+pub returns-in_err-next : goal.returns-in_err-next
+returns-in_err-next c = let p = err_from_is_err_and c.from_residual.result c.from_residual.ensures.1 in rw (p.1, p.2) (search (numbers, c.in_err-next.ensures, rules))
 
-pub returns-in-Fault : goal.returns-in-Fault
-returns-in-Fault c = search (numbers, rules)
+pub returns : goal.returns
+returns c = search (numbers, c.in_ok-next.ensures, rules)

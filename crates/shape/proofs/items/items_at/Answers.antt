@@ -1,13 +1,14 @@
 -- What carries it: what is left of the items scans to what all of them do.
+use Rattle.std.proofs.lemmas.Result.{err_from_is_err_and}
 use Rattle.shape.proofs.Listings.{lists}
 use borrow.Author.Rules.{rules}
 use Rattle.shape.proofs.items.items_at.Goals as goal
 
-pub loop-left-preserved : goal.loop-left-preserved
-loop-left-preserved c = search (lists, rules)
+pub returns-in_err-next : goal.returns-in_err-next
+returns-in_err-next c = let p = err_from_is_err_and c.from_residual.result c.from_residual.ensures.1 in rw (p.1, p.2) (search (lists, c.in_err-next.ensures, rules))
 
-pub returns-in-Fault : goal.returns-in-Fault
-returns-in-Fault c = search (lists, rules)
+pub loop-preserved : goal.loop-preserved
+loop-preserved c = search (lists, c.in_ok-next.ensures, rules)
 
 pub returns : goal.returns
 returns c = search (lists, rules)

@@ -1,22 +1,23 @@
 -- What carries it: a program is its version, its declarations, its definitions and its blocks.
+use Rattle.std.proofs.lemmas.Result.{err_from_is_err_and}
 use Rattle.shape.proofs.Programs.{programs}
 use borrow.Author.Rules.{rules}
 use Rattle.shape.proofs.program.after_version.Goals as goal
 
-pub returns-in-Past-defined-clause-lays_directory : goal.returns-in-Past-defined-clause-lays_directory
-returns-in-Past-defined-clause-lays_directory c = search (programs, rules)
+pub returns-in_err-next-clause-lays_directory : goal.returns-in_err-next-clause-lays_directory
+returns-in_err-next-clause-lays_directory c = let p = err_from_is_err_and c.from_residual.result c.from_residual.ensures.1 in rw (p.1, p.2) (search (programs, c.in_err-next.ensures, rules))
 
-pub returns-in-Past-defined-clause-lays_ends : goal.returns-in-Past-defined-clause-lays_ends
-returns-in-Past-defined-clause-lays_ends c = search (programs, rules)
+pub returns-in_err-next-clause-lays_ends : goal.returns-in_err-next-clause-lays_ends
+returns-in_err-next-clause-lays_ends c = let p = err_from_is_err_and c.from_residual.result c.from_residual.ensures.1 in rw (p.1, p.2) (search (programs, c.in_err-next.ensures, rules))
 
-pub returns-in-Fault-defined-clause-lays_directory : goal.returns-in-Fault-defined-clause-lays_directory
-returns-in-Fault-defined-clause-lays_directory c = search (programs, rules)
+pub returns-in_err-after-clause-lays_directory : goal.returns-in_err-after-clause-lays_directory
+returns-in_err-after-clause-lays_directory c = let p = err_from_is_err_and c.from_residual-in_err-after.result c.from_residual-in_err-after.ensures.1 in rw (p.1, p.2) (search (programs, c.in_ok-next.ensures, c.in_err-after.ensures, rules))
 
-pub returns-in-Fault-defined-clause-lays_ends : goal.returns-in-Fault-defined-clause-lays_ends
-returns-in-Fault-defined-clause-lays_ends c = search (programs, rules)
+pub returns-in_err-after-clause-lays_ends : goal.returns-in_err-after-clause-lays_ends
+returns-in_err-after-clause-lays_ends c = let p = err_from_is_err_and c.from_residual-in_err-after.result c.from_residual-in_err-after.ensures.1 in rw (p.1, p.2) (search (programs, c.in_ok-next.ensures, c.in_err-after.ensures, rules))
 
-pub returns-in-Fault-clause-lays_directory : goal.returns-in-Fault-clause-lays_directory
-returns-in-Fault-clause-lays_directory c = search (programs, rules)
+pub returns-clause-lays_directory : goal.returns-clause-lays_directory
+returns-clause-lays_directory c = search (programs, c.in_ok-next.ensures, c.in_ok-after.ensures, rules)
 
-pub returns-in-Fault-clause-lays_ends : goal.returns-in-Fault-clause-lays_ends
-returns-in-Fault-clause-lays_ends c = search (programs, rules)
+pub returns-clause-lays_ends : goal.returns-clause-lays_ends
+returns-clause-lays_ends c = search (programs, c.in_ok-next.ensures, c.in_ok-after.ensures, rules)

@@ -1,16 +1,17 @@
 -- What carries it: the states and then the body.
+use Rattle.std.proofs.lemmas.Result.{err_from_is_err_and}
 use Rattle.shape.proofs.Transitions.{blocks}
 use borrow.Author.Rules.{rules}
 use Rattle.shape.proofs.program.blocks_at.Goals as goal
 
-pub returns-in-Past-clause-lays_directory : goal.returns-in-Past-clause-lays_directory
-returns-in-Past-clause-lays_directory c = search (blocks, rules)
+pub returns-in_err-next-clause-lays_directory : goal.returns-in_err-next-clause-lays_directory
+returns-in_err-next-clause-lays_directory c = let p = err_from_is_err_and c.from_residual.result c.from_residual.ensures.1 in rw (p.1, p.2) (search (blocks, c.in_err-next.ensures, rules))
 
-pub returns-in-Past-clause-lays_ends : goal.returns-in-Past-clause-lays_ends
-returns-in-Past-clause-lays_ends c = search (blocks, rules)
+pub returns-in_err-next-clause-lays_ends : goal.returns-in_err-next-clause-lays_ends
+returns-in_err-next-clause-lays_ends c = let p = err_from_is_err_and c.from_residual.result c.from_residual.ensures.1 in rw (p.1, p.2) (search (blocks, c.in_err-next.ensures, rules))
 
-pub returns-in-Fault-clause-lays_directory : goal.returns-in-Fault-clause-lays_directory
-returns-in-Fault-clause-lays_directory c = search (blocks, rules)
+pub returns-clause-lays_directory : goal.returns-clause-lays_directory
+returns-clause-lays_directory c = search (blocks, c.in_ok-next.ensures, rules)
 
-pub returns-in-Fault-clause-lays_ends : goal.returns-in-Fault-clause-lays_ends
-returns-in-Fault-clause-lays_ends c = search (blocks, rules)
+pub returns-clause-lays_ends : goal.returns-clause-lays_ends
+returns-clause-lays_ends c = search (blocks, c.in_ok-next.ensures, rules)

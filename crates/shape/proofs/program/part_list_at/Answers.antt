@@ -1,19 +1,20 @@
 -- What carries it: a list of parts is its count and the parts.
+use Rattle.std.proofs.lemmas.Result.{err_from_is_err_and}
 use Rattle.shape.proofs.Walking.{list_walks}
 use borrow.Author.Rules.{rules}
 use Rattle.shape.proofs.program.part_list_at.Goals as goal
 
+pub returns-in_err-value-clause-walked_list : goal.returns-in_err-value-clause-walked_list
+returns-in_err-value-clause-walked_list c = let p = err_from_is_err_and c.from_residual.result c.from_residual.ensures.1 in rw (p.1, p.2) (search (list_walks, c.in_err-value.ensures, rules))
+
+pub returns-in_err-value-clause-lays_list : goal.returns-in_err-value-clause-lays_list
+returns-in_err-value-clause-lays_list c = let p = err_from_is_err_and c.from_residual.result c.from_residual.ensures.1 in rw (p.1, p.2) (search (list_walks, c.in_err-value.ensures, rules))
+
 pub parts_at-requires : goal.parts_at-requires
-parts_at-requires c = search (list_walks, rules)
+parts_at-requires c = search (list_walks, c.in_ok-value.ensures, rules)
 
-pub returns-in-Of-clause-walked_list : goal.returns-in-Of-clause-walked_list
-returns-in-Of-clause-walked_list c = search (list_walks, rules)
+pub returns-clause-walked_list : goal.returns-clause-walked_list
+returns-clause-walked_list c = search (list_walks, c.in_ok-value.ensures, rules)
 
-pub returns-in-Of-clause-lays_list : goal.returns-in-Of-clause-lays_list
-returns-in-Of-clause-lays_list c = search (list_walks, rules)
-
-pub returns-in-Unread-clause-walked_list : goal.returns-in-Unread-clause-walked_list
-returns-in-Unread-clause-walked_list c = search (list_walks, rules)
-
-pub returns-in-Unread-clause-lays_list : goal.returns-in-Unread-clause-lays_list
-returns-in-Unread-clause-lays_list c = search (list_walks, rules)
+pub returns-clause-lays_list : goal.returns-clause-lays_list
+returns-clause-lays_list c = search (list_walks, c.in_ok-value.ensures, rules)

@@ -1,16 +1,17 @@
 -- What carries it: what is left of the parts walks and lays what all of them do.
+use Rattle.std.proofs.lemmas.Result.{err_from_is_err_and}
 use Rattle.shape.proofs.Walking.{walks}
 use borrow.Author.Rules.{rules}
 use Rattle.shape.proofs.program.parts_at.Goals as goal
 
+pub returns-in_err-end-clause-walked : goal.returns-in_err-end-clause-walked
+returns-in_err-end-clause-walked c = let p = err_from_is_err_and c.from_residual.result c.from_residual.ensures.1 in rw (p.1, p.2) (search (walks, c.in_err-end.ensures, rules))
+
+pub returns-in_err-end-clause-lays_parts : goal.returns-in_err-end-clause-lays_parts
+returns-in_err-end-clause-lays_parts c = let p = err_from_is_err_and c.from_residual.result c.from_residual.ensures.1 in rw (p.1, p.2) (search (walks, c.in_err-end.ensures, rules))
+
 pub loop-left-preserved : goal.loop-left-preserved
-loop-left-preserved c = search (walks, rules)
-
-pub returns-in-Fault-clause-walked : goal.returns-in-Fault-clause-walked
-returns-in-Fault-clause-walked c = search (walks, rules)
-
-pub returns-in-Fault-clause-lays_parts : goal.returns-in-Fault-clause-lays_parts
-returns-in-Fault-clause-lays_parts c = search (walks, rules)
+loop-left-preserved c = search (walks, c.in_ok-end.ensures, rules)
 
 pub returns-clause-walked : goal.returns-clause-walked
 returns-clause-walked c = search (walks, rules)

@@ -1,10 +1,11 @@
 -- What carries it: the laws of leads.
+use Rattle.std.proofs.lemmas.Result.{err_from_is_err_and}
 use Rattle.shape.proofs.Targets.{blocks}
 use borrow.Author.Rules.{rules}
 use Rattle.shape.proofs.statements.block_lead.Goals as goal
 
-pub returns-in-Of : goal.returns-in-Of
-returns-in-Of c = search (blocks, rules)
+pub returns-in_err-value : goal.returns-in_err-value
+returns-in_err-value c = let p = err_from_is_err_and c.from_residual.result c.from_residual.ensures.1 in rw (p.1, p.2) (search (blocks, c.in_err-value.ensures, rules))
 
-pub returns-in-Unread : goal.returns-in-Unread
-returns-in-Unread c = search (blocks, rules)
+pub returns : goal.returns
+returns c = search (blocks, c.in_ok-value.ensures, rules)

@@ -1,10 +1,11 @@
 -- What carries it: how each part of a program scans.
+use Rattle.std.proofs.lemmas.Result.{err_from_is_err_and}
 use Rattle.shape.proofs.Holders.{holders}
 use borrow.Author.Rules.{rules}
 use Rattle.shape.proofs.tables.choices_at.Goals as goal
 
-pub returns-in-Past : goal.returns-in-Past
-returns-in-Past c = search (holders, rules)
+pub returns-in_err-next : goal.returns-in_err-next
+returns-in_err-next c = let p = err_from_is_err_and c.from_residual.result c.from_residual.ensures.1 in rw (p.1, p.2) (search (holders, c.in_err-next.ensures, rules))
 
-pub returns-in-Fault : goal.returns-in-Fault
-returns-in-Fault c = search (holders, rules)
+pub returns : goal.returns
+returns c = search (holders, c.in_ok-next.ensures, rules)

@@ -1,13 +1,14 @@
 -- What carries it: what is left of the keys lays what all of them lay.
+use Rattle.std.proofs.lemmas.Result.{err_from_is_err_and}
 use Rattle.shape.proofs.Holders.{keys}
 use borrow.Author.Rules.{rules}
 use Rattle.shape.proofs.tables.keys_at.Goals as goal
 
-pub loop-left-preserved : goal.loop-left-preserved
-loop-left-preserved c = search (keys, rules)
+pub returns-in_err-end : goal.returns-in_err-end
+returns-in_err-end c = let p = err_from_is_err_and c.from_residual.result c.from_residual.ensures.1 in rw (p.1, p.2) (search (keys, c.in_err-end.ensures, rules))
 
-pub returns-in-Fault : goal.returns-in-Fault
-returns-in-Fault c = search (keys, rules)
+pub loop-left-preserved : goal.loop-left-preserved
+loop-left-preserved c = search (keys, c.in_ok-end.ensures, rules)
 
 pub returns : goal.returns
 returns c = search (keys, rules)
