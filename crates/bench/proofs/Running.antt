@@ -27,7 +27,7 @@ use Rattle.rules.proofs.Room.{accepted-not-full}
 use Rattle.rules.specs.Reading.{Got, got, bad, has_parser, read_program}
 use Rattle.shape.specs.Scans.{forget, scan_of}
 use Rattle.shape.specs.Ends.{ends_left, ScansProgram}
-use Rattle.shape.specs.declared.Scan.TheVariants.{Past}
+use Rattle.shape.specs.Scans.{Past}
 use Rattle.shape.proofs.Lines.{scan-long}
 use Rattle.rules.specs.declared.JudgeAnswer.TheVariants as answers
 use Rattle.numbers.specs.Parts.{Roomy}

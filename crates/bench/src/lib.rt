@@ -10,8 +10,10 @@ ghost use Rattle.numbers.specs.Parts.{Roomy};
 ghost use Rattle.numbers.specs.Promises.{Reads, Writes};
 ghost use Rattle.lines.specs.Promises.{Prints};
 ghost use Rattle.bench.specs.Runs.{refusal_at, RunsFile, AsksAccepted, RunsAccepted, AsksLent};
+ghost use Rattle.program.specs.In.{In};
 
 use judge::Verdict;
+use program::Source;
 use rules::{JudgeAnswer, ReadAnswer, Refusal, RunAnswer, WriteAnswer};
 use runner::prepare;
 use store::fill::{clear, copy};
@@ -162,17 +164,15 @@ fn run_numbers(bytes: &[u8], nums: &[u64], results: &mut [u64], working: &mut [u
 
 // The run of an accepted file, where the slots lent are enough.
 fn run_accepted(
-    nums: &[u64],
-    ends: &[u64],
-    directory: &[u64; shape::SLOTS],
+    source: &Source,
     ceiling: u64,
     store: usize,
     length: usize,
     results: &mut [u64],
     working: &mut [u64],
 ) -> RunAnswer
-    requires { AsksAccepted nums.now directory.now ends.now ceiling store length }
-    ensures { RunsAccepted nums.now directory.now ends.now results.old results.new working.old working.new ceiling store length result }
+    requires { In AsksAccepted source.now ceiling store length }
+    ensures { In RunsAccepted source.now results.old results.new working.old working.new ceiling store length result }
 {
     if working.len() < WORKING {
         RunAnswer::Unrun(Refusal {
@@ -185,31 +185,25 @@ fn run_accepted(
             place: 0,
         })
     } else {
-        run_lent(
-            nums, ends, directory, ceiling, store, length, results, working,
-        )
+        run_lent(source, ceiling, store, length, results, working)
     }
 }
 
 // The run itself: frames in the working slots behind the store's length. The store is copied into the result slots.
 fn run_lent(
-    nums: &[u64],
-    ends: &[u64],
-    directory: &[u64; shape::SLOTS],
+    source: &Source,
     ceiling: u64,
     store: usize,
     length: usize,
     results: &mut [u64],
     working: &mut [u64],
 ) -> RunAnswer
-    requires { AsksLent nums.now directory.now ends.now results.old working.old ceiling store length }
-    ensures { RunsAccepted nums.now directory.now ends.now results.old results.new working.old working.new ceiling store length result }
+    requires { In AsksLent source.now results.old working.old ceiling store length }
+    ensures { In RunsAccepted source.now results.old results.new working.old working.new ceiling store length result }
 {
     let mut slots = [0u64; STORE];
     let signal = runner::run(
-        nums,
-        ends,
-        directory,
+        source,
         store,
         length,
         &mut slots,

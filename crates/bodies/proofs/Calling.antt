@@ -1,4 +1,5 @@
 -- What calls rest on: the parameters that are left, and how arguments are held against them.
+use Rattle.program.specs.declared.Scope as coded
 use mathlib.Core.Bool.{Bool, true, false, ◌&&◌, ◌||◌}
 use mathlib.Core.Path.{◌≡◌, refl, sym, ◌∙◌}
 use mathlib.Core.List.{List, [], ◌∷◌}
@@ -78,12 +79,12 @@ value-some at (suc kind) returns (suc (suc (suc k))) returned e =
     let l : leb 3 (suc (suc (suc k))) ≡ false = rw (more kind) at e in
     absurd (omega (arith, leb-false 3 (suc (suc (suc k))) l))
 
-module _ (scope : List ℕ) (at kind returns : ℕ) (b : Bool) (e : b ≡ (eqb kind 0 || leb 3 (get_or scope 5 0))) where
+module _ (scope : coded.Scope) (at kind returns : ℕ) (b : Bool) (e : b ≡ (eqb kind 0 || leb 3 (scope.kind))) where
   pub no_value : b ≡ true → TellsIn scope (value_ty at kind returns) (typed.Fault 8 at)
   unfolding told_ty TyMost
   no_value k = record {
     judged = λ body i.
-        rw (← i) (value_none at kind returns (get_or scope 5 0) (get_or scope 6 0) (sym e ∙ k));
+        rw (← i) (value_none at kind returns (scope.kind) (scope.returns) (sym e ∙ k));
     most = tt;
   }
 
@@ -91,7 +92,7 @@ module _ (scope : List ℕ) (at kind returns : ℕ) (b : Bool) (e : b ≡ (eqb k
   unfolding told_ty TyMost
   some-value m k = record {
     judged = λ body i.
-        rw (← i) (value-some at kind returns (get_or scope 5 0) (get_or scope 6 0) (sym e ∙ k));
+        rw (← i) (value-some at kind returns (scope.kind) (scope.returns) (sym e ∙ k));
     most = m;
   }
 

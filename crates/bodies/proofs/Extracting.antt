@@ -1,5 +1,6 @@
 -- An extract: the widths of its header, added up one after the other, and what the shape of a global says of the rules'
 -- judgement.
+use Rattle.program.specs.declared.Scope as coded
 use mathlib.Core.Bool.{Bool, true, false}
 use mathlib.Core.Path.{◌≡◌, refl, sym, ◌∙◌}
 use mathlib.Core.List.{List, [], ◌∷◌}
@@ -139,7 +140,7 @@ in-state at true in_action = refl
 in-state at true in_apply = refl
 in-state at true in_state = refl
 
-module _ (nums directory ends scope : List ℕ) (at : ℕ) (x : Found)
+module _ (nums directory ends : List ℕ) (scope : coded.Scope) (at : ℕ) (x : Found)
     (f : FindsGlobal nums directory ends (get_or nums (at + 1) 0) x) where
   pub extract-of-variable : (t : ℕ) → x ≡ Variable t → ExtractsIn nums directory ends scope at (Faulty 7 at)
   unfolding FoundShape judge_global judge_extracted named ◌>>=◌ told_stmt

@@ -1,4 +1,5 @@
 -- Statements that hold no statement: what their tag and their operands say of the rules' judgement.
+use Rattle.program.specs.declared.Scope as coded
 use mathlib.Core.Bool.{Bool, true, false, not, ◌&&◌, ◌||◌}
 use mathlib.Core.Path.{◌≡◌, refl, sym, ◌∙◌}
 use mathlib.Core.List.{List}
@@ -101,42 +102,42 @@ no-function at (suc zero) returned u x = absurd (x refl)
 no-function at (suc (suc zero)) returned u x = refl
 no-function at (suc (suc (suc k))) returned u x = refl
 
-module _ (scope : List ℕ) (at : ℕ) (r : Formed) where
-  pub called-in : (kind returns : ℕ) (a b : Bool) → a ≡ (not (eqb kind 0) || not (eqb (get_or scope 5 0) 1))
-      → b ≡ (ltb (get_or scope 5 0) 3 && a) → Forms r (ruled 8 at b false) → FormsIn scope (called_in at kind returns) r
+module _ (scope : coded.Scope) (at : ℕ) (r : Formed) where
+  pub called-in : (kind returns : ℕ) (a b : Bool) → a ≡ (not (eqb kind 0) || not (eqb (scope.kind) 1))
+      → b ≡ (ltb (scope.kind) 3 && a) → Forms r (ruled 8 at b false) → FormsIn scope (called_in at kind returns) r
   unfolding called_in
   called-in kind returns a b e g f = record {
-    judged = λ body k. f.judged ∙ rw (g, e, ← k, may-call (get_or scope 5 0) (get_or scope 6 0) kind returns);
+    judged = λ body k. f.judged ∙ rw (g, e, ← k, may-call (scope.kind) (scope.returns) kind returns);
   }
 
-  pub returned-in : (t : ℕ) → get_or scope 5 0 ≡ 1 → Forms r (ruled 7 at (eqb (get_or scope 6 0) t) true)
+  pub returned-in : (t : ℕ) → scope.kind ≡ 1 → Forms r (ruled 7 at (eqb (scope.returns) t) true)
       → FormsIn scope (returned_in at t) r
   unfolding returned_in ruled judge_returned body_numbered need_ty
-  returned-in t k f = record { judged = λ body e. f.judged ∙ rw (← e, k, same-types (get_or scope 6 0) t) }
+  returned-in t k f = record { judged = λ body e. f.judged ∙ rw (← e, k, same-types (scope.returns) t) }
 
-  pub applied-in : Forms r (ruled 8 at (eqb (get_or scope 5 0) 2) false) → FormsIn scope (applied_in at) r
+  pub applied-in : Forms r (ruled 8 at (eqb (scope.kind) 2) false) → FormsIn scope (applied_in at) r
   unfolding applied_in
-  applied-in f = record { judged = λ body e. f.judged ∙ rw (← e, is-apply (get_or scope 5 0) (get_or scope 6 0)) }
+  applied-in f = record { judged = λ body e. f.judged ∙ rw (← e, is-apply (scope.kind) (scope.returns)) }
 
-  pub left-in : (b : Bool) → b ≡ (not (eqb (get_or scope 5 0) 1) && ltb (get_or scope 5 0) 3)
+  pub left-in : (b : Bool) → b ≡ (not (eqb (scope.kind) 1) && ltb (scope.kind) 3)
       → Forms r (ruled 8 at b false) → FormsIn scope (left_in at) r
   unfolding left_in
   left-in b e f = record {
-    judged = λ body k. f.judged ∙ rw (e, ← k, may-leave (get_or scope 5 0) (get_or scope 6 0));
+    judged = λ body k. f.judged ∙ rw (e, ← k, may-leave (scope.kind) (scope.returns));
   }
 
-  pub parsed-in : (holds : Bool) → Forms r (ruled_both at holds (leb 3 (get_or scope 5 0)))
+  pub parsed-in : (holds : Bool) → Forms r (ruled_both at holds (leb 3 (scope.kind)))
       → FormsIn scope (parsed_in at holds) r
   unfolding parsed_in
   parsed-in holds f = record {
-    judged = λ body k. f.judged ∙ rw (← k, is-state (get_or scope 5 0) (get_or scope 6 0));
+    judged = λ body k. f.judged ∙ rw (← k, is-state (scope.kind) (scope.returns));
   }
 
-pub returned-out : (scope : List ℕ) (at t : ℕ) → (get_or scope 5 0 ≡ 1 → ⊥)
+pub returned-out : (scope : coded.Scope) (at t : ℕ) → (scope.kind ≡ 1 → ⊥)
     → FormsIn scope (returned_in at t) (Faulty 8 at)
 unfolding returned_in told_stmt ◌>>=◌
 returned-out scope at t x = record {
-  judged = λ body e. rw (← e, no-function at (get_or scope 5 0) (get_or scope 6 0) (ty_of t) x);
+  judged = λ body e. rw (← e, no-function at (scope.kind) (scope.returns) (ty_of t) x);
 }
 
 pub ruleset ruling = (
@@ -159,7 +160,7 @@ pub unnamed : (at : ℕ) → told_stmt (Faulty 6 (at + 1)) ≡ fault 6 (suc at)
 unfolding told_stmt
 unnamed at = rw (add-one at)
 
-module _ (nums directory scope : List ℕ) (at : ℕ) where
+module _ (nums directory : List ℕ) (scope : coded.Scope) (at : ℕ) where
   pub table-applies : (r : Formed) → get_or nums (at + 1) 0 < get_or directory 59 0 → FormsIn scope (applied_in at) r
       → Applies nums directory scope at r
   unfolding named ◌>>=◌
@@ -191,7 +192,7 @@ marked-fault (fault m i) number index u e =
     let g : index ≡ i = cc in
     rw (f, g)
 
-module _ (nums directory ends scope : List ℕ) (at : ℕ) (a : Typed)
+module _ (nums directory ends : List ℕ) (scope : coded.Scope) (at : ℕ) (a : Typed)
     (j : TypedIn nums directory ends scope (header_ty nums at) a) where
   pub mark-fine : (t : ℕ) → a ≡ typed.Ty t → MarksIn nums directory ends scope at (Fine false)
   unfolding header_ty told_ty told_stmt

@@ -1,5 +1,6 @@
 -- The cycle of expressions, calls and arguments: that the measure falls, the depth and at one depth the count of
 -- arguments; and what an expression asks and learns by its tag.
+use Rattle.program.specs.declared.Scope as coded
 use mathlib.Core.Path.{◌≡◌, refl, sym, ap, ◌∙◌}
 use mathlib.Core.List.{List}
 use Prim.Native.Nat.{ℕ, suc, ◌+◌, ◌-◌, ◌*◌, ◌≤◌, ◌<◌}
@@ -23,7 +24,7 @@ use Rattle.bodies.specs.Calls.{StandsCall, judge_call, told_call, CalledMost, As
 unfoldable pub rank : ℕ → ℕ → ℕ
 rank depth extra = 12 * depth + extra
 
-module _ (nums directory ends scope : List ℕ) (depth at t : ℕ) where
+module _ (nums directory ends : List ℕ) (scope : coded.Scope) (depth at t : ℕ) where
   pub to-operands : rank depth 2 ≡ t → rank depth 1 < t
   unfolding rank
   to-operands e = omega arith
@@ -69,7 +70,7 @@ value-of-call Γ at f xs =
     (λ c given. judge_given at c.parameters given) (λ c. c.returns) (value_in at Γ.body)
 
 -- expressions
-module _ (nums directory ends scope : List ℕ) (depth at : ℕ) where
+module _ (nums directory ends : List ℕ) (scope : coded.Scope) (depth at : ℕ) where
   pub expr-inside : AsksExpr nums directory ends scope depth at → at < length nums
   expr-inside asks = (expr-begins asks.stands).inside
 

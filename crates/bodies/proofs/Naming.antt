@@ -1,4 +1,5 @@
 -- What the looks at names rest on: a name that is inside its list has what stands there, any other has nothing.
+use Rattle.program.specs.declared.Scope as coded
 use mathlib.Core.Bool.{true, false}
 use mathlib.Core.Option.{some}
 use mathlib.Core.Path.{◌≡◌, refl, ◌∙◌}
@@ -29,13 +30,13 @@ use Rattle.bodies.specs.Claims.{told_ty, TyMost}
 use Rattle.bodies.specs.Leaves.{AsksSlot, SlotTyped, local_ty, parameter_ty, AsksProgram, FoundShape, FindsGlobal, FindsHeader, SeenTyped, AsksField, FieldTyped, IsWritableParameter}
 
 -- what stands at a local's, a parameter's and a field's number
-record HoldsLocal (nums scope : List ℕ) (i : ℕ) (Γ : Scope) : Type 0 where
+record HoldsLocal (nums : List ℕ) (scope : coded.Scope) (i : ℕ) (Γ : Scope) : Type 0 where
   member : At Γ.locals i
-  stands : HoldsTy nums (get_or scope 3 0 + i) member.member
+  stands : HoldsTy nums (scope.locals + i) member.member
 
-record HoldsParameter (nums scope : List ℕ) (i : ℕ) (Γ : Scope) : Type 0 where
+record HoldsParameter (nums : List ℕ) (scope : coded.Scope) (i : ℕ) (Γ : Scope) : Type 0 where
   member : At Γ.parameters i
-  stands : StandsParameter nums (get_or scope 1 0 + 2 * i) member.member
+  stands : StandsParameter nums (scope.parameters + 2 * i) member.member
 
 record HoldsField (nums : List ℕ) (header i : ℕ) (widths : List ℕ) : Type 0 where
   member : At widths i
@@ -73,30 +74,30 @@ unfolding told_ty
 none_found at = rw (add-one at)
 
 -- locals
-module _ (nums scope : List ℕ) (at : ℕ) where
+module _ (nums : List ℕ) (scope : coded.Scope) (at : ℕ) where
   abbrev number : ℕ
   number = get_or nums (at + 1) 0
 
-  local-of : (directory ends : List ℕ) (Γ : Scope) → StandsScope nums directory ends scope Γ → number < get_or scope 4 0
+  local-of : (directory ends : List ℕ) (Γ : Scope) → StandsScope nums directory ends scope Γ → number < scope.local_count
       → HoldsLocal nums scope number Γ
   local-of directory ends Γ s h =
       let m : At Γ.locals number = member-at Γ.locals number (omega (arith, h, s.local_count)) in
       record {
         member = m;
-        stands = type_at nums (get_or scope 3 0) Γ.locals s.locals number m.member m.is;
+        stands = type_at nums (scope.locals) Γ.locals s.locals number m.member m.is;
       }
 
-  module _ (asks : AsksSlot nums scope at) (h : number < get_or scope 4 0) where
+  module _ (asks : AsksSlot nums scope at) (h : number < scope.local_count) where
     abbrev some_local : HoldsLocal nums scope number asks.asks.scope_of
     some_local = local-of asks.directory asks.ends asks.asks.scope_of asks.asks.seen h
 
-    pub local-inside : get_or scope 3 0 + number < length nums
+    pub local-inside : scope.locals + number < length nums
     local-inside = some_local.stands.inside
 
-    pub local-small : get_or scope 3 0 + number < most_bytes
+    pub local-small : scope.locals + number < most_bytes
     local-small = omega (arith, local-inside)
 
-    pub local_typed : SlotTyped nums scope (local_ty nums at) (typed.Ty (get_or nums (get_or scope 3 0 + number) 0))
+    pub local_typed : SlotTyped nums scope (local_ty nums at) (typed.Ty (get_or nums (scope.locals + number) 0))
     unfolding told_ty TyMost local_ty judge_place named
     local_typed = record {
       typed = λ directory ends. record {
@@ -107,7 +108,7 @@ module _ (nums scope : List ℕ) (at : ℕ) where
       };
     }
 
-  pub local-none : get_or scope 4 0 ≤ number → SlotTyped nums scope (local_ty nums at) (typed.Fault 6 (at + 1))
+  pub local-none : scope.local_count ≤ number → SlotTyped nums scope (local_ty nums at) (typed.Fault 6 (at + 1))
   unfolding TyMost local_ty judge_place named
   local-none h = record {
     typed = λ directory ends. record {
@@ -118,29 +119,29 @@ module _ (nums scope : List ℕ) (at : ℕ) where
 
   -- parameters
   parameter-of : (directory ends : List ℕ) (Γ : Scope) → StandsScope nums directory ends scope Γ
-      → number < get_or scope 2 0 → HoldsParameter nums scope number Γ
+      → number < scope.parameter_count → HoldsParameter nums scope number Γ
   parameter-of directory ends Γ s h =
       let m : At Γ.parameters number = member-at Γ.parameters number (omega (arith, h, s.parameter_count)) in
       record {
         member = m;
-        stands = parameter-at nums (get_or scope 1 0) Γ.parameters s.parameters number m.member m.is;
+        stands = parameter-at nums (scope.parameters) Γ.parameters s.parameters number m.member m.is;
       }
 
-  module _ (asks : AsksSlot nums scope at) (h : number < get_or scope 2 0) where
+  module _ (asks : AsksSlot nums scope at) (h : number < scope.parameter_count) where
     abbrev some_parameter : HoldsParameter nums scope number asks.asks.scope_of
     some_parameter = parameter-of asks.directory asks.ends asks.asks.scope_of asks.asks.seen h
 
-    pub parameter-inside : get_or scope 1 0 + 2 * number + 1 < length nums
+    pub parameter-inside : scope.parameters + 2 * number + 1 < length nums
     parameter-inside = some_parameter.stands.ty.inside
 
-    pub direction-inside : get_or scope 1 0 + 2 * number < length nums
+    pub direction-inside : scope.parameters + 2 * number < length nums
     direction-inside = some_parameter.stands.direction.inside
 
-    pub parameter-small : get_or scope 1 0 + 2 * number + 1 < most_bytes
+    pub parameter-small : scope.parameters + 2 * number + 1 < most_bytes
     parameter-small = omega (arith, parameter-inside)
 
     pub parameter-typed : SlotTyped nums scope (parameter_ty nums at)
-        (typed.Ty (get_or nums (get_or scope 1 0 + 2 * number + 1) 0))
+        (typed.Ty (get_or nums (scope.parameters + 2 * number + 1) 0))
     unfolding told_ty TyMost parameter_ty judge_place named ◌>>=◌
     parameter-typed = record {
       typed = λ directory ends. record {
@@ -151,7 +152,7 @@ module _ (nums scope : List ℕ) (at : ℕ) where
       };
     }
 
-    pub parameter-writable : IsWritableParameter nums scope at (leb 2 (get_or nums (get_or scope 1 0 + 2 * number) 0))
+    pub parameter-writable : IsWritableParameter nums scope at (leb 2 (get_or nums (scope.parameters + 2 * number) 0))
     unfolding writable writable_as
     parameter-writable = record {
       told = λ directory ends Γ s.
@@ -159,7 +160,7 @@ module _ (nums scope : List ℕ) (at : ℕ) where
           rw (m.member.is, m.stands.direction.is) (written m.member.member.direction);
     }
 
-  pub parameter-none : get_or scope 2 0 ≤ number → SlotTyped nums scope (parameter_ty nums at) (typed.Fault 6 (at + 1))
+  pub parameter-none : scope.parameter_count ≤ number → SlotTyped nums scope (parameter_ty nums at) (typed.Fault 6 (at + 1))
   unfolding TyMost parameter_ty judge_place named ◌>>=◌
   parameter-none h = record {
     typed = λ directory ends. record {
@@ -168,7 +169,7 @@ module _ (nums scope : List ℕ) (at : ℕ) where
     };
   }
 
-  pub parameter-unwritable : get_or scope 2 0 ≤ number → IsWritableParameter nums scope at false
+  pub parameter-unwritable : scope.parameter_count ≤ number → IsWritableParameter nums scope at false
   unfolding writable writable_as
   parameter-unwritable h = record {
     told = λ directory ends Γ s. rw (no_member Γ.parameters number (omega (arith, h, s.parameter_count)));
@@ -273,15 +274,15 @@ seen_other (suc zero) returns x = absurd (x refl)
 seen_other (suc (suc zero)) returns x = refl
 seen_other (suc (suc (suc kind))) returns x = refl
 
-module _ (scope : List ℕ) (at t : ℕ) where
-  pub seen-told : t ≤ widest → (get_or scope 5 0 ≡ 1 → ⊥) → SeenTyped scope at t (typed.Ty t)
+module _ (scope : coded.Scope) (at t : ℕ) where
+  pub seen-told : t ≤ widest → (scope.kind ≡ 1 → ⊥) → SeenTyped scope at t (typed.Ty t)
   unfolding told_ty TyMost need ◌>>=◌
   seen-told m x = record {
-    judged = λ b e. rw (← e, seen_other (get_or scope 5 0) (get_or scope 6 0) x);
+    judged = λ b e. rw (← e, seen_other (scope.kind) (scope.returns) x);
     most = m;
   }
 
-  pub seen-not : get_or scope 5 0 ≡ 1 → SeenTyped scope at t (typed.Fault 8 at)
+  pub seen-not : scope.kind ≡ 1 → SeenTyped scope at t (typed.Fault 8 at)
   unfolding told_ty TyMost need ◌>>=◌ sees_globals body_numbered
   seen-not k = record { judged = λ b e. rw (← e, k); most = tt }
 
@@ -309,7 +310,7 @@ module _ (nums : List ℕ) (at header : ℕ) where
     pub field-most : get_or nums (header + 1 + field_number) 0 ≤ widest
     field-most = omega (arith, some_field.stands.holds.is, some_field.stands.at_most)
 
-    pub field_told : (scope : List ℕ) (r : Typed) → SeenTyped scope at (get_or nums (header + 1 + field_number) 0) r
+    pub field_told : (scope : coded.Scope) (r : Typed) → SeenTyped scope at (get_or nums (header + 1 + field_number) 0) r
         → FieldTyped nums scope at header r
     unfolding judge_field named ◌>>=◌
     field_told scope r t = record {
@@ -320,7 +321,7 @@ module _ (nums : List ℕ) (at header : ℕ) where
       most = t.most;
     }
 
-  pub field-none : (scope : List ℕ) → get_or nums header 0 ≤ field_number
+  pub field-none : (scope : coded.Scope) → get_or nums header 0 ≤ field_number
       → FieldTyped nums scope at header (typed.Fault 6 (at + 2))
   unfolding told_ty TyMost judge_field named ◌>>=◌
   field-none scope h = record {

@@ -1,4 +1,5 @@
 -- Expressions with operands: where the operands of an expression stand, and that its judgement is theirs and its own.
+use Rattle.program.specs.declared.Scope as coded
 use mathlib.Core.Bool.{Bool, true, false}
 use mathlib.Core.Path.{◌≡◌, refl, sym, ◌∙◌}
 use mathlib.Core.List.{List}
@@ -135,7 +136,7 @@ slice_in (on-concatenation t d e) low x f a b c = true-false (rw t.holds.is at f
 slice_in (on_call t n m xs) low x f a b c = absurd (x t.holds.is)
 
 -- what an answer says of the expression that it is about
-module _ {nums directory ends scope : List ℕ} {depth at : ℕ} {a : Typed}
+module _ {nums directory ends : List ℕ} {scope : coded.Scope} {depth at : ℕ} {a : Typed}
     (j : JudgesExpr nums directory ends scope depth at a)
     (Γ : Scope) (e : Expr) (s : StandsScope nums directory ends scope Γ) (h : StandsExpr nums ends depth at e) where
   pub typed-is : (t : ℕ) → a ≡ typed.Ty t → judge_expr Γ e ≡ ok (ty_of t)
@@ -146,7 +147,7 @@ module _ {nums directory ends scope : List ℕ} {depth at : ℕ} {a : Typed}
   unfolding told_ty
   fault-is number index k = sym (j.judged Γ e s h) ∙ rw k
 
-pub typed-most : {nums directory ends scope : List ℕ} {depth at : ℕ} {a : Typed} (t : ℕ)
+pub typed-most : {nums directory ends : List ℕ} {scope : coded.Scope} {depth at : ℕ} {a : Typed} (t : ℕ)
     → JudgesExpr nums directory ends scope depth at a → a ≡ typed.Ty t → t ≤ widest
 unfolding TyMost
 typed-most {nums} {directory} {ends} {scope} {depth} {at} {a} t j k =
@@ -154,7 +155,7 @@ typed-most {nums} {directory} {ends} {scope} {depth} {at} {a} t j k =
     m
 
 -- by the tag: no operand, a call, others
-module _ (nums directory ends scope : List ℕ) (depth at : ℕ) where
+module _ (nums directory ends : List ℕ) (scope : coded.Scope) (depth at : ℕ) where
   pub operands-asks : AsksExpr nums directory ends scope depth at → 7 ≤ get_or nums at 0 → (get_or nums at 0 ≡ 13 → ⊥)
       → AsksOperands nums directory ends scope depth at
   operands-asks asks low x = record { asks = asks; inner = low; no_call = x }

@@ -1,5 +1,6 @@
 -- Calls and arguments in the cycle of expressions: what a call learns from the callable that it reaches, and what its
 -- arguments come to, one by one.
+use Rattle.program.specs.declared.Scope as coded
 use mathlib.Core.Bool.{Bool, true, false, not, ◌&&◌, ◌||◌}
 use mathlib.Core.Option.{Option, some}
 use mathlib.Core.Path.{◌≡◌, refl, sym, ap, ◌∙◌}
@@ -83,7 +84,7 @@ unfolding judge_given ◌>>=◌
 settled-call at types places returned c x given e f g h =
     settled-as at types places returned ∙ rw (e, f, g, h)
 
-module _ (nums directory ends scope : List ℕ) (depth at : ℕ) where
+module _ (nums directory ends : List ℕ) (scope : coded.Scope) (depth at : ℕ) where
   abbrev number : ℕ
   number = get_or nums (at + 1) 0
 
@@ -93,7 +94,7 @@ module _ (nums directory ends scope : List ℕ) (depth at : ℕ) where
   pub count-inside : AsksCall nums directory ends scope depth at → at + 2 < length nums
   count-inside asks = asks.stands.count.holds.inside
 
-  pub callable-has : AsksCall nums directory ends scope depth at → number < get_or scope 0 0
+  pub callable-has : AsksCall nums directory ends scope depth at → number < scope.reach
       → Has callables_of nums directory ends number
   unfolding callables_of
   callable-has asks h = record {
@@ -103,19 +104,19 @@ module _ (nums directory ends scope : List ℕ) (depth at : ℕ) where
     inside = omega (arith, h, asks.seen.reach, asks.seen.reaches);
   }
 
-  pub callable-none : get_or scope 0 0 ≤ number → JudgesCall nums directory ends scope depth at (Uncalled 6 (at + 1))
+  pub callable-none : scope.reach ≤ number → JudgesCall nums directory ends scope depth at (Uncalled 6 (at + 1))
   unfolding told_call CalledMost judge_call callable_below only_if named ◌>>=◌
   callable-none h = record {
     judged = λ Γ f xs s c. rw (
       ← c.holds.is,
       ← s.reach,
-      le-ltb (get_or nums (at + 1) 0) (get_or scope 0 0) h,
+      le-ltb (get_or nums (at + 1) 0) (scope.reach) h,
       add-one at,
     );
     most = tt;
   }
 
-  module _ (asks : AsksCall nums directory ends scope depth at) (h : number < get_or scope 0 0)
+  module _ (asks : AsksCall nums directory ends scope depth at) (h : number < scope.reach)
       (kind returns parameters count : ℕ)
       (f : Finds callables_of (FoundHead nums kind returns parameters count) nums directory ends number) where
     record Reached (Γ : Scope) : Type 0 where
@@ -252,7 +253,7 @@ args-given : (Γ : Scope) (first : Expr) (others xs : Args) (t : ℕ) (writable 
 unfolding judge_args ◌>>=◌
 args-given Γ first others xs t writable given e f g h = rw (e, f, g, h)
 
-module _ (nums directory ends scope : List ℕ) (depth at count parameters left : ℕ) where
+module _ (nums directory ends : List ℕ) (scope : coded.Scope) (depth at count parameters left : ℕ) where
   pub args_none : count ≡ 0
       → JudgesArgs nums directory ends scope depth at count parameters left (Agree (eqb left 0) true)
   unfolding told_passed judge_args ◌>>=◌

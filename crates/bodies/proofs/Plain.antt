@@ -1,4 +1,5 @@
 -- Expressions with no operands: what a global's shape and a tag say of the rules' judgement.
+use Rattle.program.specs.declared.Scope as coded
 use mathlib.Core.Bool.{Bool, true, false}
 use mathlib.Core.Option.{none}
 use mathlib.Core.Path.{◌≡◌, refl, ◌∙◌}
@@ -29,7 +30,7 @@ marked (ok u) = refl
 marked (fault number index) = refl
 
 -- a global by what it was found to be
-module _ (nums directory ends scope : List ℕ) (at : ℕ) where
+module _ (nums directory ends : List ℕ) (scope : coded.Scope) (at : ℕ) where
   pub name-program : AsksName nums directory ends scope at → AsksProgram nums directory ends
   name-program asks =
       record { program = asks.scope_of.program; end = asks.seen.end; stands = asks.seen.program }
@@ -210,7 +211,7 @@ module _ (nums ends : List ℕ) (at : ℕ) where
       v.same ∙ rw (field-place nums at v.place v.tag_is v.stands)
 
 -- by the tag: what is asked, and what is judged
-module _ (nums directory ends scope : List ℕ) (at : ℕ) where
+module _ (nums directory ends : List ℕ) (scope : coded.Scope) (at : ℕ) where
   module _ (asks : AsksLeaf nums directory ends scope at) where
     abbrev view : ExprView nums ends asks.depth at asks.asks.expr (get_or nums at 0)
     view = expr-view asks.asks.stands
@@ -400,7 +401,7 @@ no_place (on-slice t h l x) a b c d = refl
 no_place (on-concatenation t x y) a b c d = refl
 no_place (on_call t f n xs) a b c d = refl
 
-module _ (nums scope : List ℕ) (at : ℕ) where
+module _ (nums : List ℕ) (scope : coded.Scope) (at : ℕ) where
   pub writable-inside : AsksWritable nums scope at → at < length nums
   writable-inside asks = (expr-begins asks.asks.stands).inside
 

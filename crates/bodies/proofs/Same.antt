@@ -1,5 +1,6 @@
 -- The two promises determine their answers: where some scope and some tree stand, two answers that a promise allows are
 -- equal.
+use Rattle.program.specs.declared.Scope as coded
 use mathlib.Core.Path.{◌≡◌, refl, sym, ◌∙◌}
 use mathlib.Core.List.{List}
 use Prim.Native.Nat.{ℕ, zero, suc}
@@ -42,7 +43,7 @@ told-stmt-once (Faulty number index) (Faulty m i) e =
     let g : index ≡ i = cc in
     rw (f, g)
 
-module _ (nums directory ends scope : List ℕ) (depth at : ℕ) where
+module _ (nums directory ends : List ℕ) (scope : coded.Scope) (depth at : ℕ) where
   pub expr-same : AsksExpr nums directory ends scope depth at → (a b : Typed)
       → JudgesExpr nums directory ends scope depth at a → JudgesExpr nums directory ends scope depth at b → a ≡ b
   expr-same asks a b j k =

@@ -1,4 +1,5 @@
 -- Statements that hold no statement, by their tag: what is asked of their operands, and what is judged.
+use Rattle.program.specs.declared.Scope as coded
 use mathlib.Core.Bool.{Bool, false}
 use mathlib.Core.Path.{◌≡◌, refl, sym, ap, ◌∙◌}
 use mathlib.Core.List.{List}
@@ -44,7 +45,7 @@ assign-is Γ at p e t u writes s i j k l =
     settled-as at (eqb t u) writes false ∙ rw (i, j, k, same-types t u, l)
 
 -- an assignment
-module _ (nums directory ends scope : List ℕ) (depth at : ℕ) where
+module _ (nums directory ends : List ℕ) (scope : coded.Scope) (depth at : ℕ) where
   assign-of : (s : Stmt) → StandsStmt nums ends depth at s → get_or nums at 0 ≡ 1 → AssignView nums ends depth at s
   unfolding StmtView
   assign-of s h k = rw k at (stmt-view h)
@@ -157,7 +158,7 @@ formed-call Γ at f xs =
     (λ c given. judge_given at c.parameters given) (λ c. c.returns)
     (λ returns. need 8 at (may_call Γ.body returns))
 
-module _ (nums directory ends scope : List ℕ) (depth at : ℕ) where
+module _ (nums directory ends : List ℕ) (scope : coded.Scope) (depth at : ℕ) where
   call-of : (s : Stmt) → StandsStmt nums ends depth at s → get_or nums at 0 ≡ 4 → CallStmtView nums ends depth at s
   unfolding StmtView
   call-of s h k = rw k at (stmt-view h)
@@ -335,7 +336,7 @@ mark-of (on-set-invalid t n) x₀ x₁ x₂ x₃ x₄ x₅ x₆ x₇ x₈ x₁�
 mark-of (on-extract t n) x₀ x₁ x₂ x₃ x₄ x₅ x₆ x₇ x₈ x₁₁ x₁₂ = absurd (x₁₁ t.holds.is)
 mark-of (on-verify t c e) x₀ x₁ x₂ x₃ x₄ x₅ x₆ x₇ x₈ x₁₁ x₁₂ = absurd (x₁₂ t.holds.is)
 
-module _ (nums directory ends scope : List ℕ) (depth at : ℕ) where
+module _ (nums directory ends : List ℕ) (scope : coded.Scope) (depth at : ℕ) where
   module _ (asks : AsksSingle nums directory ends scope depth at) where
     pub single-inside : at < length nums
     single-inside = (stmt-begins asks.asks.stands).inside

@@ -1,5 +1,6 @@
 -- The cycle of statements: what each step asks of the next, what it learns from it, and that the measure falls with the
 -- depth. The members of a block are a loop: what is pending of them.
+use Rattle.program.specs.declared.Scope as coded
 use mathlib.Core.Bool.{Bool, true, false, ◌&&◌, ◌||◌}
 use mathlib.Core.Path.{◌≡◌, refl, sym, ap, ◌∙◌}
 use mathlib.Core.List.{List}
@@ -25,7 +26,7 @@ use Rattle.bodies.proofs.Operating.{typed-is, fault-is}
 use Rattle.bodies.proofs.Judging.{rank}
 
 -- the measure
-module _ (nums directory ends scope : List ℕ) (depth at t : ℕ) where
+module _ (nums directory ends : List ℕ) (scope : coded.Scope) (depth at t : ℕ) where
   pub to-if : rank depth 2 ≡ t → rank depth 1 < t
   unfolding rank
   to-if e = omega arith
@@ -63,7 +64,7 @@ faulty-of (fault m i) number index c e =
     let g : i ≡ index = cc in
     rw (f, g)
 
-module _ {nums directory ends scope : List ℕ} {depth at : ℕ} {a : Formed}
+module _ {nums directory ends : List ℕ} {scope : coded.Scope} {depth at : ℕ} {a : Formed}
     (j : JudgesStmt nums directory ends scope depth at a)
     (Γ : Scope) (s : Stmt) (z : StandsScope nums directory ends scope Γ) (h : StandsStmt nums ends depth at s) where
   pub fine-is : (b : Bool) → a ≡ Fine b → FineOf (judge_stmt Γ s) b (returns_on s)
@@ -75,7 +76,7 @@ module _ {nums directory ends scope : List ℕ} {depth at : ℕ} {a : Formed}
   faulty-is number index k = faulty-of (judge_stmt Γ s) number index (returns_on s) (rw k at (j.judged Γ s z h))
 
 -- the branches of an if
-module _ (nums directory ends scope : List ℕ) (depth at : ℕ) where
+module _ (nums directory ends : List ℕ) (scope : coded.Scope) (depth at : ℕ) where
   module _ (asks : AsksBranches nums directory ends scope depth at) where
     pub first-branch : AsksStmt nums directory ends scope depth at
     first-branch =
@@ -132,7 +133,7 @@ if-is : (Γ : Scope) (at t : ℕ) (c : Expr) (a b s : Stmt) → s ≡ if_else at
 unfolding judge_stmt returns_on ◌>>=◌
 if-is Γ at t c a b s e f = rw (e, f, bool-rule at t)
 
-module _ (nums directory ends scope : List ℕ) (depth at : ℕ) where
+module _ (nums directory ends : List ℕ) (scope : coded.Scope) (depth at : ℕ) where
   if-of : (s : Stmt) → StandsStmt nums ends depth at s → get_or nums at 0 ≡ 2 → IfView nums ends depth at s
   unfolding StmtView
   if-of s h k = rw k at (stmt-view h)
@@ -211,7 +212,7 @@ record PendingOf (nums ends : List ℕ) (depth next left : ℕ) (returns : Bool)
   counted : left ≡ member_count rest
   same : (judge_stmts Γ ss >>= λ _. ok (some_returns ss)) ≡ (judge_stmts Γ rest >>= λ _. ok (returns || some_returns rest))
 
-pub record Pending (nums directory ends scope : List ℕ) (depth at count next left : ℕ) (returns : Bool) : Type 0 where
+pub record Pending (nums directory ends : List ℕ) (scope : coded.Scope) (depth at count next left : ℕ) (returns : Bool) : Type 0 where
   asks : AsksStmts nums directory ends scope depth next left
   pending : (Γ : Scope) (ss : Stmts) → StandsScope nums directory ends scope Γ → StandsStmts nums ends depth at ss
       → count ≡ member_count ss → PendingOf nums ends depth next left returns Γ ss
@@ -232,7 +233,7 @@ unfolding judge_stmts some_returns ◌>>=◌
 next-pending Γ returns each b first others rest ss e f g h k =
     k ∙ rw (e, f, h, g, either_same returns (returns_on first) (some_returns others))
 
-module _ (nums directory ends scope : List ℕ) (depth at count : ℕ) where
+module _ (nums directory ends : List ℕ) (scope : coded.Scope) (depth at count : ℕ) where
   pub pending-first : AsksStmts nums directory ends scope depth at count
       → Pending nums directory ends scope depth at count at count false
   pending-first asks = record {
@@ -305,7 +306,7 @@ module _ (nums directory ends scope : List ℕ) (depth at count : ℕ) where
 pub ruleset pending = (pending-first, pending_done, pending-asks, pending-ends, pending-fault, pending_next)
 
 -- a statement, by its tag
-module _ (nums directory ends scope : List ℕ) (depth at : ℕ) where
+module _ (nums directory ends : List ℕ) (scope : coded.Scope) (depth at : ℕ) where
   pub formed-again : (a : Formed) (b : Bool) → JudgesStmt nums directory ends scope depth at a → a ≡ Fine b
       → JudgesStmt nums directory ends scope depth at (Fine b)
   formed-again a b j k = rw k at j

@@ -1,4 +1,5 @@
 -- What the judgement of a call and of its arguments asks and promises.
+use Rattle.program.specs.declared.Scope as coded
 use Rattle.std.specs.Prelude.{Bool, true, false, ◌&&◌, ◌||◌, ◌≡◌, List, [], ◌∷◌, ℕ, suc, ◌+◌, ◌-◌, ◌≤◌, ◌<◌, ltb, eqb, length}
 use Rattle.std.proofs.Math.Option.{Option}
 use Rattle.rules.specs.Numbers.{most_bytes}
@@ -29,7 +30,7 @@ told_passed (Agree types places) = ok (record { types = types; places = places }
 told_passed (Unpassed number index) = fault number index
 
 -- so many arguments for the parameters that are left
-pub record AsksArgs (nums directory ends scope : List ℕ) (depth at count parameters left : ℕ) : Type 0 where
+pub record AsksArgs (nums directory ends : List ℕ) (scope : coded.Scope) (depth at count parameters left : ℕ) : Type 0 where
   pub scope_of : Scope
   pub arguments : Args
   pub wanted : List Parameter
@@ -40,7 +41,7 @@ pub record AsksArgs (nums directory ends scope : List ℕ) (depth at count param
   pub wanted_stand : StandsParameters nums parameters wanted
   pub left_is : left ≡ length wanted
 
-pub record JudgesArgs (nums directory ends scope : List ℕ) (depth at count parameters left : ℕ)
+pub record JudgesArgs (nums directory ends : List ℕ) (scope : coded.Scope) (depth at count parameters left : ℕ)
     (r : Passed) : Type 0 where
   pub judged : (Γ : Scope) (xs : Args) (ps : List Parameter) → StandsScope nums directory ends scope Γ
       → StandsArgs nums ends depth at xs → count ≡ arg_count xs → StandsParameters nums parameters ps → left ≡ length ps
@@ -105,14 +106,14 @@ unfoldable pub CalledMost : Called → Type 0
 CalledMost (Returns kind returns) = returns ≤ widest
 CalledMost (Uncalled number index) = Unit
 
-pub record AsksCall (nums directory ends scope : List ℕ) (depth at : ℕ) : Type 0 where
+pub record AsksCall (nums directory ends : List ℕ) (scope : coded.Scope) (depth at : ℕ) : Type 0 where
   pub scope_of : Scope
   pub callable : ℕ
   pub arguments : Args
   pub seen : StandsScope nums directory ends scope scope_of
   pub stands : StandsCall nums ends depth at callable arguments
 
-pub record JudgesCall (nums directory ends scope : List ℕ) (depth at : ℕ) (r : Called) : Type 0 where
+pub record JudgesCall (nums directory ends : List ℕ) (scope : coded.Scope) (depth at : ℕ) (r : Called) : Type 0 where
   pub judged : (Γ : Scope) (f : ℕ) (xs : Args) → StandsScope nums directory ends scope Γ
       → StandsCall nums ends depth at f xs → told_call r ≡ judge_call Γ at f xs
   pub most : CalledMost r

@@ -1,4 +1,5 @@
 -- What the judgement of statements asks and promises, from part to part.
+use Rattle.program.specs.declared.Scope as coded
 use Rattle.std.specs.Prelude.{Bool, true, false, ◌&&◌, ◌≡◌, List, ℕ, suc, ◌+◌, eqb, get_or}
 use Rattle.std.proofs.Math.ListN.{get_elem?}
 use Rattle.rules.specs.Syntax.{Stmt, Stmts}
@@ -25,8 +26,8 @@ ruled_both at first second = need 7 at first >>= λ _. ruled 8 at second false
 unfoldable pub chosen_as : ℕ → ℕ → Res Bool → Res Bool
 chosen_as at t branches = branches >>= λ returns. ruled 7 at (eqb t 0) returns
 
-pub record FormsIn (scope : List ℕ) (judge : Body → Res Bool) (r : Formed) : Type 0 where
-  pub judged : (b : Body) → body_numbered (get_or scope 5 0) (get_or scope 6 0) ≡ b → told_stmt r ≡ judge b
+pub record FormsIn (scope : coded.Scope) (judge : Body → Res Bool) (r : Formed) : Type 0 where
+  pub judged : (b : Body) → body_numbered (scope.kind) (scope.returns) ≡ b → told_stmt r ≡ judge b
 
 unfoldable pub called_in : ℕ → ℕ → ℕ → Body → Res Bool
 called_in at kind returns b = ruled 8 at (may_call b (returns_of kind returns)) false
@@ -37,7 +38,7 @@ returned_in at t b = judge_returned at b (ty_of t) >>= λ _. ok true
 unfoldable pub applied_in : ℕ → Body → Res Bool
 applied_in at b = ruled 8 at (is_apply b) false
 
-pub record Applies (nums directory scope : List ℕ) (at : ℕ) (r : Formed) : Type 0 where
+pub record Applies (nums directory : List ℕ) (scope : coded.Scope) (at : ℕ) (r : Formed) : Type 0 where
   pub judged : (ends : List ℕ) (Γ : Scope) → StandsScope nums directory ends scope Γ
       → told_stmt r ≡ (named (suc at) (get_elem? Γ.program.tables (get_or nums (at + 1) 0)) >>= λ _. applied_in at
       Γ.body)
@@ -48,27 +49,27 @@ left_in at b = ruled 8 at (may_leave b) false
 unfoldable pub parsed_in : ℕ → Bool → Body → Res Bool
 parsed_in at holds b = ruled_both at holds (is_state b)
 
-pub record MarksIn (nums directory ends scope : List ℕ) (at : ℕ) (r : Formed) : Type 0 where
+pub record MarksIn (nums directory ends : List ℕ) (scope : coded.Scope) (at : ℕ) (r : Formed) : Type 0 where
   pub judged : (Γ : Scope) → StandsScope nums directory ends scope Γ
       → told_stmt r ≡ (judge_header_at Γ at (get_or nums (at + 1) 0) >>= λ _. ok false)
 
-pub record ExtractsIn (nums directory ends scope : List ℕ) (at : ℕ) (r : Formed) : Type 0 where
+pub record ExtractsIn (nums directory ends : List ℕ) (scope : coded.Scope) (at : ℕ) (r : Formed) : Type 0 where
   pub judged : (Γ : Scope) → StandsScope nums directory ends scope Γ
       → told_stmt r ≡ (judge_global Γ at (get_or nums (at + 1) 0) (judge_extracted at) >>= λ _. ruled 8 at
       (is_state Γ.body) false)
 
 -- a statement of a tag; one that holds no statement
-pub record AsksTagged (tag : ℕ) (nums directory ends scope : List ℕ) (depth at : ℕ) : Type 0 where
+pub record AsksTagged (tag : ℕ) (nums directory ends : List ℕ) (scope : coded.Scope) (depth at : ℕ) : Type 0 where
   pub asks : AsksStmt nums directory ends scope depth at
   pub is : get_or nums at 0 ≡ tag
 
-pub record AsksSingle (nums directory ends scope : List ℕ) (depth at : ℕ) : Type 0 where
+pub record AsksSingle (nums directory ends : List ℕ) (scope : coded.Scope) (depth at : ℕ) : Type 0 where
   pub asks : AsksStmt nums directory ends scope depth at
   pub no_if : get_or nums at 0 ≡ 2 → ⊥
   pub no_block : get_or nums at 0 ≡ 3 → ⊥
 
 -- the two branches of an if, one behind the other
-pub record AsksBranches (nums directory ends scope : List ℕ) (depth at : ℕ) : Type 0 where
+pub record AsksBranches (nums directory ends : List ℕ) (scope : coded.Scope) (depth at : ℕ) : Type 0 where
   pub scope_of : Scope
   pub first : Stmt
   pub second : Stmt
@@ -76,19 +77,19 @@ pub record AsksBranches (nums directory ends scope : List ℕ) (depth at : ℕ) 
   pub first_stands : StandsStmt nums ends depth at first
   pub second_stands : StandsStmt nums ends depth (get_or ends at 0) second
 
-pub record JudgesBranches (nums directory ends scope : List ℕ) (depth at : ℕ) (r : Formed) : Type 0 where
+pub record JudgesBranches (nums directory ends : List ℕ) (scope : coded.Scope) (depth at : ℕ) (r : Formed) : Type 0 where
   pub judged : (Γ : Scope) (a b : Stmt) → StandsScope nums directory ends scope Γ → StandsStmt nums ends depth at a
       → StandsStmt nums ends depth (get_or ends at 0) b
       → told_stmt r ≡ (judge_stmt Γ a >>= λ _. judge_stmt Γ b >>= λ _. ok (returns_on a && returns_on b))
 
 -- so many members of a block
-pub record AsksStmts (nums directory ends scope : List ℕ) (depth at count : ℕ) : Type 0 where
+pub record AsksStmts (nums directory ends : List ℕ) (scope : coded.Scope) (depth at count : ℕ) : Type 0 where
   pub scope_of : Scope
   pub members : Stmts
   pub seen : StandsScope nums directory ends scope scope_of
   pub stand : StandsStmts nums ends depth at members
   pub counted : count ≡ member_count members
 
-pub record JudgesStmts (nums directory ends scope : List ℕ) (depth at count : ℕ) (r : Formed) : Type 0 where
+pub record JudgesStmts (nums directory ends : List ℕ) (scope : coded.Scope) (depth at count : ℕ) (r : Formed) : Type 0 where
   pub judged : (Γ : Scope) (ss : Stmts) → StandsScope nums directory ends scope Γ → StandsStmts nums ends depth at ss
       → count ≡ member_count ss → told_stmt r ≡ (judge_stmts Γ ss >>= λ _. ok (some_returns ss))

@@ -1,4 +1,5 @@
 -- What the functions below the passes ask and promise: literals, operators, places and names.
+use Rattle.program.specs.declared.Scope as coded
 use Rattle.std.specs.Prelude.{Bool, true, false, ◌||◌, ◌≡◌, List, ℕ, ◌+◌, ◌≤◌, ◌<◌, eqb, length, get_or}
 use Rattle.std.proofs.Math.Option.{Option, none, some}
 use Rattle.rules.specs.Numbers.{most_bytes}
@@ -21,8 +22,8 @@ pub record Tells (r : Typed) (is : Res Ty) : Type 0 where
   pub most : TyMost r
 
 -- in a body of a kind
-pub record TellsIn (scope : List ℕ) (judge : Body → Res Ty) (r : Typed) : Type 0 where
-  pub judged : (b : Body) → body_numbered (get_or scope 5 0) (get_or scope 6 0) ≡ b → told_ty r ≡ judge b
+pub record TellsIn (scope : coded.Scope) (judge : Body → Res Ty) (r : Typed) : Type 0 where
+  pub judged : (b : Body) → body_numbered (scope.kind) (scope.returns) ≡ b → told_ty r ≡ judge b
   pub most : TyMost r
 
 -- a type where a rule holds
@@ -129,26 +130,26 @@ pub record OperandsAt (nums : List ℕ) (at first : ℕ) (two : Bool) : Type 0 w
   pub two_is : two ≡ takes_two (get_or nums at 0)
 
 -- names: a scope is seen, and a number stands behind the tag
-pub record AsksName (nums directory ends scope : List ℕ) (at : ℕ) : Type 0 where
+pub record AsksName (nums directory ends : List ℕ) (scope : coded.Scope) (at : ℕ) : Type 0 where
   pub scope_of : Scope
   pub seen : StandsScope nums directory ends scope scope_of
   pub inside : at + 1 < length nums
 
-pub record TypedIn (nums directory ends scope : List ℕ) (judge : Scope → Res Ty) (r : Typed) : Type 0 where
+pub record TypedIn (nums directory ends : List ℕ) (scope : coded.Scope) (judge : Scope → Res Ty) (r : Typed) : Type 0 where
   pub judged : (Γ : Scope) → StandsScope nums directory ends scope Γ → told_ty r ≡ judge Γ
   pub most : TyMost r
 
-pub record AsksFieldName (nums directory ends scope : List ℕ) (at : ℕ) : Type 0 where
+pub record AsksFieldName (nums directory ends : List ℕ) (scope : coded.Scope) (at : ℕ) : Type 0 where
   pub name : AsksName nums directory ends scope at
   pub inside : at + 2 < length nums
 
 -- the same where only the numbers and the scope are looked at
-pub record AsksSlot (nums scope : List ℕ) (at : ℕ) : Type 0 where
+pub record AsksSlot (nums : List ℕ) (scope : coded.Scope) (at : ℕ) : Type 0 where
   pub directory : List ℕ
   pub ends : List ℕ
   pub asks : AsksName nums directory ends scope at
 
-pub record SlotTyped (nums scope : List ℕ) (judge : Scope → Res Ty) (r : Typed) : Type 0 where
+pub record SlotTyped (nums : List ℕ) (scope : coded.Scope) (judge : Scope → Res Ty) (r : Typed) : Type 0 where
   pub typed : (directory ends : List ℕ) → TypedIn nums directory ends scope judge r
 
 unfoldable pub local_ty : List ℕ → ℕ → Scope → Res Ty
@@ -191,8 +192,8 @@ pub record FindsHeader (nums directory ends : List ℕ) (h : ℕ) (r : Found) : 
       → FoundShape nums r (shape_in P (header h))
 
 -- a type behind a global that is seen
-pub record SeenTyped (scope : List ℕ) (at t : ℕ) (r : Typed) : Type 0 where
-  pub judged : (b : Body) → body_numbered (get_or scope 5 0) (get_or scope 6 0) ≡ b
+pub record SeenTyped (scope : coded.Scope) (at t : ℕ) (r : Typed) : Type 0 where
+  pub judged : (b : Body) → body_numbered (scope.kind) (scope.returns) ≡ b
       → told_ty r ≡ (need 8 at (sees_globals b) >>= λ _. ok (ty_of t))
   pub most : TyMost r
 
@@ -203,8 +204,8 @@ pub record AsksField (nums : List ℕ) (at header : ℕ) : Type 0 where
   pub count : Holds nums header (length widths)
   pub stand : StandsWidths nums (header + 1) widths
 
-pub record FieldTyped (nums scope : List ℕ) (at header : ℕ) (r : Typed) : Type 0 where
-  pub judged : (b : Body) → body_numbered (get_or scope 5 0) (get_or scope 6 0) ≡ b → (widths : List ℕ)
+pub record FieldTyped (nums : List ℕ) (scope : coded.Scope) (at header : ℕ) (r : Typed) : Type 0 where
+  pub judged : (b : Body) → body_numbered (scope.kind) (scope.returns) ≡ b → (widths : List ℕ)
       → Holds nums header (length widths) → StandsWidths nums (header + 1) widths
       → told_ty r ≡ (judge_field at (get_or nums (at + 2) 0) (a_header widths) >>= λ t. need 8 at
       (sees_globals b) >>= λ _. ok t)
@@ -222,31 +223,31 @@ pub record IsWhole (nums : List ℕ) (header : ℕ) (r : Bool) : Type 0 where
       → r ≡ whole_bytes widths
 
 -- whether the expression at an index is a place that may be written
-pub record AsksWritable (nums scope : List ℕ) (at : ℕ) : Type 0 where
+pub record AsksWritable (nums : List ℕ) (scope : coded.Scope) (at : ℕ) : Type 0 where
   pub directory : List ℕ
   pub ends : List ℕ
   pub depth : ℕ
   pub asks : AsksExpr nums directory ends scope depth at
 
-pub record IsWritable (nums scope : List ℕ) (at : ℕ) (r : Bool) : Type 0 where
+pub record IsWritable (nums : List ℕ) (scope : coded.Scope) (at : ℕ) (r : Bool) : Type 0 where
   pub told : (directory ends : List ℕ) (depth : ℕ) (Γ : Scope) (e : Expr) → StandsScope nums directory ends scope Γ
       → StandsExpr nums ends depth at e → r ≡ writable_in Γ (place_in e)
 
-pub record IsWritableParameter (nums scope : List ℕ) (at : ℕ) (r : Bool) : Type 0 where
+pub record IsWritableParameter (nums : List ℕ) (scope : coded.Scope) (at : ℕ) (r : Bool) : Type 0 where
   pub told : (directory ends : List ℕ) (Γ : Scope) → StandsScope nums directory ends scope Γ
       → r ≡ writable Γ (parameter (get_or nums (at + 1) 0))
 
 -- an expression that has no operands
-pub record AsksLeaf (nums directory ends scope : List ℕ) (at : ℕ) : Type 0 where
+pub record AsksLeaf (nums directory ends : List ℕ) (scope : coded.Scope) (at : ℕ) : Type 0 where
   pub depth : ℕ
   pub asks : AsksExpr nums directory ends scope depth at
   pub leaf : get_or nums at 0 < 7
 
-pub record JudgesLeaf (nums directory ends scope : List ℕ) (at : ℕ) (r : Typed) : Type 0 where
+pub record JudgesLeaf (nums directory ends : List ℕ) (scope : coded.Scope) (at : ℕ) (r : Typed) : Type 0 where
   pub judges : (depth : ℕ) → JudgesExpr nums directory ends scope depth at r
 
 -- one that has operands and is no call
-pub record AsksOperands (nums directory ends scope : List ℕ) (depth at : ℕ) : Type 0 where
+pub record AsksOperands (nums directory ends : List ℕ) (scope : coded.Scope) (depth at : ℕ) : Type 0 where
   pub asks : AsksExpr nums directory ends scope depth at
   pub inner : 7 ≤ get_or nums at 0
   pub no_call : get_or nums at 0 ≡ 13 → ⊥

@@ -6,20 +6,20 @@ ghost use Rattle.bodies.specs.Calls.{AsksWanted, IsWanted, Weighs, Settles};
 
 use super::types::{both, either};
 use super::{Called, Passed, Typed, Wanted};
-use program::{KIND, STATE};
+use program::{STATE, Scope};
 
 // The type of a call that is an expression: it calls functions only, and stands in no state.
-pub fn value_type(scope: &[u64; program::SCOPE], at: usize, kind: u64, returns: u64) -> Typed
+pub fn value_type(scope: &Scope, at: usize, kind: u64, returns: u64) -> Result<u64, Fault>
     requires { returns ≤ widest }
     ensures { TellsIn scope.now (value_ty at kind returns) result }
 {
-    if either(kind == 0, STATE <= scope[KIND]) {
-        Typed::Fault {
-            number: 8,
+    if either(kind == 0, STATE <= scope.kind) {
+        Err(Fault {
+            reason: Reason::Form,
             index: at,
-        }
+        })
     } else {
-        Typed::Ty(returns)
+        Ok(returns)
     }
 }
 
@@ -48,42 +48,54 @@ pub fn wanted_at(nums: &[u64], parameters: usize, left: u64) -> Wanted
 }
 
 // An argument of a type against its parameter, before those behind it.
-pub fn weigh(wanted: Wanted, t: u64, writable: bool, types: bool, places: bool) -> Passed
+pub fn weigh(
+    wanted: Wanted,
+    t: u64,
+    writable: bool,
+    types: bool,
+    places: bool,
+) -> Result<Agreed, Fault>
     ensures { Weighs wanted t writable types places result }
 {
     let present = wanted.present;
     if present {
         let place = either(wanted.direction < 2, writable);
-        Passed::Agree {
+        Ok(Agreed {
             types: both(wanted.ty == t, types),
             places: both(place, places),
-        }
+        })
     } else {
-        Passed::Agree {
+        Ok(Agreed {
             types: false,
             places: true,
-        }
+        })
     }
 }
 
 // A call whose arguments are judged.
-pub fn settle(at: usize, kind: u64, returns: u64, types: bool, places: bool) -> Called
+pub fn settle(
+    at: usize,
+    kind: u64,
+    returns: u64,
+    types: bool,
+    places: bool,
+) -> Result<Callee, Fault>
     requires { returns ≤ widest }
     ensures { Settles at kind returns types places result }
 {
     if types {
         if places {
-            Called::Returns { kind, returns }
+            Ok(Callee { kind, returns })
         } else {
-            Called::Uncalled {
-                number: 8,
+            Err(Fault {
+                reason: Reason::Form,
                 index: at,
-            }
+            })
         }
     } else {
-        Called::Uncalled {
-            number: 7,
+        Err(Fault {
+            reason: Reason::Type,
             index: at,
-        }
+        })
     }
 }

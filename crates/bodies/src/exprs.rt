@@ -2,12 +2,13 @@
 ghost use Rattle.bodies.specs.Claims.{AsksExpr, JudgesExpr};
 ghost use Rattle.bodies.specs.Leaves.{Inside, OperandsAt, AsksOperands};
 ghost use Rattle.bodies.specs.Calls.{AsksArgs, JudgesArgs, AsksCall, JudgesCall};
+ghost use Rattle.program.specs.In.{In};
 
 use super::calls::{settle, value_type, wanted_at, weigh};
 use super::places::{judge_leaf, writable_at};
 use super::types::{one_type, two_type};
 use super::{Called, Operands, Passed, Typed};
-use program::REACH;
+use program::{Scope, Source};
 
 // Where the first operand of an expression stands, by its tag, and whether it has a second.
 fn operands_at(nums: &[u64], at: usize) -> Operands
@@ -42,154 +43,100 @@ fn operands_at(nums: &[u64], at: usize) -> Operands
 // So many arguments, for the parameters that are left.
 #[cycle(expressions)]
 fn judge_args(
-    nums: &[u64],
-    ends: &[u64],
-    directory: &[u64; shape::SLOTS],
-    scope: &[u64; program::SCOPE],
+    source: &Source,
+    scope: &Scope,
     depth: usize,
     at: usize,
     count: u64,
     parameters: usize,
     left: u64,
-) -> Passed
-    requires { AsksArgs nums.now directory.now ends.now scope.now depth at count parameters left }
-    ensures { JudgesArgs nums.now directory.now ends.now scope.now depth at count parameters left result }
+) -> Result<Agreed, Fault>
+    requires { In AsksArgs source.now scope.now depth at count parameters left }
+    ensures { In JudgesArgs source.now scope.now depth at count parameters left result }
 {
     if count == 0 {
-        Passed::Agree {
+        Ok(Agreed {
             types: left == 0,
             places: true,
-        }
+        })
     } else {
-        let first = judge_expr(nums, ends, directory, scope, depth, at);
-        match first {
-            Typed::Ty(t) => {
-                let wanted = wanted_at(nums, parameters, left);
-                let behind = ends[at] as usize;
-                let rest = judge_args(
-                    nums,
-                    ends,
-                    directory,
-                    scope,
-                    depth,
-                    behind,
-                    count - 1,
-                    wanted.next,
-                    wanted.left,
-                );
-                match rest {
-                    Passed::Agree { types, places } => {
-                        let writable = writable_at(nums, scope, at);
-                        weigh(wanted, t, writable, types, places)
-                    }
-                    Passed::Unpassed { number, index } => Passed::Unpassed { number, index },
-                }
-            }
-            Typed::Fault { number, index } => Passed::Unpassed { number, index },
-        }
+        let t = judge_expr(source, scope, depth, at)?;
+        let wanted = wanted_at(source.nums, parameters, left);
+        let behind = source.ends[at] as usize;
+        let Agreed { types, places } = judge_args(
+            source,
+            scope,
+            depth,
+            behind,
+            count - 1,
+            wanted.next,
+            wanted.left,
+        )?;
+        let writable = writable_at(source.nums, scope, at);
+        weigh(wanted, t, writable, types, places)
     }
 }
 
 // A call: the name of what it calls, its arguments, and whether they agree with the parameters.
 #[cycle(expressions)]
-pub fn judge_call(
-    nums: &[u64],
-    ends: &[u64],
-    directory: &[u64; shape::SLOTS],
-    scope: &[u64; program::SCOPE],
-    depth: usize,
-    at: usize,
-) -> Called
-    requires { AsksCall nums.now directory.now ends.now scope.now depth at }
-    ensures { JudgesCall nums.now directory.now ends.now scope.now depth at result }
+pub fn judge_call(source: &Source, scope: &Scope, depth: usize, at: usize) -> Result<Callee, Fault>
+    requires { In AsksCall source.now scope.now depth at }
+    ensures { In JudgesCall source.now scope.now depth at result }
 {
-    let f = nums[at + 1];
-    if f < scope[REACH] {
-        let head = program::head_of(nums, ends, directory, f as usize);
-        let count = nums[at + 2];
-        let passed = judge_args(
-            nums,
-            ends,
-            directory,
+    let f = source.nums[at + 1];
+    if f < scope.reach {
+        let head = source.head_of(f as usize);
+        let count = source.nums[at + 2];
+        let Agreed { types, places } = judge_args(
+            source,
             scope,
             depth - 1,
             at + 3,
             count,
             head.parameters,
             head.count,
-        );
-        match passed {
-            Passed::Agree { types, places } => settle(at, head.kind, head.returns, types, places),
-            Passed::Unpassed { number, index } => Called::Uncalled { number, index },
-        }
+        )?;
+        settle(at, head.kind, head.returns, types, places)
     } else {
-        Called::Uncalled {
-            number: 6,
+        Err(Fault {
+            reason: Reason::Unnamed,
             index: at + 1,
-        }
+        })
     }
 }
 
 // An expression with one or two operands that is no call.
 #[cycle(expressions)]
-fn judge_operands(
-    nums: &[u64],
-    ends: &[u64],
-    directory: &[u64; shape::SLOTS],
-    scope: &[u64; program::SCOPE],
-    depth: usize,
-    at: usize,
-) -> Typed
-    requires { AsksOperands nums.now directory.now ends.now scope.now depth at }
-    ensures { JudgesExpr nums.now directory.now ends.now scope.now depth at result }
+fn judge_operands(source: &Source, scope: &Scope, depth: usize, at: usize) -> Result<u64, Fault>
+    requires { In AsksOperands source.now scope.now depth at }
+    ensures { In JudgesExpr source.now scope.now depth at result }
 {
-    let operands = operands_at(nums, at);
+    let operands = operands_at(source.nums, at);
     let first = operands.first;
-    let left = judge_expr(nums, ends, directory, scope, depth - 1, first);
-    match left {
-        Typed::Ty(t) => {
-            if operands.two {
-                let second = ends[first] as usize;
-                let right = judge_expr(nums, ends, directory, scope, depth - 1, second);
-                match right {
-                    Typed::Ty(u) => two_type(nums, at, t, u),
-                    Typed::Fault { number, index } => Typed::Fault { number, index },
-                }
-            } else {
-                one_type(nums, at, t)
-            }
-        }
-        Typed::Fault { number, index } => Typed::Fault { number, index },
+    let t = judge_expr(source, scope, depth - 1, first)?;
+    if operands.two {
+        let second = source.ends[first] as usize;
+        let u = judge_expr(source, scope, depth - 1, second)?;
+        two_type(source.nums, at, t, u)
+    } else {
+        one_type(source.nums, at, t)
     }
 }
 
 // The expression at an index, with so many levels left: its type, or its first fault.
 #[cycle(expressions)]
-pub fn judge_expr(
-    nums: &[u64],
-    ends: &[u64],
-    directory: &[u64; shape::SLOTS],
-    scope: &[u64; program::SCOPE],
-    depth: usize,
-    at: usize,
-) -> Typed
-    requires { AsksExpr nums.now directory.now ends.now scope.now depth at }
-    ensures { JudgesExpr nums.now directory.now ends.now scope.now depth at result }
+pub fn judge_expr(source: &Source, scope: &Scope, depth: usize, at: usize) -> Result<u64, Fault>
+    requires { In AsksExpr source.now scope.now depth at }
+    ensures { In JudgesExpr source.now scope.now depth at result }
 {
-    let tag = nums[at];
+    let tag = source.nums[at];
     if tag < 7 {
-        judge_leaf(nums, ends, directory, scope, at)
+        judge_leaf(source, scope, at)
     } else if tag == 13 {
-        let called = judge_call(nums, ends, directory, scope, depth, at);
-        match called {
-            Called::Returns { kind, returns } => value_type(scope, at, kind, returns),
-            Called::Uncalled { number, index } => Typed::Fault { number, index },
-        }
+        let Callee { kind, returns } = judge_call(source, scope, depth, at)?;
+        value_type(scope, at, kind, returns)
     } else {
-        let typed = judge_operands(nums, ends, directory, scope, depth, at);
-        match typed {
-            Typed::Ty(t) => Typed::Ty(t),
-            Typed::Fault { number, index } => Typed::Fault { number, index },
-        }
+        let t = judge_operands(source, scope, depth, at)?;
+        Ok(t)
     }
 }

@@ -4,84 +4,84 @@ ghost use Rattle.bodies.specs.Forms.{Forms, ruled, ruled_both, chosen_as, FormsI
 
 use super::Formed;
 use super::types::{both, either};
-use program::{APPLY, FUNCTION, KIND, RETURNS, STATE};
+use program::{APPLY, FUNCTION, STATE, Scope};
 
 // Fine where a rule holds, and its refusal where it does not.
-fn rule(number: u64, at: usize, holds: bool, returns: bool) -> Formed
+fn rule(number: u64, at: usize, holds: bool, returns: bool) -> Result<bool, Fault>
     ensures { Forms result (ruled number at holds returns) }
 {
     if holds {
-        Formed::Fine(returns)
+        Ok(returns)
     } else {
-        Formed::Faulty { number, index: at }
+        Err(Fault { reason, index: at })
     }
 }
 
 // Two rules of a statement that returns nothing: 7 where the first does not hold, then 8 where the second does not.
-pub fn rules(at: usize, first: bool, second: bool) -> Formed
+pub fn rules(at: usize, first: bool, second: bool) -> Result<bool, Fault>
     ensures { Forms result (ruled_both at first second) }
 {
     if first {
         rule(8, at, second, false)
     } else {
-        Formed::Faulty {
-            number: 7,
+        Err(Fault {
+            reason: Reason::Type,
             index: at,
-        }
+        })
     }
 }
 
 // A call that is a statement: a function calls functions only, and a state calls nothing.
-pub fn called(scope: &[u64; program::SCOPE], at: usize, kind: u64, returns: u64) -> Formed
+pub fn called(scope: &Scope, at: usize, kind: u64, returns: u64) -> Result<bool, Fault>
     ensures { FormsIn scope.now (called_in at kind returns) result }
 {
-    let some = either(kind != 0, scope[KIND] != FUNCTION);
-    let may = both(scope[KIND] < STATE, some);
+    let some = either(kind != 0, scope.kind != FUNCTION);
+    let may = both(scope.kind < STATE, some);
     rule(8, at, may, false)
 }
 
 // A value of a type that is returned: in functions only.
-pub fn returned(scope: &[u64; program::SCOPE], at: usize, t: u64) -> Formed
+pub fn returned(scope: &Scope, at: usize, t: u64) -> Result<bool, Fault>
     ensures { FormsIn scope.now (returned_in at t) result }
 {
-    if scope[KIND] == FUNCTION {
-        rule(7, at, scope[RETURNS] == t, true)
+    if scope.kind == FUNCTION {
+        rule(7, at, scope.returns == t, true)
     } else {
-        Formed::Faulty {
-            number: 8,
+        Err(Fault {
+            reason: Reason::Form,
             index: at,
-        }
+        })
     }
 }
 
 // An apply: in the apply body only.
-pub fn applied(scope: &[u64; program::SCOPE], at: usize) -> Formed
+pub fn applied(scope: &Scope, at: usize) -> Result<bool, Fault>
     ensures { FormsIn scope.now (applied_in at) result }
 {
-    rule(8, at, scope[KIND] == APPLY, false)
+    rule(8, at, scope.kind == APPLY, false)
 }
 
 // A return without a value, or an exit: in actions and the apply body only.
-pub fn left(scope: &[u64; program::SCOPE], at: usize) -> Formed
+pub fn left(scope: &Scope, at: usize) -> Result<bool, Fault>
     ensures { FormsIn scope.now (left_in at) result }
 {
-    let may = both(scope[KIND] != FUNCTION, scope[KIND] < STATE);
+    let may = both(scope.kind != FUNCTION, scope.kind < STATE);
     rule(8, at, may, false)
 }
 
 // A verify or an extract, whose own rule holds or not: in states only.
-pub fn parsed(scope: &[u64; program::SCOPE], at: usize, holds: bool) -> Formed
+pub fn parsed(scope: &Scope, at: usize, holds: bool) -> Result<bool, Fault>
     ensures { FormsIn scope.now (parsed_in at holds) result }
 {
-    rules(at, holds, STATE <= scope[KIND])
+    rules(at, holds, STATE <= scope.kind)
 }
 
 // An if with a condition of a type: a fault of its branches comes before its own.
-pub fn chosen(at: usize, t: u64, branches: Formed) -> Formed
+pub fn chosen(at: usize, t: u64, branches: Result<bool, Fault>) -> Result<bool, Fault>
     ensures { Forms result (chosen_as at t (told_stmt branches)) }
 {
     match branches {
-        Formed::Fine(returns) => rule(7, at, t == 0, returns),
-        Formed::Faulty { number, index } => Formed::Faulty { number, index },
+        Ok(returns) => rule(7, at, t == 0, returns),
+        Err(fault) => Err(fault),
     }
 }

@@ -19,29 +19,29 @@ pub fn either(a: bool, b: bool) -> bool
 }
 
 // A type where a rule holds, and 7 where it does not.
-fn checked(at: usize, holds: bool, then: u64) -> Typed
+fn checked(at: usize, holds: bool, then: u64) -> Result<u64, Fault>
     requires { MostIf holds then }
     ensures { Tells result (checked_ty at holds (ty_of then)) }
 {
     if holds {
-        Typed::Ty(then)
+        Ok(then)
     } else {
-        Typed::Fault {
-            number: 7,
+        Err(Fault {
+            reason: Reason::Type,
             index: at,
-        }
+        })
     }
 }
 
 // A bool literal.
-pub fn bool_type(at: usize, n: u64) -> Typed
+pub fn bool_type(at: usize, n: u64) -> Result<u64, Fault>
     ensures { Tells result (bool_ty at n) }
 {
     checked(at, n < 2, 0)
 }
 
 // A bits literal.
-pub fn bits_type(at: usize, width: u64, n: u64) -> Typed
+pub fn bits_type(at: usize, width: u64, n: u64) -> Result<u64, Fault>
     requires { IsWidth width }
     ensures { Tells result (bits_ty at width n) }
 {
@@ -49,22 +49,22 @@ pub fn bits_type(at: usize, width: u64, n: u64) -> Typed
 }
 
 // A slice of an operand.
-fn slice_type(at: usize, high: u64, low: u64, t: u64) -> Typed
+fn slice_type(at: usize, high: u64, low: u64, t: u64) -> Result<u64, Fault>
     requires { SliceMost high t }
     ensures { Tells result (slice_ty at high low (ty_of t)) }
 {
     if low <= high {
         checked(at, high < t, high - low + 1)
     } else {
-        Typed::Fault {
-            number: 7,
+        Err(Fault {
+            reason: Reason::Type,
             index: at,
-        }
+        })
     }
 }
 
 // An expression of one operand: not takes a bool; complement, cast and slice take bits.
-pub fn one_type(nums: &[u64], at: usize, t: u64) -> Typed
+pub fn one_type(nums: &[u64], at: usize, t: u64) -> Result<u64, Fault>
     requires { AsksOne nums.now at t }
     ensures { OneTyped nums.now at t result }
 {
@@ -78,7 +78,7 @@ pub fn one_type(nums: &[u64], at: usize, t: u64) -> Typed
 }
 
 // An operator, by its number, of two operands.
-fn operator_type(at: usize, operator: u64, t: u64, u: u64) -> Typed
+fn operator_type(at: usize, operator: u64, t: u64, u: u64) -> Result<u64, Fault>
     requires { TwoMost t u }
     ensures { OperatorTyped at operator t u result }
 {
@@ -96,7 +96,7 @@ fn operator_type(at: usize, operator: u64, t: u64, u: u64) -> Typed
 }
 
 // A concatenation of two operands.
-fn join_type(at: usize, t: u64, u: u64) -> Typed
+fn join_type(at: usize, t: u64, u: u64) -> Result<u64, Fault>
     requires { TwoMost t u }
     ensures { Tells result (join_ty at (ty_of t) (ty_of u)) }
 {
@@ -105,7 +105,7 @@ fn join_type(at: usize, t: u64, u: u64) -> Typed
 }
 
 // An expression of two operands.
-pub fn two_type(nums: &[u64], at: usize, t: u64, u: u64) -> Typed
+pub fn two_type(nums: &[u64], at: usize, t: u64, u: u64) -> Result<u64, Fault>
     requires { AsksTwo nums.now at t u }
     ensures { TwoTyped nums.now at t u result }
 {

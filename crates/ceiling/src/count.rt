@@ -2,9 +2,11 @@
 // the remaining depth at each construct inside another.
 ghost use Rattle.std.specs.Prelude.{◌≡◌, ◌<◌, length, get_or};
 ghost use Rattle.ceiling.specs.Claims.{AsksExpr, CountsExpr, AsksExprs, CountsExprs, AsksCall, CountsCall, AsksStmt, CountsStmt, CountsRun, AsksBranches, CountsBranches, AsksStmts, CountsStmts, AsksApplied, CountsApplied};
+ghost use Rattle.program.specs.In.{In};
 
 use crate::operands;
 use crate::operands::Runs;
+use program::Source;
 use shape::limits::DEEPEST;
 
 // Where the construct behind the one at `at` begins.
@@ -18,25 +20,23 @@ fn behind(ends: &[u64], at: usize) -> usize
 // The expression at `at`: itself, its operands, and the body that it calls.
 #[cycle(constructs)]
 pub(crate) fn count_expr(
-    nums: &[u64],
-    ends: &[u64],
-    directory: &[u64; shape::SLOTS],
+    source: &Source,
     tables: &[u64; 8],
     reach: usize,
     depth: usize,
     at: usize,
     kept: &mut [u64; 16],
 ) -> u64
-    requires { AsksExpr nums.now directory.now ends.now kept.old reach depth at }
-    ensures { CountsExpr nums.now directory.now ends.now kept.old kept.new reach depth at result }
+    requires { In AsksExpr source.now kept.old reach depth at }
+    ensures { In CountsExpr source.now kept.old kept.new reach depth at result }
 {
-    let held = operands::of_expr(nums, ends, depth, at);
+    let held = operands::of_expr(source, depth, at);
     let inside = count_exprs(
-        nums, ends, directory, tables, reach, held.lower, held.first, held.count, kept,
+        source, tables, reach, held.lower, held.first, held.count, kept,
     );
     let own = operands::add(1, inside);
     if held.calls {
-        let called = count_call(nums, ends, directory, tables, reach, held.callable, kept);
+        let called = count_call(source, tables, reach, held.callable, kept);
         operands::add(own, called)
     } else {
         own
@@ -46,9 +46,7 @@ pub(crate) fn count_expr(
 // So many expressions, one behind the other.
 #[cycle(constructs)]
 fn count_exprs(
-    nums: &[u64],
-    ends: &[u64],
-    directory: &[u64; shape::SLOTS],
+    source: &Source,
     tables: &[u64; 8],
     reach: usize,
     depth: usize,
@@ -56,16 +54,16 @@ fn count_exprs(
     count: usize,
     kept: &mut [u64; 16],
 ) -> u64
-    requires { AsksExprs nums.now directory.now ends.now kept.old reach depth at count }
-    ensures { CountsExprs nums.now directory.now ends.now kept.old kept.new reach depth at count result }
+    requires { In AsksExprs source.now kept.old reach depth at count }
+    ensures { In CountsExprs source.now kept.old kept.new reach depth at count result }
 {
     let mut total = 0;
     let mut next = at;
     let mut left = count;
     while 0 < left {
-        let one = count_expr(nums, ends, directory, tables, reach, depth, next, kept);
+        let one = count_expr(source, tables, reach, depth, next, kept);
         total = operands::add(total, one);
-        next = behind(ends, next);
+        next = behind(source.ends, next);
         left = left - 1;
     }
     total
@@ -74,25 +72,21 @@ fn count_exprs(
 // The body of callable f, worked out once.
 #[cycle(constructs)]
 pub(crate) fn count_call(
-    nums: &[u64],
-    ends: &[u64],
-    directory: &[u64; shape::SLOTS],
+    source: &Source,
     tables: &[u64; 8],
     reach: usize,
     f: u64,
     kept: &mut [u64; 16],
 ) -> u64
-    requires { AsksCall nums.now directory.now ends.now kept.old reach }
-    ensures { CountsCall nums.now directory.now ends.now kept.old kept.new reach f result }
+    requires { In AsksCall source.now kept.old reach }
+    ensures { In CountsCall source.now kept.old kept.new reach f result }
 {
     let number = f as usize;
     if number < reach {
         let known = kept[number];
         if known == 0 {
-            let frame = program::frame_of(nums, ends, directory, number);
-            let body = count_stmt(
-                nums, ends, directory, tables, number, DEEPEST, frame.body, kept,
-            );
+            let frame = source.frame_of(number);
+            let body = count_stmt(source, tables, number, DEEPEST, frame.body, kept);
             kept[number] = body;
             body
         } else {
@@ -106,60 +100,52 @@ pub(crate) fn count_call(
 // The statement at `at`: itself, its operands, and what it runs besides.
 #[cycle(constructs)]
 pub(crate) fn count_stmt(
-    nums: &[u64],
-    ends: &[u64],
-    directory: &[u64; shape::SLOTS],
+    source: &Source,
     tables: &[u64; 8],
     reach: usize,
     depth: usize,
     at: usize,
     kept: &mut [u64; 16],
 ) -> u64
-    requires { AsksStmt nums.now directory.now ends.now tables.now kept.old reach depth at }
-    ensures { CountsStmt nums.now directory.now ends.now tables.now kept.old kept.new reach depth at result }
+    requires { In AsksStmt source.now tables.now kept.old reach depth at }
+    ensures { In CountsStmt source.now tables.now kept.old kept.new reach depth at result }
 {
-    let held = operands::of_stmt(nums, ends, depth, at);
+    let held = operands::of_stmt(source, depth, at);
     let inside = count_exprs(
-        nums, ends, directory, tables, reach, held.lower, held.first, held.count, kept,
+        source, tables, reach, held.lower, held.first, held.count, kept,
     );
     let own = operands::add(1, inside);
-    let run = count_run(nums, ends, directory, tables, reach, depth, at, kept);
+    let run = count_run(source, tables, reach, depth, at, kept);
     operands::add(own, run)
 }
 
 // What the statement at `at` runs besides its operands.
 #[cycle(constructs)]
 fn count_run(
-    nums: &[u64],
-    ends: &[u64],
-    directory: &[u64; shape::SLOTS],
+    source: &Source,
     tables: &[u64; 8],
     reach: usize,
     depth: usize,
     at: usize,
     kept: &mut [u64; 16],
 ) -> u64
-    requires { AsksStmt nums.now directory.now ends.now tables.now kept.old reach depth at }
-    ensures { CountsRun nums.now directory.now ends.now tables.now kept.old kept.new reach depth at result }
+    requires { In AsksStmt source.now tables.now kept.old reach depth at }
+    ensures { In CountsRun source.now tables.now kept.old kept.new reach depth at result }
 {
-    let runs = operands::runs_of(nums, ends, depth, at);
+    let runs = operands::runs_of(source, depth, at);
     match runs {
         Runs::Branches {
             lower,
             first,
             second,
-        } => count_branches(
-            nums, ends, directory, tables, reach, lower, first, second, kept,
-        ),
+        } => count_branches(source, tables, reach, lower, first, second, kept),
         Runs::Members {
             lower,
             first,
             count,
-        } => count_stmts(
-            nums, ends, directory, tables, reach, lower, first, count, kept,
-        ),
-        Runs::Body(f) => count_call(nums, ends, directory, tables, reach, f, kept),
-        Runs::Applied(t) => applied(directory, tables, reach, t),
+        } => count_stmts(source, tables, reach, lower, first, count, kept),
+        Runs::Body(f) => count_call(source, tables, reach, f, kept),
+        Runs::Applied(t) => applied(source.directory, tables, reach, t),
         Runs::Nothing => 0,
     }
 }
@@ -167,9 +153,7 @@ fn count_run(
 // The larger of two branches.
 #[cycle(constructs)]
 fn count_branches(
-    nums: &[u64],
-    ends: &[u64],
-    directory: &[u64; shape::SLOTS],
+    source: &Source,
     tables: &[u64; 8],
     reach: usize,
     depth: usize,
@@ -177,20 +161,18 @@ fn count_branches(
     second: usize,
     kept: &mut [u64; 16],
 ) -> u64
-    requires { AsksBranches nums.now directory.now ends.now tables.now kept.old reach depth first second }
-    ensures { CountsBranches nums.now directory.now ends.now tables.now kept.old kept.new reach depth first second result }
+    requires { In AsksBranches source.now tables.now kept.old reach depth first second }
+    ensures { In CountsBranches source.now tables.now kept.old kept.new reach depth first second result }
 {
-    let one = count_stmt(nums, ends, directory, tables, reach, depth, first, kept);
-    let other = count_stmt(nums, ends, directory, tables, reach, depth, second, kept);
+    let one = count_stmt(source, tables, reach, depth, first, kept);
+    let other = count_stmt(source, tables, reach, depth, second, kept);
     if one < other { other } else { one }
 }
 
 // So many statements, one behind the other.
 #[cycle(constructs)]
 fn count_stmts(
-    nums: &[u64],
-    ends: &[u64],
-    directory: &[u64; shape::SLOTS],
+    source: &Source,
     tables: &[u64; 8],
     reach: usize,
     depth: usize,
@@ -198,16 +180,16 @@ fn count_stmts(
     count: usize,
     kept: &mut [u64; 16],
 ) -> u64
-    requires { AsksStmts nums.now directory.now ends.now tables.now kept.old reach depth at count }
-    ensures { CountsStmts nums.now directory.now ends.now tables.now kept.old kept.new reach depth at count result }
+    requires { In AsksStmts source.now tables.now kept.old reach depth at count }
+    ensures { In CountsStmts source.now tables.now kept.old kept.new reach depth at count result }
 {
     let mut total = 0;
     let mut next = at;
     let mut left = count;
     while 0 < left {
-        let one = count_stmt(nums, ends, directory, tables, reach, depth, next, kept);
+        let one = count_stmt(source, tables, reach, depth, next, kept);
         total = operands::add(total, one);
-        next = behind(ends, next);
+        next = behind(source.ends, next);
         left = left - 1;
     }
     total

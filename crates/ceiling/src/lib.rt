@@ -6,6 +6,9 @@
 
 ghost use Rattle.program.specs.Stands.{SomeProgram};
 ghost use Rattle.ceiling.specs.Claims.{TellsCeiling};
+ghost use Rattle.program.specs.In.{In};
+
+use program::Source;
 
 mod count;
 mod operands;
@@ -16,29 +19,18 @@ mod tables;
 pub const MOST_STEPS: u64 = 1000000;
 
 // The ceiling of the program that stands there: exact where it is at most MOST_STEPS, otherwise one more than that.
-pub fn ceiling_of(nums: &[u64], ends: &[u64], directory: &[u64; shape::SLOTS]) -> u64
-    requires { SomeProgram nums.now directory.now ends.now }
-    ensures { TellsCeiling nums.now directory.now ends.now result }
+pub fn ceiling_of(source: &Source) -> u64
+    requires { In SomeProgram source.now }
+    ensures { In TellsCeiling source.now result }
 {
-    let reach = directory[shape::CALLABLES] as usize;
-    let body = directory[shape::BODY] as usize;
+    let reach = source.directory[shape::CALLABLES] as usize;
+    let body = source.directory[shape::BODY] as usize;
     let none = [0u64; 8];
     let mut kept = [0u64; 16];
     let mut tables = [0u64; 8];
-    tables::count_tables(
-        nums,
-        ends,
-        directory,
-        &none,
-        reach,
-        0,
-        &mut kept,
-        &mut tables,
-    );
-    let parser = states::count_parser(nums, ends, directory, &none, reach, &mut kept);
+    tables::count_tables(source, &none, reach, 0, &mut kept, &mut tables);
+    let parser = states::count_parser(source, &none, reach, &mut kept);
     let depth = shape::limits::DEEPEST;
-    let run = count::count_stmt(
-        nums, ends, directory, &tables, reach, depth, body, &mut kept,
-    );
+    let run = count::count_stmt(source, &tables, reach, depth, body, &mut kept);
     operands::add(parser, run)
 }

@@ -5,6 +5,7 @@ ghost use Rattle.ceiling.specs.Cut.{cut};
 ghost use Rattle.ceiling.specs.Claims.{Plain, AsksHeld, HeldExpr, AsksHeldStmt, HeldStmt, HeldRuns};
 
 use crate::MOST_STEPS;
+use program::Source;
 
 // The tags of the expressions that have operands.
 const NOT: u64 = 7;
@@ -101,11 +102,11 @@ fn held(depth: usize, first: usize, count: usize) -> Operands
 }
 
 // The operands of the expression at `at`.
-pub(crate) fn of_expr(nums: &[u64], ends: &[u64], depth: usize, at: usize) -> Operands
-    requires { AsksHeld nums.now ends.now depth at }
-    ensures { HeldExpr nums.now ends.now depth at result.lower result.first result.count result.calls result.callable }
+pub(crate) fn of_expr(source: &Source, depth: usize, at: usize) -> Operands
+    requires { AsksHeld source.now.nums.now source.now.ends.now depth at }
+    ensures { HeldExpr source.now.nums.now source.now.ends.now depth at result.lower result.first result.count result.calls result.callable }
 {
-    let tag = nums[at];
+    let tag = source.nums[at];
     match tag {
         NOT => held(depth, at + 1, 1),
         COMPLEMENT => held(depth, at + 1, 1),
@@ -116,25 +117,25 @@ pub(crate) fn of_expr(nums: &[u64], ends: &[u64], depth: usize, at: usize) -> Op
         CALL => Operands {
             lower: depth - 1,
             first: at + 3,
-            count: nums[at + 2] as usize,
+            count: source.nums[at + 2] as usize,
             calls: true,
-            callable: nums[at + 1],
+            callable: source.nums[at + 1],
         },
         _ => held(depth, at, 0),
     }
 }
 
 // The operands of the statement at `at`.
-pub(crate) fn of_stmt(nums: &[u64], ends: &[u64], depth: usize, at: usize) -> StmtOperands
-    requires { AsksHeldStmt nums.now ends.now depth at }
-    ensures { HeldStmt nums.now ends.now depth at result.lower result.first result.count }
+pub(crate) fn of_stmt(source: &Source, depth: usize, at: usize) -> StmtOperands
+    requires { AsksHeldStmt source.now.nums.now source.now.ends.now depth at }
+    ensures { HeldStmt source.now.nums.now source.now.ends.now depth at result.lower result.first result.count }
 {
-    let tag = nums[at];
+    let tag = source.nums[at];
     let lower = depth - 1;
     match tag {
         ASSIGN => StmtOperands {
             lower: lower,
-            first: ends[at + 1] as usize,
+            first: source.ends[at + 1] as usize,
             count: 1,
         },
         IF => StmtOperands {
@@ -145,7 +146,7 @@ pub(crate) fn of_stmt(nums: &[u64], ends: &[u64], depth: usize, at: usize) -> St
         CALL_STMT => StmtOperands {
             lower: lower,
             first: at + 3,
-            count: nums[at + 2] as usize,
+            count: source.nums[at + 2] as usize,
         },
         RETURN_VALUE => StmtOperands {
             lower: lower,
@@ -166,28 +167,28 @@ pub(crate) fn of_stmt(nums: &[u64], ends: &[u64], depth: usize, at: usize) -> St
 }
 
 // What the statement at `at` runs besides its operands.
-pub(crate) fn runs_of(nums: &[u64], ends: &[u64], depth: usize, at: usize) -> Runs
-    requires { AsksHeldStmt nums.now ends.now depth at }
-    ensures { HeldRuns nums.now ends.now depth at result }
+pub(crate) fn runs_of(source: &Source, depth: usize, at: usize) -> Runs
+    requires { AsksHeldStmt source.now.nums.now source.now.ends.now depth at }
+    ensures { HeldRuns source.now.nums.now source.now.ends.now depth at result }
 {
-    let tag = nums[at];
+    let tag = source.nums[at];
     let lower = depth - 1;
     match tag {
         IF => {
-            let first = ends[at + 1] as usize;
+            let first = source.ends[at + 1] as usize;
             Runs::Branches {
                 lower: lower,
                 first: first,
-                second: ends[first] as usize,
+                second: source.ends[first] as usize,
             }
         }
         BLOCK => Runs::Members {
             lower: lower,
             first: at + 2,
-            count: nums[at + 1] as usize,
+            count: source.nums[at + 1] as usize,
         },
-        CALL_STMT => Runs::Body(nums[at + 1]),
-        APPLY => Runs::Applied(nums[at + 1]),
+        CALL_STMT => Runs::Body(source.nums[at + 1]),
+        APPLY => Runs::Applied(source.nums[at + 1]),
         _ => Runs::Nothing,
     }
 }

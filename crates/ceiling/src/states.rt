@@ -2,8 +2,10 @@
 // the states that its transition names. A slot that is not filled holds 0, as does a state that is not later. `tables`
 // is what the cycle takes: an apply in a state runs nothing, so it holds 0 throughout.
 ghost use Rattle.ceiling.specs.StateClaims.{CountsLed, AsksDearest, CountsDearest, AsksTransition, CountsTransition, AsksState, CountsState, AsksStates, CountsStates, AsksParser, CountsParser};
+ghost use Rattle.program.specs.In.{In};
 
 use crate::{count, operands};
+use program::Source;
 use shape::limits::DEEPEST;
 
 // How many states a program has at most.
@@ -38,26 +40,24 @@ fn dearest(nums: &[u64], filled: &[u64; MOST_STATES], at: usize, count: u64) -> 
 
 // The transition at `at`: its expression, and the dearest of the states that it names.
 fn count_transition(
-    nums: &[u64],
-    ends: &[u64],
-    directory: &[u64; shape::SLOTS],
+    source: &Source,
     tables: &[u64; 8],
     filled: &[u64; MOST_STATES],
     reach: usize,
     at: usize,
     kept: &mut [u64; 16],
 ) -> u64
-    requires { AsksTransition nums.now directory.now ends.now filled.now kept.old reach at }
-    ensures { CountsTransition nums.now directory.now ends.now filled.now kept.old kept.new reach at result }
+    requires { In AsksTransition source.now filled.now kept.old reach at }
+    ensures { In CountsTransition source.now filled.now kept.old kept.new reach at result }
 {
-    let tag = nums[at];
+    let tag = source.nums[at];
     match tag {
-        LEAD_TO => led_to(filled, nums[at + 1]),
+        LEAD_TO => led_to(filled, source.nums[at + 1]),
         SELECT => {
             let from = at + 1;
-            let on = count::count_expr(nums, ends, directory, tables, reach, DEEPEST, from, kept);
-            let pairs = ends[from] as usize;
-            let most = dearest(nums, filled, pairs + 1, nums[pairs]);
+            let on = count::count_expr(source, tables, reach, DEEPEST, from, kept);
+            let pairs = source.ends[from] as usize;
+            let most = dearest(source.nums, filled, pairs + 1, source.nums[pairs]);
             operands::add(on, most)
         }
         _ => 0,
@@ -66,71 +66,56 @@ fn count_transition(
 
 // The state of number s, with those behind it worked out.
 fn count_state(
-    nums: &[u64],
-    ends: &[u64],
-    directory: &[u64; shape::SLOTS],
+    source: &Source,
     tables: &[u64; 8],
     filled: &[u64; MOST_STATES],
     reach: usize,
     s: usize,
     kept: &mut [u64; 16],
 ) -> u64
-    requires { AsksState nums.now directory.now ends.now tables.now filled.now kept.old reach s }
-    ensures { CountsState nums.now directory.now ends.now tables.now filled.now kept.old kept.new reach s result }
+    requires { In AsksState source.now tables.now filled.now kept.old reach s }
+    ensures { In CountsState source.now tables.now filled.now kept.old kept.new reach s result }
 {
-    let at = program::state_of(nums, ends, directory, s);
-    let body = count::count_stmt(nums, ends, directory, tables, reach, DEEPEST, at, kept);
+    let at = source.state_of(s);
+    let body = count::count_stmt(source, tables, reach, DEEPEST, at, kept);
     let own = operands::add(1, body);
-    let next = ends[at] as usize;
-    let on = count_transition(nums, ends, directory, tables, filled, reach, next, kept);
+    let next = source.ends[at] as usize;
+    let on = count_transition(source, tables, filled, reach, next, kept);
     operands::add(own, on)
 }
 
 // The states below number s, each into its slot.
 fn count_states(
-    nums: &[u64],
-    ends: &[u64],
-    directory: &[u64; shape::SLOTS],
+    source: &Source,
     tables: &[u64; 8],
     reach: usize,
     s: usize,
     kept: &mut [u64; 16],
     filled: &mut [u64; MOST_STATES],
 )
-    requires { AsksStates nums.now directory.now ends.now tables.now kept.old filled.old reach s }
-    ensures { CountsStates nums.now directory.now ends.now tables.now kept.old kept.new filled.old filled.new reach s }
+    requires { In AsksStates source.now tables.now kept.old filled.old reach s }
+    ensures { In CountsStates source.now tables.now kept.old kept.new filled.old filled.new reach s }
 {
     if s != 0 {
         let last = s - 1;
-        let one = count_state(nums, ends, directory, tables, filled, reach, last, kept);
+        let one = count_state(source, tables, filled, reach, last, kept);
         filled[last] = one;
-        count_states(nums, ends, directory, tables, reach, last, kept, filled);
+        count_states(source, tables, reach, last, kept, filled);
     }
 }
 
 // The parser: its first state, with the dearest path behind it.
 pub(crate) fn count_parser(
-    nums: &[u64],
-    ends: &[u64],
-    directory: &[u64; shape::SLOTS],
+    source: &Source,
     tables: &[u64; 8],
     reach: usize,
     kept: &mut [u64; 16],
 ) -> u64
-    requires { AsksParser nums.now directory.now ends.now tables.now kept.old reach }
-    ensures { CountsParser nums.now directory.now ends.now tables.now kept.old kept.new reach result }
+    requires { In AsksParser source.now tables.now kept.old reach }
+    ensures { In CountsParser source.now tables.now kept.old kept.new reach result }
 {
-    let count = directory[shape::STATES] as usize;
+    let count = source.directory[shape::STATES] as usize;
     let mut filled = [0u64; MOST_STATES];
-    count_states(
-        nums,
-        ends,
-        directory,
-        tables,
-        reach,
-        count,
-        kept,
-        &mut filled,
-    );
+    count_states(source, tables, reach, count, kept, &mut filled);
     filled[0]
 }

@@ -1,4 +1,5 @@
 -- Every type that is judged in a program that stands is one of a value: its width is at most the widest.
+use Rattle.program.specs.declared.Scope as coded
 use mathlib.Core.Option.{Option, none, some}
 use mathlib.Core.Path.{◌≡◌}
 use mathlib.Core.List.{List}
@@ -94,7 +95,7 @@ operator-most at (logic o) t u m =
     ok-then (ok-self (need_ty at bool t)) λ _ _. ok-then (ok-self (need_ty at bool u)) λ _ _. is-bool
 
 -- expressions
-module _ (nums directory ends scope : List ℕ) (Γ : Scope) (z : StandsScope nums directory ends scope Γ) where
+module _ (nums directory ends : List ℕ) (scope : coded.Scope) (Γ : Scope) (z : StandsScope nums directory ends scope Γ) where
   global-most : (at g : ℕ) (asked : Shape → Res Ty) → ((x : Shape) → ShapeMost x → IfOk WidthMost (asked x))
       → IfOk WidthMost (judge_global Γ at g asked)
   unfolding judge_global
@@ -105,9 +106,9 @@ module _ (nums directory ends scope : List ℕ) (Γ : Scope) (z : StandsScope nu
   place-most : (at : ℕ) (p : Place) → IfOk WidthMost (judge_place Γ at p)
   unfolding judge_place
   place-most at (local i) = named_ok (suc at) (if-map (if-self (get_elem? Γ.locals i)) λ t e.
-      held-most nums _ t (type_at nums (get_or scope 3 0) Γ.locals z.locals i t e))
+      held-most nums _ t (type_at nums (scope.locals) Γ.locals z.locals i t e))
   place-most at (parameter i) = ok-then (ok-found (suc at) (get_elem? Γ.parameters i)) λ p e.
-      is_ok (held-most nums _ p.ty (parameter-at nums (get_or scope 1 0) Γ.parameters z.parameters i p e).ty)
+      is_ok (held-most nums _ p.ty (parameter-at nums (scope.parameters) Γ.parameters z.parameters i p e).ty)
   place-most at (global g) = global-most at g (judge_variable at) (variable-most at)
   place-most at (field g f) = global-most at g (judge_field at f) (field-most at f)
 

@@ -5,32 +5,30 @@ ghost use Rattle.rules.specs.Words.{widest};
 ghost use Rattle.rules.specs.Form.{fits};
 ghost use Rattle.program.specs.Codes.{ty_of};
 ghost use Rattle.form.specs.Parts.{AsksExist, JudgesExist, AsksGiven, GivesAll, AsksListed, JudgesListed, AsksLiterals, JudgesLiterals};
+ghost use Rattle.program.specs.In.{In};
 
 use super::Formal;
 use bodies::types::both;
-use program::ACTION;
+use program::{ACTION, Source};
 
 // The direction of a parameter that a table gives.
 const NO_DIRECTION: u64 = 0;
 
 // So many numbers each name a callable.
-pub fn actions_exist(nums: &[u64], directory: &[u64; shape::SLOTS], at: usize, count: u64) -> Formal
-    requires { AsksExist nums.now at count }
-    ensures { JudgesExist nums.now directory.now at count result }
+pub fn actions_exist(source: &Source, at: usize, count: u64) -> Result<(), Fault>
+    requires { AsksExist source.now.nums.now at count }
+    ensures { JudgesExist source.now.nums.now source.now.directory.now at count result }
 {
     if count == 0 {
-        Formal::Well
-    } else if nums[at] < directory[shape::CALLABLES] {
-        let rest = actions_exist(nums, directory, at + 1, count - 1);
-        match rest {
-            Formal::Well => Formal::Well,
-            Formal::Ill { number, index } => Formal::Ill { number, index },
-        }
+        Ok(())
+    } else if source.nums[at] < source.directory[shape::CALLABLES] {
+        actions_exist(source, at + 1, count - 1)?;
+        Ok(())
     } else {
-        Formal::Ill {
-            number: 6,
+        Err(Fault {
+            reason: Reason::Unnamed,
             index: at,
-        }
+        })
     }
 }
 
@@ -49,32 +47,23 @@ fn gives_all(nums: &[u64], at: usize, count: u64) -> bool
 }
 
 // So many numbers each name an action that a table may list.
-pub fn judge_listed(
-    nums: &[u64],
-    ends: &[u64],
-    directory: &[u64; shape::SLOTS],
-    at: usize,
-    count: u64,
-) -> Formal
-    requires { AsksListed nums.now directory.now ends.now at count }
-    ensures { JudgesListed nums.now directory.now ends.now at count result }
+pub fn judge_listed(source: &Source, at: usize, count: u64) -> Result<(), Fault>
+    requires { In AsksListed source.now at count }
+    ensures { In JudgesListed source.now at count result }
 {
     if count == 0 {
-        Formal::Well
+        Ok(())
     } else {
-        let head = program::head_of(nums, ends, directory, nums[at] as usize);
-        let given = gives_all(nums, head.parameters, head.count);
+        let head = source.head_of(source.nums[at] as usize);
+        let given = gives_all(source.nums, head.parameters, head.count);
         if both(head.kind == ACTION, given) {
-            let rest = judge_listed(nums, ends, directory, at + 1, count - 1);
-            match rest {
-                Formal::Well => Formal::Well,
-                Formal::Ill { number, index } => Formal::Ill { number, index },
-            }
+            judge_listed(source, at + 1, count - 1)?;
+            Ok(())
         } else {
-            Formal::Ill {
-                number: 8,
+            Err(Fault {
+                reason: Reason::Form,
                 index: at,
-            }
+            })
         }
     }
 }
@@ -92,22 +81,19 @@ fn fits_type(ty: u64, n: u64) -> bool
 }
 
 // So many literals each fit their parameter.
-pub fn literals_fit(nums: &[u64], parameter: usize, at: usize, count: u64) -> Formal
+pub fn literals_fit(nums: &[u64], parameter: usize, at: usize, count: u64) -> Result<(), Fault>
     requires { AsksLiterals nums.now parameter at count }
     ensures { JudgesLiterals nums.now parameter at count result }
 {
     if count == 0 {
-        Formal::Well
+        Ok(())
     } else if fits_type(nums[parameter + 1], nums[at]) {
-        let rest = literals_fit(nums, parameter + 2, at + 1, count - 1);
-        match rest {
-            Formal::Well => Formal::Well,
-            Formal::Ill { number, index } => Formal::Ill { number, index },
-        }
+        literals_fit(nums, parameter + 2, at + 1, count - 1)?;
+        Ok(())
     } else {
-        Formal::Ill {
-            number: 7,
+        Err(Fault {
+            reason: Reason::Type,
             index: at,
-        }
+        })
     }
 }

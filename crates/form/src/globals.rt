@@ -2,43 +2,36 @@
 ghost use Rattle.program.specs.Stands.{SomeProgram};
 ghost use Rattle.program.specs.Looks.{Has, globals_of};
 ghost use Rattle.form.specs.Parts.{JudgesPart, JudgesParts, global_is, globals_are};
+ghost use Rattle.program.specs.In.{In};
 
 use super::{Formal, rule};
+use program::Source;
 use shape::limits::FIRST_HEADER_TYPE;
 
 // A global.
-fn judge_global(nums: &[u64], ends: &[u64], directory: &[u64; shape::SLOTS], g: usize) -> Formal
-    requires { Has globals_of nums.now directory.now ends.now g }
-    ensures { JudgesPart globals_of global_is nums.now directory.now ends.now g result }
+fn judge_global(source: &Source, g: usize) -> Result<(), Fault>
+    requires { In (Has globals_of) source.now g }
+    ensures { In (JudgesPart globals_of global_is) source.now g result }
 {
-    let ty = program::global_of(nums, ends, directory, g);
-    let at = directory[shape::GLOBALS + 1 + g] as usize;
-    rule(6, at, ty < FIRST_HEADER_TYPE + directory[shape::HEADERS])
+    let ty = source.global_of(g);
+    let at = source.directory[shape::GLOBALS + 1 + g] as usize;
+    rule(
+        6,
+        at,
+        ty < FIRST_HEADER_TYPE + source.directory[shape::HEADERS],
+    )
 }
 
 // The globals from a number on.
-pub fn judge_globals(
-    nums: &[u64],
-    ends: &[u64],
-    directory: &[u64; shape::SLOTS],
-    g: usize,
-) -> Formal
-    requires { SomeProgram nums.now directory.now ends.now }
-    ensures { JudgesParts globals_of globals_are nums.now directory.now ends.now g result }
+pub fn judge_globals(source: &Source, g: usize) -> Result<(), Fault>
+    requires { In SomeProgram source.now }
+    ensures { In (JudgesParts globals_of globals_are) source.now g result }
 {
-    if g < directory[shape::GLOBALS] as usize {
-        let first = judge_global(nums, ends, directory, g);
-        match first {
-            Formal::Well => {
-                let rest = judge_globals(nums, ends, directory, g + 1);
-                match rest {
-                    Formal::Well => Formal::Well,
-                    Formal::Ill { number, index } => Formal::Ill { number, index },
-                }
-            }
-            Formal::Ill { number, index } => Formal::Ill { number, index },
-        }
+    if g < source.directory[shape::GLOBALS] as usize {
+        judge_global(source, g)?;
+        judge_globals(source, g + 1)?;
+        Ok(())
     } else {
-        Formal::Well
+        Ok(())
     }
 }

@@ -1,11 +1,12 @@
 // The keys of a table: the expression of each in the scope of the apply body, that each is bits, and their kinds.
 ghost use Rattle.form.specs.Parts.{AsksKey, JudgesKey, WithFirst, AsksKeys, JudgesKeys, AsksKinds, JudgesKinds};
+ghost use Rattle.program.specs.In.{In};
 
 use super::Formal;
 use bodies::Typed;
 use bodies::exprs::judge_expr;
 use bodies::types::{both, either};
-use program::{LPM, WIDTHS};
+use program::{LPM, Source, WIDTHS};
 use shape::limits::DEEPEST;
 
 // The keys are all bits; or the first that is a bool; or, before that, the first fault and its index.
@@ -17,12 +18,20 @@ pub enum Keyed {
 }
 
 // The type of a key's expression.
-fn key_type(nums: &[u64], ends: &[u64], directory: &[u64; shape::SLOTS], at: usize) -> Typed
-    requires { AsksKey nums.now directory.now ends.now at }
-    ensures { JudgesKey nums.now directory.now ends.now at result }
+fn key_type(source: &Source, at: usize) -> Result<u64, Fault>
+    requires { In AsksKey source.now at }
+    ensures { In JudgesKey source.now at result }
 {
-    let scope = [directory[shape::CALLABLES], 0, 0, 0, 0, program::APPLY, 0];
-    judge_expr(nums, ends, directory, &scope, DEEPEST, at)
+    let scope = [
+        source.directory[shape::CALLABLES],
+        0,
+        0,
+        0,
+        0,
+        program::APPLY,
+        0,
+    ];
+    judge_expr(source, &scope, DEEPEST, at)
 }
 
 // The keys from one on, whose expression stands at an index and has a type, where the others are judged.
@@ -50,54 +59,49 @@ fn with_first(at: usize, t: u64, rest: Keyed) -> Keyed
 
 // So many keys. Their widths go into the slots from `slot` on.
 pub fn judge_keys(
-    nums: &[u64],
-    ends: &[u64],
-    directory: &[u64; shape::SLOTS],
+    source: &Source,
     at: usize,
     count: u64,
     slot: usize,
     widths: &mut [u64; WIDTHS],
 ) -> Keyed
-    requires { AsksKeys nums.now directory.now ends.now at count slot }
-    ensures { JudgesKeys nums.now directory.now ends.now at count slot widths.old widths.new result }
+    requires { In AsksKeys source.now at count slot }
+    ensures { In JudgesKeys source.now at count slot widths.old widths.new result }
 {
     if count == 0 {
         Keyed::AllBits
     } else {
-        let first = key_type(nums, ends, directory, at + 1);
+        let first = key_type(source, at + 1);
         match first {
-            Typed::Ty(t) => {
+            Ok(t) => {
                 widths[slot] = t;
-                let next = ends[at + 1] as usize;
-                let rest = judge_keys(nums, ends, directory, next, count - 1, slot + 1, widths);
+                let next = source.ends[at + 1] as usize;
+                let rest = judge_keys(source, next, count - 1, slot + 1, widths);
                 with_first(at + 1, t, rest)
             }
-            Typed::Fault { number, index } => Keyed::Unkeyed { number, index },
+            Err(fault) => Keyed::Unkeyed { number, index },
         }
     }
 }
 
 // At most one of so many keys is lpm; `seen`: one stands before them.
-pub fn one_lpm(nums: &[u64], ends: &[u64], at: usize, count: u64, seen: bool) -> Formal
-    requires { AsksKinds nums.now ends.now at count }
-    ensures { JudgesKinds nums.now ends.now at count seen result }
+pub fn one_lpm(source: &Source, at: usize, count: u64, seen: bool) -> Result<(), Fault>
+    requires { AsksKinds source.now.nums.now source.now.ends.now at count }
+    ensures { JudgesKinds source.now.nums.now source.now.ends.now at count seen result }
 {
     if count == 0 {
-        Formal::Well
+        Ok(())
     } else {
-        let lpm = nums[at] == LPM;
+        let lpm = source.nums[at] == LPM;
         if both(seen, lpm) {
-            Formal::Ill {
-                number: 8,
+            Err(Fault {
+                reason: Reason::Form,
                 index: at,
-            }
+            })
         } else {
-            let next = ends[at + 1] as usize;
-            let rest = one_lpm(nums, ends, next, count - 1, either(seen, lpm));
-            match rest {
-                Formal::Well => Formal::Well,
-                Formal::Ill { number, index } => Formal::Ill { number, index },
-            }
+            let next = source.ends[at + 1] as usize;
+            one_lpm(source, next, count - 1, either(seen, lpm))?;
+            Ok(())
         }
     }
 }

@@ -6,6 +6,7 @@ ghost use Rattle.rules.specs.Form.{need};
 ghost use Rattle.program.specs.Stands.{SomeProgram};
 ghost use Rattle.form.specs.Claims.{JudgesForm};
 ghost use Rattle.form.specs.Parts.{Says, JudgesApply, JudgesBehind, LaysRest};
+ghost use Rattle.program.specs.In.{In};
 
 mod actions;
 mod callables;
@@ -18,7 +19,7 @@ use bodies::Formed;
 use bodies::stmts::judge_stmt;
 use callables::judge_callables;
 use globals::judge_globals;
-use program::WIDTHS;
+use program::{Source, WIDTHS};
 use shape::limits::DEEPEST;
 use states::judge_states;
 use tables::judge_tables;
@@ -31,89 +32,63 @@ pub enum Formal {
 }
 
 // Fine where a rule holds, and its refusal where it does not.
-fn rule(number: u64, at: usize, holds: bool) -> Formal
+fn rule(number: u64, at: usize, holds: bool) -> Result<(), Fault>
     ensures { Says result (need number at holds) }
 {
     if holds {
-        Formal::Well
+        Ok(())
     } else {
-        Formal::Ill { number, index: at }
+        Err(Fault { reason, index: at })
     }
 }
 
 // The apply body.
-fn judge_apply(nums: &[u64], ends: &[u64], directory: &[u64; shape::SLOTS]) -> Formal
-    requires { SomeProgram nums.now directory.now ends.now }
-    ensures { JudgesApply nums.now directory.now ends.now result }
+fn judge_apply(source: &Source) -> Result<(), Fault>
+    requires { In SomeProgram source.now }
+    ensures { In JudgesApply source.now result }
 {
-    let scope = [directory[shape::CALLABLES], 0, 0, 0, 0, program::APPLY, 0];
-    let body = directory[shape::BODY] as usize;
-    let formed = judge_stmt(nums, ends, directory, &scope, DEEPEST, body);
-    match formed {
-        Formed::Fine(_) => Formal::Well,
-        Formed::Faulty { number, index } => Formal::Ill { number, index },
-    }
+    let scope = [
+        source.directory[shape::CALLABLES],
+        0,
+        0,
+        0,
+        0,
+        program::APPLY,
+        0,
+    ];
+    let body = source.directory[shape::BODY] as usize;
+    let _ = judge_stmt(source, &scope, DEEPEST, body)?;
+    Ok(())
 }
 
 // A program behind its tables: its states, then its apply body.
-fn judge_behind_tables(nums: &[u64], ends: &[u64], directory: &[u64; shape::SLOTS]) -> Formal
-    requires { SomeProgram nums.now directory.now ends.now }
-    ensures { JudgesBehind nums.now directory.now ends.now result }
+fn judge_behind_tables(source: &Source) -> Result<(), Fault>
+    requires { In SomeProgram source.now }
+    ensures { In JudgesBehind source.now result }
 {
-    let states = judge_states(nums, ends, directory, 0);
-    match states {
-        Formal::Well => judge_apply(nums, ends, directory),
-        Formal::Ill { number, index } => Formal::Ill { number, index },
-    }
+    judge_states(source, 0)?;
+    judge_apply(source)
 }
 
 // A program behind its callables: its tables, then what stands behind them.
-fn judge_rest(
-    nums: &[u64],
-    ends: &[u64],
-    directory: &[u64; shape::SLOTS],
-    widths: &mut [u64; WIDTHS],
-) -> Formal
-    requires { SomeProgram nums.now directory.now ends.now }
-    ensures { LaysRest nums.now directory.now ends.now widths.old widths.new result }
+fn judge_rest(source: &Source, widths: &mut [u64; WIDTHS]) -> Result<(), Fault>
+    requires { In SomeProgram source.now }
+    ensures { In LaysRest source.now widths.old widths.new result }
 {
     let mut laid = *widths;
-    let tables = judge_tables(nums, ends, directory, 0, &mut laid);
-    match tables {
-        Formal::Well => {
-            let behind = judge_behind_tables(nums, ends, directory);
-            match behind {
-                Formal::Well => {
-                    *widths = laid;
-                    Formal::Well
-                }
-                Formal::Ill { number, index } => Formal::Ill { number, index },
-            }
-        }
-        Formal::Ill { number, index } => Formal::Ill { number, index },
-    }
+    judge_tables(source, 0, &mut laid)?;
+    judge_behind_tables(source)?;
+    *widths = laid;
+    Ok(())
 }
 
 // The first fault of a program, if it has one. Where it has none, the widths of each table's keys go into its slots; a
 // fault leaves them as found.
-pub fn judge_form(
-    nums: &[u64],
-    ends: &[u64],
-    directory: &[u64; shape::SLOTS],
-    widths: &mut [u64; WIDTHS],
-) -> Formal
-    requires { SomeProgram nums.now directory.now ends.now }
-    ensures { JudgesForm nums.now directory.now ends.now widths.old widths.new result }
+pub fn judge_form(source: &Source, widths: &mut [u64; WIDTHS]) -> Result<(), Fault>
+    requires { In SomeProgram source.now }
+    ensures { In JudgesForm source.now widths.old widths.new result }
 {
-    let globals = judge_globals(nums, ends, directory, 0);
-    match globals {
-        Formal::Well => {
-            let callables = judge_callables(nums, ends, directory, 0);
-            match callables {
-                Formal::Well => judge_rest(nums, ends, directory, widths),
-                Formal::Ill { number, index } => Formal::Ill { number, index },
-            }
-        }
-        Formal::Ill { number, index } => Formal::Ill { number, index },
-    }
+    judge_globals(source, 0)?;
+    judge_callables(source, 0)?;
+    judge_rest(source, widths)
 }

@@ -6,170 +6,121 @@ ghost use Rattle.program.specs.Stands.{SomeProgram};
 ghost use Rattle.program.specs.Looks.{Has, states_of};
 ghost use Rattle.form.specs.Parts.{JudgesPart, JudgesParts};
 ghost use Rattle.form.specs.States.{JudgesLater, AsksPairs, JudgesPairs, AsksValues, JudgesValues, AsksSelect, JudgesCases, JudgesSelect, AsksTransition, JudgesTransition};
+ghost use Rattle.program.specs.In.{In};
 
 use super::{Formal, rule};
 use bodies::exprs::judge_expr;
 use bodies::stmts::judge_stmt;
 use bodies::types::both;
 use bodies::{Formed, Typed};
-use program::STATE;
+use program::{STATE, Source};
 use shape::limits::DEEPEST;
 
 // The number at an index names a state behind state n.
-fn judge_later(nums: &[u64], directory: &[u64; shape::SLOTS], n: usize, at: usize) -> Formal
-    requires { at < length nums.now }
-    ensures { JudgesLater nums.now directory.now n at result }
+fn judge_later(source: &Source, n: usize, at: usize) -> Result<(), Fault>
+    requires { at < length source.now.nums.now }
+    ensures { JudgesLater source.now.nums.now source.now.directory.now n at result }
 {
-    let state = nums[at];
-    let later = both((n as u64) < state, state < directory[shape::STATES]);
+    let state = source.nums[at];
+    let later = both((n as u64) < state, state < source.directory[shape::STATES]);
     rule(6, at, later)
 }
 
 // So many pairs each name a state behind state n.
-fn judge_pairs(
-    nums: &[u64],
-    directory: &[u64; shape::SLOTS],
-    n: usize,
-    at: usize,
-    count: u64,
-) -> Formal
-    requires { AsksPairs nums.now at count }
-    ensures { JudgesPairs nums.now directory.now n at count result }
+fn judge_pairs(source: &Source, n: usize, at: usize, count: u64) -> Result<(), Fault>
+    requires { AsksPairs source.now.nums.now at count }
+    ensures { JudgesPairs source.now.nums.now source.now.directory.now n at count result }
 {
     if count == 0 {
-        Formal::Well
+        Ok(())
     } else {
-        let first = judge_later(nums, directory, n, at + 1);
-        match first {
-            Formal::Well => {
-                let rest = judge_pairs(nums, directory, n, at + 2, count - 1);
-                match rest {
-                    Formal::Well => Formal::Well,
-                    Formal::Ill { number, index } => Formal::Ill { number, index },
-                }
-            }
-            Formal::Ill { number, index } => Formal::Ill { number, index },
-        }
+        judge_later(source, n, at + 1)?;
+        judge_pairs(source, n, at + 2, count - 1)?;
+        Ok(())
     }
 }
 
 // So many pairs each have a value that fits a width.
-fn values_fit(nums: &[u64], width: u64, at: usize, count: u64) -> Formal
+fn values_fit(nums: &[u64], width: u64, at: usize, count: u64) -> Result<(), Fault>
     requires { AsksValues nums.now width at count }
     ensures { JudgesValues nums.now width at count result }
 {
     if count == 0 {
-        Formal::Well
+        Ok(())
     } else if words::widths::fits(width, nums[at]) {
-        let rest = values_fit(nums, width, at + 2, count - 1);
-        match rest {
-            Formal::Well => Formal::Well,
-            Formal::Ill { number, index } => Formal::Ill { number, index },
-        }
+        values_fit(nums, width, at + 2, count - 1)?;
+        Ok(())
     } else {
-        Formal::Ill {
-            number: 7,
+        Err(Fault {
+            reason: Reason::Type,
             index: at,
-        }
+        })
     }
 }
 
 // The select at an index behind its names: its expression is bits, and its values fit.
-fn judge_cases(nums: &[u64], ends: &[u64], directory: &[u64; shape::SLOTS], at: usize) -> Formal
-    requires { AsksSelect nums.now directory.now ends.now at }
-    ensures { JudgesCases nums.now directory.now ends.now at result }
+fn judge_cases(source: &Source, at: usize) -> Result<(), Fault>
+    requires { In AsksSelect source.now at }
+    ensures { In JudgesCases source.now at result }
 {
-    let scope = [directory[shape::CALLABLES], 0, 0, 0, 0, STATE, 0];
-    let selected = judge_expr(nums, ends, directory, &scope, DEEPEST, at + 1);
-    match selected {
-        Typed::Ty(t) => {
-            if t == 0 {
-                Formal::Ill {
-                    number: 7,
-                    index: at + 1,
-                }
-            } else {
-                let pairs = ends[at + 1] as usize;
-                values_fit(nums, t, pairs + 1, nums[pairs])
-            }
-        }
-        Typed::Fault { number, index } => Formal::Ill { number, index },
+    let scope = [source.directory[shape::CALLABLES], 0, 0, 0, 0, STATE, 0];
+    let t = judge_expr(source, &scope, DEEPEST, at + 1)?;
+    if t == 0 {
+        Err(Fault {
+            reason: Reason::Type,
+            index: at + 1,
+        })
+    } else {
+        let pairs = source.ends[at + 1] as usize;
+        values_fit(source.nums, t, pairs + 1, source.nums[pairs])
     }
 }
 
 // The select at an index, of state n.
-fn judge_select(
-    nums: &[u64],
-    ends: &[u64],
-    directory: &[u64; shape::SLOTS],
-    n: usize,
-    at: usize,
-) -> Formal
-    requires { AsksSelect nums.now directory.now ends.now at }
-    ensures { JudgesSelect nums.now directory.now ends.now n at result }
+fn judge_select(source: &Source, n: usize, at: usize) -> Result<(), Fault>
+    requires { In AsksSelect source.now at }
+    ensures { In JudgesSelect source.now n at result }
 {
-    let pairs = ends[at + 1] as usize;
-    let names = judge_pairs(nums, directory, n, pairs + 1, nums[pairs]);
-    match names {
-        Formal::Well => judge_cases(nums, ends, directory, at),
-        Formal::Ill { number, index } => Formal::Ill { number, index },
-    }
+    let pairs = source.ends[at + 1] as usize;
+    judge_pairs(source, n, pairs + 1, source.nums[pairs])?;
+    judge_cases(source, at)
 }
 
 // The transition at an index, of state n.
-fn judge_transition(
-    nums: &[u64],
-    ends: &[u64],
-    directory: &[u64; shape::SLOTS],
-    n: usize,
-    at: usize,
-) -> Formal
-    requires { AsksTransition nums.now directory.now ends.now at }
-    ensures { JudgesTransition nums.now directory.now ends.now n at result }
+fn judge_transition(source: &Source, n: usize, at: usize) -> Result<(), Fault>
+    requires { In AsksTransition source.now at }
+    ensures { In JudgesTransition source.now n at result }
 {
-    let tag = nums[at];
+    let tag = source.nums[at];
     match tag {
-        3 => judge_later(nums, directory, n, at + 1),
-        4 => judge_select(nums, ends, directory, n, at),
-        _ => Formal::Well,
+        3 => judge_later(source, n, at + 1),
+        4 => judge_select(source, n, at),
+        _ => Ok(()),
     }
 }
 
 // State number n.
-fn judge_state(nums: &[u64], ends: &[u64], directory: &[u64; shape::SLOTS], n: usize) -> Formal
-    requires { Has states_of nums.now directory.now ends.now n }
-    ensures { JudgesPart states_of judge_state nums.now directory.now ends.now n result }
+fn judge_state(source: &Source, n: usize) -> Result<(), Fault>
+    requires { In (Has states_of) source.now n }
+    ensures { In (JudgesPart states_of judge_state) source.now n result }
 {
-    let at = program::state_of(nums, ends, directory, n);
-    let scope = [directory[shape::CALLABLES], 0, 0, 0, 0, STATE, 0];
-    let body = judge_stmt(nums, ends, directory, &scope, DEEPEST, at);
-    match body {
-        Formed::Fine(_) => {
-            let transition = ends[at] as usize;
-            judge_transition(nums, ends, directory, n, transition)
-        }
-        Formed::Faulty { number, index } => Formal::Ill { number, index },
-    }
+    let at = source.state_of(n);
+    let scope = [source.directory[shape::CALLABLES], 0, 0, 0, 0, STATE, 0];
+    let _ = judge_stmt(source, &scope, DEEPEST, at)?;
+    let transition = source.ends[at] as usize;
+    judge_transition(source, n, transition)
 }
 
 // The states from number n on.
-pub fn judge_states(nums: &[u64], ends: &[u64], directory: &[u64; shape::SLOTS], n: usize) -> Formal
-    requires { SomeProgram nums.now directory.now ends.now }
-    ensures { JudgesParts states_of judge_states nums.now directory.now ends.now n result }
+pub fn judge_states(source: &Source, n: usize) -> Result<(), Fault>
+    requires { In SomeProgram source.now }
+    ensures { In (JudgesParts states_of judge_states) source.now n result }
 {
-    if n < directory[shape::STATES] as usize {
-        let first = judge_state(nums, ends, directory, n);
-        match first {
-            Formal::Well => {
-                let rest = judge_states(nums, ends, directory, n + 1);
-                match rest {
-                    Formal::Well => Formal::Well,
-                    Formal::Ill { number, index } => Formal::Ill { number, index },
-                }
-            }
-            Formal::Ill { number, index } => Formal::Ill { number, index },
-        }
+    if n < source.directory[shape::STATES] as usize {
+        judge_state(source, n)?;
+        judge_states(source, n + 1)?;
+        Ok(())
     } else {
-        Formal::Well
+        Ok(())
     }
 }

@@ -15,7 +15,7 @@ use Rattle.rules.specs.Answers.{checked, judging_program, judging}
 use Rattle.rules.proofs.Readers.{Kept, keeps-program}
 use Rattle.shape.specs.Ends.{ScansProgram}
 use Rattle.shape.specs.Scans.{forget, scan_of}
-use Rattle.shape.specs.declared.Scan.TheVariants.{Past}
+use Rattle.shape.specs.Scans.{Past}
 use Rattle.program.specs.Stands.{StandsProgram}
 use Rattle.program.specs.Keys.{WidthsOf}
 use Rattle.form.proofs.Laid.{keys-laid}

@@ -16,9 +16,8 @@ use Rattle.rules.proofs.Readers.{Kept, keeps-program}
 use Rattle.shape.specs.Directory.{directory_left, slot_count}
 use Rattle.shape.specs.Ends.{most_numbers, ScansProgram}
 use Rattle.shape.specs.Scans.{forget, scan_of}
-use Rattle.shape.specs.declared.Scan.{Scan}
-use Rattle.shape.specs.declared.Scan.TheVariants.{Past}
-use Rattle.shape.specs.declared.Scan.TheVariants as scans
+use Rattle.shape.specs.Scans.{Scan, Past}
+use Rattle.shape.specs.Scans as scans
 use Rattle.program.specs.Stands.{StandsProgram, SomeProgram}
 use Rattle.shape.proofs.Entries.{directory-long}
 use Rattle.shape.proofs.Lines.{scan-long}

@@ -6,9 +6,11 @@
 
 ghost use Rattle.judge.specs.Verdicts.{AsksJudge, JudgesNumbers};
 ghost use Rattle.judge.specs.Passes.{AsksBounded, JudgesBounded, AsksProgram, JudgesProgram};
+ghost use Rattle.program.specs.In.{In};
 
 use form::Formal;
 use lists::Listed;
+use program::Source;
 use shape::Scan;
 
 // Accepted: the ceiling, where the store begins, and how many numbers it has. Refused: the number of the refusal, and
@@ -28,52 +30,42 @@ pub enum Verdict {
 
 // The ceiling, then entries, store and packet, of a program whose form is fine.
 fn judge_bounded(
-    nums: &[u64],
-    ends: &[u64],
-    directory: &[u64; shape::SLOTS],
+    source: &Source,
     widths: &[u64; program::WIDTHS],
     entries: &mut [u64; lists::ENTRIES],
     offsets: &mut [u64; lists::OFFSETS],
-) -> Verdict
-    requires { AsksBounded nums.now directory.now ends.now widths.now }
-    ensures { JudgesBounded nums.now directory.now ends.now widths.now entries.old entries.new offsets.old offsets.new result }
+) -> Result<Verdict, Fault>
+    requires { In AsksBounded source.now widths.now }
+    ensures { In JudgesBounded source.now widths.now entries.old entries.new offsets.old offsets.new result }
 {
-    let ceiling = ceiling::ceiling_of(nums, ends, directory);
+    let ceiling = ceiling::ceiling_of(source);
     if ceiling::MOST_STEPS < ceiling {
-        Verdict::Refused {
-            number: 9,
+        Err(Fault {
+            reason: Reason::Ceiling,
             index: 0,
-        }
+        })
     } else {
-        let listed = lists::judge_lists(nums, ends, directory, widths, entries, offsets);
-        match listed {
-            Listed::Fine { store, length } => Verdict::Accepted {
-                ceiling,
-                store,
-                length,
-            },
-            Listed::Fault { number, index } => Verdict::Refused { number, index },
-        }
+        let Lists { store, length } = lists::judge_lists(source, widths, entries, offsets)?;
+        Ok(Verdict {
+            ceiling,
+            store,
+            length,
+        })
     }
 }
 
 // Form, then what follows it.
 fn judge_program(
-    nums: &[u64],
-    ends: &[u64],
-    directory: &[u64; shape::SLOTS],
+    source: &Source,
     widths: &mut [u64; program::WIDTHS],
     entries: &mut [u64; lists::ENTRIES],
     offsets: &mut [u64; lists::OFFSETS],
-) -> Verdict
-    requires { AsksProgram nums.now directory.now ends.now widths.old }
-    ensures { JudgesProgram nums.now directory.now ends.now widths.old widths.new entries.old entries.new offsets.old offsets.new result }
+) -> Result<Verdict, Fault>
+    requires { In AsksProgram source.now widths.old }
+    ensures { In JudgesProgram source.now widths.old widths.new entries.old entries.new offsets.old offsets.new result }
 {
-    let formal = form::judge_form(nums, ends, directory, widths);
-    match formal {
-        Formal::Well => judge_bounded(nums, ends, directory, widths, entries, offsets),
-        Formal::Ill { number, index } => Verdict::Refused { number, index },
-    }
+    form::judge_form(source, widths)?;
+    judge_bounded(source, widths, entries, offsets)
 }
 
 // The verdict on a list of numbers. It leaves the directory and the ends of the program (crate shape), the widths of its
@@ -85,13 +77,10 @@ pub fn judge(
     widths: &mut [u64; program::WIDTHS],
     entries: &mut [u64; lists::ENTRIES],
     offsets: &mut [u64; lists::OFFSETS],
-) -> Verdict
+) -> Result<Verdict, Fault>
     requires { AsksJudge nums.now directory.old ends.old widths.old }
     ensures { JudgesNumbers nums.now directory.old directory.new ends.old ends.new widths.old widths.new entries.old entries.new offsets.old offsets.new result }
 {
-    let scan = shape::scan_program(nums, directory, ends);
-    match scan {
-        Scan::Past(_) => judge_program(nums, ends, directory, widths, entries, offsets),
-        Scan::Fault { number, index } => Verdict::Refused { number, index },
-    }
+    let _ = shape::scan_program(nums, directory, ends)?;
+    judge_program(nums, ends, directory, widths, entries, offsets)
 }

@@ -14,8 +14,7 @@ use Rattle.rules.specs.Form.{and_look, fits}
 use Rattle.rules.specs.Lists.{passing, asked, action_at, numbered, read_arguments}
 use Rattle.rules.proofs.Predicates.{no_member}
 use Rattle.rules.proofs.Readers.{looked-in, looked-out}
-use Rattle.shape.specs.declared.Scan.{Scan}
-use Rattle.shape.specs.declared.Scan.TheVariants.{Past, Fault}
+use Rattle.shape.specs.Scans.{Scan, Past, Fault}
 use Rattle.shape.specs.Scans.{forget, scan_of}
 use Rattle.program.specs.Codes.{ty_of}
 use Rattle.program.specs.Stands.{StandsNumeral, StandsProgram}

@@ -13,8 +13,7 @@ use Rattle.rules.specs.Words.{widest, fits_width}
 use Rattle.rules.specs.Reading.{pure, looked_up}
 use Rattle.rules.specs.Form.{only_if}
 use Rattle.rules.specs.Lists.{passing, read_fields}
-use Rattle.shape.specs.declared.Scan.{Scan}
-use Rattle.shape.specs.declared.Scan.TheVariants.{Past, Fault}
+use Rattle.shape.specs.Scans.{Scan, Past, Fault}
 use Rattle.shape.specs.Scans.{forget, scan_of}
 use Rattle.program.specs.Stands.{HoldsWithin, StandsWidths}
 use Rattle.lists.specs.Parts.{width_under, Fielded, AsksFields, JudgesFields}

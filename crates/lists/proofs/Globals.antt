@@ -13,8 +13,7 @@ use Rattle.rules.specs.Reading.{Got, got, bad, and_then, ◌>>=◌, pure}
 use Rattle.rules.specs.Form.{and_look, fits, shape_in}
 use Rattle.rules.specs.Lists.{Cell, variable_cell, header_cell, passing, read_fields, read_shape, read_cell, read_cells}
 use Rattle.rules.proofs.Predicates.{no_member}
-use Rattle.shape.specs.declared.Scan.{Scan}
-use Rattle.shape.specs.declared.Scan.TheVariants.{Past, Fault}
+use Rattle.shape.specs.Scans.{Scan, Past, Fault}
 use Rattle.shape.specs.Scans.{forget, scan_of}
 use Rattle.shape.specs.Walks.{Laid, Lays}
 use Rattle.program.specs.Codes.{ty_of, header_number}

@@ -9,8 +9,7 @@ use Rattle.rules.specs.Words.{widest, fits_width, prefix_fits, mask_fits}
 use Rattle.rules.specs.Syntax.{KeyKind, exact, lpm, ternary, Key, Program}
 use Rattle.rules.specs.Reading.{◌>>=◌, pure}
 use Rattle.rules.specs.Lists.{passing, asked, key_width, read_pattern, read_patterns}
-use Rattle.shape.specs.declared.Scan.{Scan}
-use Rattle.shape.specs.declared.Scan.TheVariants.{Past, Fault}
+use Rattle.shape.specs.Scans.{Scan, Past, Fault}
 use Rattle.shape.specs.Scans.{forget, scan_of}
 use Rattle.program.specs.Codes.{key_kind_number}
 use Rattle.program.specs.Stands.{Holds, StandsKeys}

@@ -13,8 +13,7 @@ use Rattle.rules.specs.Syntax.{Program}
 use Rattle.rules.specs.Reading.{Reader, and_then, ◌>>=◌, pure, meaning, within, repeat, has_parser}
 use Rattle.rules.specs.Lists.{most_packet, passing, is_byte, read_bytes, read_packet, nothing_left}
 use Rattle.rules.proofs.Readers.{looked-in, looked-out}
-use Rattle.shape.specs.declared.Scan.{Scan}
-use Rattle.shape.specs.declared.Scan.TheVariants.{Past, Fault}
+use Rattle.shape.specs.Scans.{Scan, Past, Fault}
 use Rattle.shape.specs.Scans.{forget, scan_of}
 use Rattle.program.specs.Stands.{Holds}
 use Rattle.lists.specs.Listing.{read_last}

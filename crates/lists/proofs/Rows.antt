@@ -11,8 +11,7 @@ use Rattle.rules.specs.Syntax.{Program}
 use Rattle.rules.specs.Reading.{Got, got, bad, and_then, ◌>>=◌, pure, meaning, within, repeat}
 use Rattle.rules.specs.Lists.{Entry, most_entries, read_entry, read_entries}
 use Rattle.rules.proofs.Readers.{looked-in, looked-out}
-use Rattle.shape.specs.declared.Scan.{Scan}
-use Rattle.shape.specs.declared.Scan.TheVariants.{Past, Fault}
+use Rattle.shape.specs.Scans.{Scan, Past, Fault}
 use Rattle.shape.specs.Scans.{forget, scan_of}
 use Rattle.shape.specs.Walks.{Laid, Lays}
 use Rattle.program.specs.Stands.{StandsProgram}

@@ -14,8 +14,7 @@ use Rattle.rules.specs.Reading.{Got, got, bad, Reader, and_then, ◌>>=◌, pure
 use Rattle.rules.specs.Form.{only_if, fits}
 use Rattle.rules.specs.Lists.{passing}
 use Rattle.rules.proofs.Readers.{looked-in, looked-out}
-use Rattle.shape.specs.declared.Scan.{Scan}
-use Rattle.shape.specs.declared.Scan.TheVariants.{Past, Fault}
+use Rattle.shape.specs.Scans.{Scan, Past, Fault}
 use Rattle.shape.specs.Scans.{forget, scan_of}
 use Rattle.shape.specs.Walks.{Laid, Lays}
 use Rattle.program.specs.Codes.{ty_of}

@@ -13,8 +13,7 @@ use Rattle.rules.specs.Form.{and_look}
 use Rattle.rules.specs.Lists.{Entry, action_at, numbered, read_patterns, read_arguments, read_entry}
 use Rattle.rules.proofs.Predicates.{no_member}
 use Rattle.rules.proofs.Readers.{looked-in, looked-out}
-use Rattle.shape.specs.declared.Scan.{Scan}
-use Rattle.shape.specs.declared.Scan.TheVariants.{Past, Fault}
+use Rattle.shape.specs.Scans.{Scan, Past, Fault}
 use Rattle.shape.specs.Scans.{forget, scan_of}
 use Rattle.program.specs.Stands.{StandsTable, StandsProgram}
 use Rattle.program.specs.Looks.{Has, Finds, tables_of, FoundTable}

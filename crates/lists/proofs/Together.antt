@@ -8,8 +8,7 @@ use lib.ListN.{length, get_or, drop}
 use Rattle.rules.specs.Syntax.{Program}
 use Rattle.rules.specs.Reading.{bad, and_then, ◌>>=◌, pure}
 use Rattle.rules.specs.Lists.{slots_of, read_entries, read_cells, read_store}
-use Rattle.shape.specs.declared.Scan.{Scan}
-use Rattle.shape.specs.declared.Scan.TheVariants.{Past, Fault}
+use Rattle.shape.specs.Scans.{Scan, Past, Fault}
 use Rattle.shape.specs.Walks.{Laid, Lays}
 use Rattle.program.specs.Stands.{StandsProgram}
 use Rattle.lists.specs.declared.Listed.TheVariants as listed

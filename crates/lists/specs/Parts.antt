@@ -10,8 +10,7 @@ use Rattle.rules.specs.Syntax.{header, KeyKind, exact, lpm, ternary, Global, Par
 use Rattle.rules.specs.Reading.{Reader, ◌>>=◌, pure, looked_up, repeat, most_tables, most_keys, most_actions}
 use Rattle.rules.specs.Form.{shape_in}
 use Rattle.rules.specs.Lists.{Pattern, exactly, prefixed, masked, Entry, Cell, passing, key_width, action_at, numbered, read_pattern, read_patterns, read_arguments, read_entry, read_entries, read_fields, read_cell, read_cells, read_packet}
-use Rattle.shape.specs.declared.Scan.{Scan}
-use Rattle.shape.specs.declared.Scan.TheVariants.{Fault}
+use Rattle.shape.specs.Scans.{Scan, Fault}
 use Rattle.shape.specs.Scans.{scan_of}
 use Rattle.shape.specs.Walks.{Lays}
 use Rattle.program.specs.Codes.{key_kind_number}

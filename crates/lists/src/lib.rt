@@ -4,6 +4,7 @@
 #![tactic(auto)]
 
 ghost use Rattle.lists.specs.Listing.{AsksLists, JudgesLists};
+ghost use Rattle.program.specs.In.{In};
 
 mod entries;
 mod packet;
@@ -13,7 +14,7 @@ mod values;
 
 use entries::entry_list_at;
 use packet::last_at;
-use program::WIDTHS;
+use program::{Source, WIDTHS};
 use shape::Scan;
 use store::cells_at;
 
@@ -34,42 +35,25 @@ pub enum Listed {
 // each begins go into `entries`, and how many numbers of the store stand before each global, and in all, into `offsets`.
 // A fault leaves both as found.
 pub fn judge_lists(
-    nums: &[u64],
-    ends: &[u64],
-    directory: &[u64; shape::SLOTS],
+    source: &Source,
     widths: &[u64; WIDTHS],
     entries: &mut [u64; ENTRIES],
     offsets: &mut [u64; OFFSETS],
-) -> Listed
-    requires { AsksLists nums.now directory.now ends.now widths.now }
-    ensures { JudgesLists nums.now directory.now ends.now widths.now entries.old entries.new offsets.old offsets.new result }
+) -> Result<Lists, Fault>
+    requires { In AsksLists source.now widths.now }
+    ensures { In JudgesLists source.now widths.now entries.old entries.new offsets.old offsets.new result }
 {
     let mut starts = *entries;
-    let end = directory[shape::END] as usize;
-    let behind = entry_list_at(nums, ends, directory, widths, end, &mut starts);
-    match behind {
-        Scan::Past(store) => {
-            let mut slots = *offsets;
-            let globals = directory[shape::GLOBALS];
-            let last = cells_at(nums, ends, directory, 0, globals, store, store, &mut slots);
-            match last {
-                Scan::Past(next) => {
-                    let rest = last_at(nums, next);
-                    match rest {
-                        Scan::Past(_) => {
-                            *entries = starts;
-                            *offsets = slots;
-                            Listed::Fine {
-                                store: store,
-                                length: next - store,
-                            }
-                        }
-                        Scan::Fault { number, index } => Listed::Fault { number, index },
-                    }
-                }
-                Scan::Fault { number, index } => Listed::Fault { number, index },
-            }
-        }
-        Scan::Fault { number, index } => Listed::Fault { number, index },
-    }
+    let end = source.directory[shape::END] as usize;
+    let store = entry_list_at(source, widths, end, &mut starts)?;
+    let mut slots = *offsets;
+    let globals = source.directory[shape::GLOBALS];
+    let next = cells_at(source, 0, globals, store, store, &mut slots)?;
+    let _ = last_at(source.nums, next)?;
+    *entries = starts;
+    *offsets = slots;
+    Ok(Lists {
+        store: store,
+        length: next - store,
+    })
 }

@@ -25,16 +25,11 @@ fn bytes_at(nums: &[u64], count: u64, at: usize) -> Scan
     let mut next = at;
     let mut left = count;
     while left != 0 {
-        let one = value_at(nums, PACKET, BYTE, next);
-        match one {
-            Scan::Past(end) => {
-                next = end;
-                left -= 1;
-            }
-            Scan::Fault { number, index } => return Scan::Fault { number, index },
-        }
+        let end = value_at(nums, PACKET, BYTE, next)?;
+        next = end;
+        left -= 1;
     }
-    Scan::Past(next)
+    Ok(next)
 }
 
 // A list of bytes, its count first.
@@ -46,16 +41,16 @@ fn byte_list_at(nums: &[u64], at: usize) -> Scan
         if count <= MOST_PACKET {
             bytes_at(nums, count, at + 1)
         } else {
-            Scan::Fault {
-                number: PACKET,
+            Err(Fault {
+                reason: PACKET,
                 index: at,
-            }
+            })
         }
     } else {
-        Scan::Fault {
-            number: PACKET,
+        Err(Fault {
+            reason: PACKET,
             index: at,
-        }
+        })
     }
 }
 
@@ -67,7 +62,7 @@ fn packet_at(nums: &[u64], at: usize) -> Scan
     if has_parser(nums[0]) {
         byte_list_at(nums, at)
     } else {
-        Scan::Past(at)
+        Ok(at)
     }
 }
 
@@ -76,18 +71,13 @@ pub fn last_at(nums: &[u64], at: usize) -> Scan
     requires { 0 < length nums.now }
     ensures { JudgesLast nums.now at result }
 {
-    let packet = packet_at(nums, at);
-    match packet {
-        Scan::Past(next) => {
-            if next < nums.len() {
-                Scan::Fault {
-                    number: LEFT_OVER,
-                    index: next,
-                }
-            } else {
-                Scan::Past(next)
-            }
-        }
-        Scan::Fault { number, index } => Scan::Fault { number, index },
+    let next = packet_at(nums, at)?;
+    if next < nums.len() {
+        Err(Fault {
+            reason: LEFT_OVER,
+            index: next,
+        })
+    } else {
+        Ok(next)
     }
 }

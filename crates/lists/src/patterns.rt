@@ -8,7 +8,7 @@ ghost use Rattle.lists.specs.Parts.{JudgesLimit, JudgesPattern, AsksPatterns, Ju
 
 use super::entries::ENTRY;
 use super::values::value_at;
-use program::{EXACT, LPM, WIDTHS};
+use program::{EXACT, LPM, Source, WIDTHS};
 use shape::Scan;
 
 // A prefix length within the width, outside which the value is 0.
@@ -18,18 +18,18 @@ fn prefix_at(nums: &[u64], width: u64, value: u64, at: usize) -> Scan
 {
     if at < nums.len() {
         if words::keys::prefix_fits(width, value, nums[at]) {
-            Scan::Past(at + 1)
+            Ok(at + 1)
         } else {
-            Scan::Fault {
-                number: ENTRY,
+            Err(Fault {
+                reason: ENTRY,
                 index: at,
-            }
+            })
         }
     } else {
-        Scan::Fault {
-            number: ENTRY,
+        Err(Fault {
+            reason: ENTRY,
             index: at,
-        }
+        })
     }
 }
 
@@ -40,18 +40,18 @@ fn mask_at(nums: &[u64], width: u64, value: u64, at: usize) -> Scan
 {
     if at < nums.len() {
         if words::keys::mask_fits(width, value, nums[at]) {
-            Scan::Past(at + 1)
+            Ok(at + 1)
         } else {
-            Scan::Fault {
-                number: ENTRY,
+            Err(Fault {
+                reason: ENTRY,
                 index: at,
-            }
+            })
         }
     } else {
-        Scan::Fault {
-            number: ENTRY,
+        Err(Fault {
+            reason: ENTRY,
             index: at,
-        }
+        })
     }
 }
 
@@ -61,7 +61,7 @@ fn limit_at(nums: &[u64], kind: u64, width: u64, value: u64, at: usize) -> Scan
     ensures { JudgesLimit nums.now kind width value at result }
 {
     if kind == EXACT {
-        Scan::Past(at)
+        Ok(at)
     } else if kind == LPM {
         prefix_at(nums, width, value, at)
     } else {
@@ -74,47 +74,34 @@ fn pattern_at(nums: &[u64], kind: u64, width: u64, at: usize) -> Scan
     requires { width ≤ widest }
     ensures { JudgesPattern nums.now kind width at result }
 {
-    let value = value_at(nums, ENTRY, width, at);
-    match value {
-        Scan::Past(next) => limit_at(nums, kind, width, nums[at], next),
-        Scan::Fault { number, index } => Scan::Fault { number, index },
-    }
+    let next = value_at(nums, ENTRY, width, at)?;
+    limit_at(nums, kind, width, nums[at], next)
 }
 
 // What an entry asks of so many keys, the first of which stands at `key`; their widths stand from `slot` on.
 pub fn patterns_at(
-    nums: &[u64],
-    ends: &[u64],
+    source: &Source,
     widths: &[u64; WIDTHS],
     key: usize,
     count: u64,
     slot: usize,
     at: usize,
 ) -> Scan
-    requires { AsksPatterns nums.now ends.now widths.now key count slot }
-    ensures { JudgesPatterns nums.now ends.now widths.now key count slot at result }
+    requires { AsksPatterns source.now.nums.now source.now.ends.now widths.now key count slot }
+    ensures { JudgesPatterns source.now.nums.now source.now.ends.now widths.now key count slot at result }
 {
     if count == 0 {
-        Scan::Past(at)
+        Ok(at)
     } else {
-        let first = pattern_at(nums, nums[key], widths[slot], at);
-        match first {
-            Scan::Past(next) => {
-                let rest = patterns_at(
-                    nums,
-                    ends,
-                    widths,
-                    ends[key + 1] as usize,
-                    count - 1,
-                    slot + 1,
-                    next,
-                );
-                match rest {
-                    Scan::Past(last) => Scan::Past(last),
-                    Scan::Fault { number, index } => Scan::Fault { number, index },
-                }
-            }
-            Scan::Fault { number, index } => Scan::Fault { number, index },
-        }
+        let next = pattern_at(source.nums, source.nums[key], widths[slot], at)?;
+        let last = patterns_at(
+            source,
+            widths,
+            source.ends[key + 1] as usize,
+            count - 1,
+            slot + 1,
+            next,
+        )?;
+        Ok(last)
     }
 }

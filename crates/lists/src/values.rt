@@ -18,18 +18,18 @@ pub fn value_at(nums: &[u64], fault: u64, width: u64, at: usize) -> Scan
 {
     if at < nums.len() {
         if words::widths::fits(width, nums[at]) {
-            Scan::Past(at + 1)
+            Ok(at + 1)
         } else {
-            Scan::Fault {
-                number: fault,
+            Err(Fault {
+                reason: fault,
                 index: at,
-            }
+            })
         }
     } else {
-        Scan::Fault {
-            number: fault,
+        Err(Fault {
+            reason: fault,
             index: at,
-        }
+        })
     }
 }
 

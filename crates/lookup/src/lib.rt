@@ -7,7 +7,7 @@ ghost use Rattle.shape.specs.Directory.{entries_slot};
 ghost use Rattle.lookup.specs.LookingUp.{AsksLook, TellsLookUp};
 
 use looking::{longest_wins, look_from};
-use program::MOST_KEYS;
+use program::{MOST_KEYS, Source};
 use shape::ENTRIES;
 
 mod looking;
@@ -36,28 +36,19 @@ pub enum Lookup {
 }
 
 // The entry that table `t`, which stands at `table`, finds by its keys' numbers.
-pub fn look_up(
-    nums: &[u64],
-    ends: &[u64],
-    directory: &[u64; shape::SLOTS],
-    keys: &[u64; MOST_KEYS],
-    t: u64,
-    table: usize,
-) -> Lookup
-    requires { AsksLook nums.now ends.now directory.now keys.now t table (entries_slot + 1) (get_or directory.now entries_slot 0) }
-    ensures { TellsLookUp nums.now ends.now directory.now keys.now t table result }
+pub fn look_up(source: &Source, keys: &[u64; MOST_KEYS], t: u64, table: usize) -> Lookup
+    requires { AsksLook source.now.nums.now source.now.ends.now source.now.directory.now keys.now t table (entries_slot + 1) (get_or source.now.directory.now entries_slot 0) }
+    ensures { TellsLookUp source.now.nums.now source.now.ends.now source.now.directory.now keys.now t table result }
 {
-    let longest = longest_wins(nums, ends, table + 1, nums[table]);
+    let longest = longest_wins(source, table + 1, source.nums[table]);
     let best = look_from(
-        nums,
-        ends,
-        directory,
+        source,
         keys,
         t,
         table,
         longest,
         ENTRIES + 1,
-        directory[ENTRIES],
+        source.directory[ENTRIES],
         Best::Nothing,
     );
     match best {

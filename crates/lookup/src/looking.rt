@@ -4,30 +4,30 @@ ghost use Rattle.lookup.specs.LookingUp.{AsksKeys, TellsAny, TellsLongest, Tells
 
 use super::matching::match_from;
 use crate::{Best, Match};
-use program::{LPM, MOST_KEYS, TERNARY};
+use program::{LPM, MOST_KEYS, Source, TERNARY};
 use shape::WIDTHS;
 
 // Whether one of so many keys, the first of which stands at `from`, is of a kind.
-fn any_key(nums: &[u64], ends: &[u64], kind: u64, from: usize, count: u64) -> bool
-    requires { AsksKeys nums.now ends.now from count }
-    ensures { TellsAny nums.now ends.now kind from count result }
+fn any_key(source: &Source, kind: u64, from: usize, count: u64) -> bool
+    requires { AsksKeys source.now.nums.now source.now.ends.now from count }
+    ensures { TellsAny source.now.nums.now source.now.ends.now kind from count result }
 {
     if count == 0 {
         false
-    } else if nums[from] == kind {
+    } else if source.nums[from] == kind {
         true
     } else {
-        any_key(nums, ends, kind, ends[from + 1] as usize, count - 1)
+        any_key(source, kind, source.ends[from + 1] as usize, count - 1)
     }
 }
 
 // Whether the longest prefix wins.
-pub(crate) fn longest_wins(nums: &[u64], ends: &[u64], from: usize, count: u64) -> bool
-    requires { AsksKeys nums.now ends.now from count }
-    ensures { TellsLongest nums.now ends.now from count result }
+pub(crate) fn longest_wins(source: &Source, from: usize, count: u64) -> bool
+    requires { AsksKeys source.now.nums.now source.now.ends.now from count }
+    ensures { TellsLongest source.now.nums.now source.now.ends.now from count result }
 {
-    if any_key(nums, ends, LPM, from, count) {
-        if any_key(nums, ends, TERNARY, from, count) {
+    if any_key(source, LPM, from, count) {
+        if any_key(source, TERNARY, from, count) {
             false
         } else {
             true
@@ -68,9 +68,7 @@ fn better(longest: bool, best: Best, action: usize, prefix: u64) -> Best
 
 // What is found once an entry of the table is looked at.
 fn step(
-    nums: &[u64],
-    ends: &[u64],
-    directory: &[u64; shape::SLOTS],
+    source: &Source,
     keys: &[u64; MOST_KEYS],
     t: u64,
     table: usize,
@@ -78,20 +76,11 @@ fn step(
     at: usize,
     best: Best,
 ) -> Best
-    requires { AsksStep nums.now ends.now directory.now keys.now t table at }
-    ensures { TellsStep nums.now ends.now directory.now keys.now t table longest at best result }
+    requires { AsksStep source.now.nums.now source.now.ends.now source.now.directory.now keys.now t table at }
+    ensures { TellsStep source.now.nums.now source.now.ends.now source.now.directory.now keys.now t table longest at best result }
 {
     let slot = WIDTHS + MOST_KEYS * t as usize;
-    let keyed = match_from(
-        nums,
-        ends,
-        directory,
-        keys,
-        table + 1,
-        nums[table],
-        slot,
-        at + 1,
-    );
+    let keyed = match_from(source, keys, table + 1, source.nums[table], slot, at + 1);
     match keyed {
         Match::Yes { prefix, next } => better(longest, best, next, prefix),
         Match::No => best,
@@ -114,9 +103,7 @@ fn settled(longest: bool, found: Best) -> bool
 // What is found once so many entries are looked at, whose places stand from slot `i` on. Those of other tables are passed
 // over by their table's number.
 pub(crate) fn look_from(
-    nums: &[u64],
-    ends: &[u64],
-    directory: &[u64; shape::SLOTS],
+    source: &Source,
     keys: &[u64; MOST_KEYS],
     t: u64,
     table: usize,
@@ -125,16 +112,16 @@ pub(crate) fn look_from(
     left: u64,
     best: Best,
 ) -> Best
-    requires { AsksLook nums.now ends.now directory.now keys.now t table i left }
-    ensures { TellsLook nums.now ends.now directory.now keys.now t table longest i left best result }
+    requires { AsksLook source.now.nums.now source.now.ends.now source.now.directory.now keys.now t table i left }
+    ensures { TellsLook source.now.nums.now source.now.ends.now source.now.directory.now keys.now t table longest i left best result }
 {
     let mut found = best;
     let mut slot = i;
     let mut rest = left;
     while rest != 0 {
-        let at = directory[slot] as usize;
-        if nums[at] == t {
-            found = step(nums, ends, directory, keys, t, table, longest, at, found);
+        let at = source.directory[slot] as usize;
+        if source.nums[at] == t {
+            found = step(source, keys, t, table, longest, at, found);
             if settled(longest, found) {
                 return found;
             }

@@ -2,7 +2,7 @@
 ghost use Rattle.lookup.specs.Matching.{AsksOne, TellsOne, AsksMatch, TellsMatch};
 
 use crate::Match;
-use program::{EXACT, LPM, MOST_KEYS};
+use program::{EXACT, LPM, MOST_KEYS, Source};
 
 // Whether a key matches, where the next pattern stands, and the prefix length where the key is lpm.
 #[derive(Clone, Copy)]
@@ -15,19 +15,18 @@ struct One {
 
 // One key against one pattern.
 fn match_one(
-    nums: &[u64],
-    directory: &[u64; shape::SLOTS],
+    source: &Source,
     keys: &[u64; MOST_KEYS],
     from: usize,
     slot: usize,
     j: usize,
     at: usize,
 ) -> One
-    requires { AsksOne nums.now directory.now keys.now from slot j at }
-    ensures { TellsOne nums.now directory.now keys.now from slot j at result.matches result.next result.lpm result.prefix }
+    requires { AsksOne source.now.nums.now source.now.directory.now keys.now from slot j at }
+    ensures { TellsOne source.now.nums.now source.now.directory.now keys.now from slot j at result.matches result.next result.lpm result.prefix }
 {
-    let kind = nums[from];
-    let value = nums[at];
+    let kind = source.nums[from];
+    let value = source.nums[at];
     let key = keys[j];
     if kind == EXACT {
         One {
@@ -37,16 +36,16 @@ fn match_one(
             prefix: 0,
         }
     } else if kind == LPM {
-        let prefix = nums[at + 1];
+        let prefix = source.nums[at + 1];
         One {
-            matches: words::keys::prefix_matches(directory[slot], prefix, value, key),
+            matches: words::keys::prefix_matches(source.directory[slot], prefix, value, key),
             next: at + 2,
             lpm: true,
             prefix: prefix,
         }
     } else {
         One {
-            matches: words::keys::mask_matches(nums[at + 1], value, key),
+            matches: words::keys::mask_matches(source.nums[at + 1], value, key),
             next: at + 2,
             lpm: false,
             prefix: 0,
@@ -57,17 +56,15 @@ fn match_one(
 // So many keys, the first of which stands at `from` and has its width in a slot, against patterns one after the other
 // from `at` on.
 pub(crate) fn match_from(
-    nums: &[u64],
-    ends: &[u64],
-    directory: &[u64; shape::SLOTS],
+    source: &Source,
     keys: &[u64; MOST_KEYS],
     from: usize,
     count: u64,
     slot: usize,
     at: usize,
 ) -> Match
-    requires { AsksMatch nums.now ends.now directory.now keys.now from count slot 0 at }
-    ensures { TellsMatch nums.now ends.now directory.now keys.now from count slot 0 at result }
+    requires { AsksMatch source.now.nums.now source.now.ends.now source.now.directory.now keys.now from count slot 0 at }
+    ensures { TellsMatch source.now.nums.now source.now.ends.now source.now.directory.now keys.now from count slot 0 at result }
 {
     let mut key = from;
     let mut left = count;
@@ -77,7 +74,7 @@ pub(crate) fn match_from(
     let mut lpm = false;
     let mut prefix = 0;
     while left != 0 {
-        let one = match_one(nums, directory, keys, key, width, j, next);
+        let one = match_one(source, keys, key, width, j, next);
         if !one.matches {
             return Match::No;
         }
@@ -85,7 +82,7 @@ pub(crate) fn match_from(
             lpm = one.lpm;
             prefix = one.prefix;
         }
-        key = ends[key + 1] as usize;
+        key = source.ends[key + 1] as usize;
         left -= 1;
         width += 1;
         j += 1;

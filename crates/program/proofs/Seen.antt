@@ -1,4 +1,4 @@
--- What a callable's body sees, and what the apply body and keys see, in the slots of a scope.
+-- What a callable's body sees, and what the apply body and keys see, as the code has it.
 use mathlib.Core.Option.{Option, none, some}
 use mathlib.Core.Path.{◌≡◌, refl}
 use mathlib.Core.List.{List, [], ◌∷◌}
@@ -10,7 +10,8 @@ use Rattle.rules.specs.Form.{body_of, scope_of, apply_scope, state_scope}
 use Rattle.program.specs.Codes.{ty_of, callable_kind_number}
 use Rattle.program.specs.Stands.{StandsParameters, StandsTypes, StandsProgram}
 use Rattle.program.specs.Looks.{returns_of, FoundHead, FoundFrame}
-use Rattle.program.specs.Scopes.{body_numbered, StandsScope}
+use Rattle.program.specs.declared.Scope as coded
+use Rattle.program.specs.Scopes.{body_numbered, StandsScope, without_frame}
 use Rattle.program.proofs.Found.{member-in}
 
 body_is : (kind returns : ℕ) (x : Option Ty) → kind ≡ callable_kind_number x → returns_of kind returns ≡ x
@@ -22,10 +23,12 @@ body_is kind returns (some t) k e =
     let same : ty_of returns ≡ t = cc in
     rw (k, same)
 
--- the slots of a callable's scope
-abbrev pub callable_scope : ℕ → ℕ → ℕ → ℕ → ℕ → ℕ → ℕ → List ℕ
-callable_scope n parameters count locals local_count kind returns =
-    n ∷ parameters ∷ count ∷ locals ∷ local_count ∷ kind ∷ returns ∷ []
+-- a callable's scope
+abbrev pub callable_scope : ℕ → ℕ → ℕ → ℕ → ℕ → ℕ → ℕ → coded.Scope
+callable_scope n parameters count locals local_count kind returns = record {
+  reach = n; parameters = parameters; parameter_count = count; locals = locals; local_count = local_count; kind = kind;
+  returns = returns
+}
 
 pub callable-scope : (nums directory ends : List ℕ) (n kind returns parameters count locals local_count body : ℕ)
     (P : Program) (end : ℕ) (c : Callable) → StandsProgram nums directory ends P end
@@ -36,7 +39,6 @@ unfolding scope_of
 callable-scope nums directory ends n kind returns parameters count locals local_count body P end c s e h f = record {
   end = end;
   program = s;
-  slots = refl;
   reach = refl;
   reaches = omega (arith, member-in P.callables n c e);
   parameters = h.parameters_stand;
@@ -47,9 +49,9 @@ callable-scope nums directory ends n kind returns parameters count locals local_
   returns = h.returns_most;
 }
 
--- the slots of the apply body's scope
-abbrev pub apply_slots : List ℕ → List ℕ
-apply_slots directory = get_or directory 42 0 ∷ 0 ∷ 0 ∷ 0 ∷ 0 ∷ 2 ∷ 0 ∷ []
+-- the apply body's scope
+abbrev pub apply_slots : List ℕ → coded.Scope
+apply_slots directory = without_frame (get_or directory 42 0) 2
 
 pub apply-scope : (nums directory ends : List ℕ) (P : Program) (end : ℕ) → StandsProgram nums directory ends P end
     → StandsScope nums directory ends (apply_slots directory) (apply_scope P)
@@ -57,7 +59,6 @@ unfolding apply_scope StandsParameters StandsTypes body_numbered
 apply-scope nums directory ends P end s = record {
   end = end;
   program = s;
-  slots = refl;
   reach = s.callables.count;
   reaches = omega arith;
   parameters = tt;
@@ -68,9 +69,9 @@ apply-scope nums directory ends P end s = record {
   returns = omega arith;
 }
 
--- the slots of a state's scope
-abbrev pub state_slots : List ℕ → List ℕ
-state_slots directory = get_or directory 42 0 ∷ 0 ∷ 0 ∷ 0 ∷ 0 ∷ 3 ∷ 0 ∷ []
+-- a state's scope
+abbrev pub state_slots : List ℕ → coded.Scope
+state_slots directory = without_frame (get_or directory 42 0) 3
 
 pub state-scope : (nums directory ends : List ℕ) (P : Program) (end : ℕ) → StandsProgram nums directory ends P end
     → StandsScope nums directory ends (state_slots directory) (state_scope P)
@@ -78,7 +79,6 @@ unfolding state_scope StandsParameters StandsTypes body_numbered
 state-scope nums directory ends P end s = record {
   end = end;
   program = s;
-  slots = refl;
   reach = s.callables.count;
   reaches = omega arith;
   parameters = tt;

@@ -13,7 +13,7 @@ use Rattle.rules.specs.Reading.{Reader, got, stands_for, has_parser, repeat, lis
 use Rattle.rules.proofs.Readers.{Keeps, keeps-stands, keeps-list, keeps-header, keeps-global, keeps-callable, keeps-table, keeps-state, keeps-states, keeps-stmt}
 use Rattle.shape.specs.Directory.{stmt_at, directory_left}
 use Rattle.shape.specs.Ends.{first_at, callable_at, table_at, state_at, states_at, blocks_at, EndedAll, EndedState, EndedStmt, EndedCallable, EndedTable, EndedProgram, ScansProgram}
-use Rattle.shape.specs.declared.Scan.{Scan}
+use Rattle.shape.specs.Scans.{Scan}
 use Rattle.shape.proofs.Entries.{Entries, entries}
 use Rattle.shape.proofs.Lines.{NoEnded, scan-ended}
 use Rattle.program.specs.Stands.{Holds, StandsState, StandsStmt, StandsHeader, StandsGlobal, StandsCallable, StandsTable, StandsList, StandsProgram}

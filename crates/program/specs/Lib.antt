@@ -3,3 +3,4 @@ pub mod Stands
 pub mod Scopes
 pub mod Looks
 pub mod Keys
+pub mod In

@@ -5,24 +5,8 @@
 ghost use Rattle.std.specs.Prelude.{◌≡◌, ◌+◌};
 ghost use Rattle.program.specs.Looks.{Has, Finds, headers_of, globals_of, callables_of, tables_of, states_of, FoundGlobal, FoundHead, FoundFrame, FoundHeader, FoundTable, FoundState, KeysInside};
 ghost use Rattle.program.specs.Stands.{keys_end};
-
-// The slots of a scope (page Scopes): how many callables are reached; where the parameters begin, and how many they
-// are; where the locals begin, and how many they are; the body's kind; the type that it returns.
-pub const REACH: usize = 0;
-
-pub const PARAMETERS: usize = 1;
-
-pub const PARAMETER_COUNT: usize = 2;
-
-pub const LOCALS: usize = 3;
-
-pub const LOCAL_COUNT: usize = 4;
-
-pub const KIND: usize = 5;
-
-pub const RETURNS: usize = 6;
-// How many slots a scope has.
-pub const SCOPE: usize = 7;
+ghost use Rattle.program.specs.In.{In};
+ghost use Rattle.program.specs.Scopes.{without_frame};
 
 // The kinds of bodies.
 pub const ACTION: u64 = 0;
@@ -70,94 +54,135 @@ pub struct Parts {
     pub default: usize,
 }
 
-// The type of a global as it is written: 0 to 64, or 128 and the number of a header type.
-pub fn global_of(nums: &[u64], ends: &[u64], directory: &[u64; shape::SLOTS], g: usize) -> u64
-    requires { Has globals_of nums.now directory.now ends.now g }
-    ensures { Finds globals_of (FoundGlobal result) nums.now directory.now ends.now g }
-{
-    let at = directory[shape::GLOBALS + 1 + g] as usize;
-    nums[at]
+// What a body sees: how many callables it reaches; where its parameters stand and how many they are; the same of its
+// locals; its kind and the type that it returns.
+#[derive(Clone, Copy)]
+pub struct Scope {
+    pub reach: u64,
+    pub parameters: usize,
+    pub parameter_count: u64,
+    pub locals: usize,
+    pub local_count: u64,
+    pub kind: u64,
+    pub returns: u64,
 }
 
-// Where a header type stands: the count of its fields, then their widths.
-pub fn header_of(nums: &[u64], ends: &[u64], directory: &[u64; shape::SLOTS], h: usize) -> usize
-    requires { Has headers_of nums.now directory.now ends.now h }
-    ensures { Finds headers_of (FoundHeader nums.now result) nums.now directory.now ends.now h }
-{
-    directory[shape::HEADERS + 1 + h] as usize
-}
-
-// A callable's head.
-pub fn head_of(nums: &[u64], ends: &[u64], directory: &[u64; shape::SLOTS], f: usize) -> Head
-    requires { Has callables_of nums.now directory.now ends.now f }
-    ensures { Finds callables_of (FoundHead nums.now result.kind result.returns result.parameters result.count) nums.now directory.now ends.now f }
-{
-    let at = directory[shape::CALLABLES + 1 + f] as usize;
-    let kind = nums[at];
-    if kind == 0 {
-        Head {
-            kind: kind,
+impl Scope {
+    // What a body of this kind sees that has no parameters and no locals.
+    pub fn without_frame(reach: u64, kind: u64) -> Scope
+        ensures { result ≡ without_frame reach kind }
+    {
+        Scope {
+            reach,
+            parameters: 0,
+            parameter_count: 0,
+            locals: 0,
+            local_count: 0,
+            kind,
             returns: 0,
-            parameters: at + 2,
-            count: nums[at + 1],
-        }
-    } else {
-        Head {
-            kind: kind,
-            returns: nums[at + 1],
-            parameters: at + 3,
-            count: nums[at + 2],
         }
     }
 }
 
-// A callable's frame.
-pub fn frame_of(nums: &[u64], ends: &[u64], directory: &[u64; shape::SLOTS], f: usize) -> Frame
-    requires { Has callables_of nums.now directory.now ends.now f }
-    ensures { Finds callables_of (FoundFrame nums.now ends.now result.locals result.count result.body) nums.now directory.now ends.now f }
-{
-    let at = directory[shape::CALLABLES + 1 + f] as usize;
-    let counted = at + 1 + nums[at] as usize;
-    let locals = counted + 1 + 2 * nums[counted] as usize;
-    let count = nums[locals];
-    Frame {
-        locals: locals + 1,
-        count: count,
-        body: locals + 1 + count as usize,
+// A program as it stands in a file: the file's numbers, where each expression and statement ends, and where the parts
+// begin.
+#[derive(Clone, Copy)]
+pub struct Source<'a> {
+    pub nums: &'a [u64],
+    pub ends: &'a [u64],
+    pub directory: &'a [u64; shape::SLOTS],
+}
+
+impl Source<'_> {
+    // The type of a global as it is written: 0 to 64, or 128 and the number of a header type.
+    pub fn global_of(&self, g: usize) -> u64
+        requires { In (Has globals_of) self.now g }
+        ensures { In (Finds globals_of (FoundGlobal result)) self.now g }
+    {
+        let at = self.directory[shape::GLOBALS + 1 + g] as usize;
+        self.nums[at]
     }
-}
 
-// Where a state stands: its statement, and at that one's end its transition.
-pub fn state_of(nums: &[u64], ends: &[u64], directory: &[u64; shape::SLOTS], s: usize) -> usize
-    requires { Has states_of nums.now directory.now ends.now s }
-    ensures { Finds states_of (FoundState nums.now ends.now result) nums.now directory.now ends.now s }
-{
-    directory[shape::STATES + 1 + s] as usize
-}
-
-// The index behind so many keys.
-fn behind_keys(ends: &[u64], at: usize, count: u64) -> usize
-    requires { KeysInside ends.now at count }
-    ensures { result ≡ keys_end ends.now at count }
-{
-    if count == 0 {
-        at
-    } else {
-        let next = ends[at + 1] as usize;
-        behind_keys(ends, next, count - 1)
+    // Where a header type stands: the count of its fields, then their widths.
+    pub fn header_of(&self, h: usize) -> usize
+        requires { In (Has headers_of) self.now h }
+        ensures { In (Finds headers_of (FoundHeader self.now.nums.now result)) self.now h }
+    {
+        self.directory[shape::HEADERS + 1 + h] as usize
     }
-}
 
-// A table's parts: its keys are stepped over by their ends.
-pub fn table_of(nums: &[u64], ends: &[u64], directory: &[u64; shape::SLOTS], t: usize) -> Parts
-    requires { Has tables_of nums.now directory.now ends.now t }
-    ensures { Finds tables_of (FoundTable nums.now ends.now result.at result.actions result.default) nums.now directory.now ends.now t }
-{
-    let at = directory[shape::TABLES + 1 + t] as usize;
-    let actions = behind_keys(ends, at + 1, nums[at]);
-    Parts {
-        at: at,
-        actions: actions,
-        default: actions + 1 + nums[actions] as usize,
+    // A callable's head.
+    pub fn head_of(&self, f: usize) -> Head
+        requires { In (Has callables_of) self.now f }
+        ensures { In (Finds callables_of (FoundHead self.now.nums.now result.kind result.returns result.parameters result.count)) self.now f }
+    {
+        let at = self.directory[shape::CALLABLES + 1 + f] as usize;
+        let kind = self.nums[at];
+        if kind == 0 {
+            Head {
+                kind,
+                returns: 0,
+                parameters: at + 2,
+                count: self.nums[at + 1],
+            }
+        } else {
+            Head {
+                kind,
+                returns: self.nums[at + 1],
+                parameters: at + 3,
+                count: self.nums[at + 2],
+            }
+        }
+    }
+
+    // A callable's frame.
+    pub fn frame_of(&self, f: usize) -> Frame
+        requires { In (Has callables_of) self.now f }
+        ensures { In (Finds callables_of (FoundFrame self.now.nums.now self.now.ends.now result.locals result.count result.body)) self.now f }
+    {
+        let at = self.directory[shape::CALLABLES + 1 + f] as usize;
+        let counted = at + 1 + self.nums[at] as usize;
+        let locals = counted + 1 + 2 * self.nums[counted] as usize;
+        let count = self.nums[locals];
+        Frame {
+            locals: locals + 1,
+            count,
+            body: locals + 1 + count as usize,
+        }
+    }
+
+    // Where a state stands: its statement, and at that one's end its transition.
+    pub fn state_of(&self, s: usize) -> usize
+        requires { In (Has states_of) self.now s }
+        ensures { In (Finds states_of (FoundState self.now.nums.now self.now.ends.now result)) self.now s }
+    {
+        self.directory[shape::STATES + 1 + s] as usize
+    }
+
+    // The index behind so many keys.
+    fn behind_keys(&self, at: usize, count: u64) -> usize
+        requires { KeysInside self.now.ends.now at count }
+        ensures { result ≡ keys_end self.now.ends.now at count }
+    {
+        if count == 0 {
+            at
+        } else {
+            let next = self.ends[at + 1] as usize;
+            self.behind_keys(next, count - 1)
+        }
+    }
+
+    // A table's parts: its keys are stepped over by their ends.
+    pub fn table_of(&self, t: usize) -> Parts
+        requires { In (Has tables_of) self.now t }
+        ensures { In (Finds tables_of (FoundTable self.now.nums.now self.now.ends.now result.at result.actions result.default)) self.now t }
+    {
+        let at = self.directory[shape::TABLES + 1 + t] as usize;
+        let actions = self.behind_keys(at + 1, self.nums[at]);
+        Parts {
+            at,
+            actions: actions,
+            default: actions + 1 + self.nums[actions] as usize,
+        }
     }
 }

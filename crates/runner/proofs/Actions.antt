@@ -1,4 +1,5 @@
 -- An action that a table lists: its arguments are copied into its frame, and its body runs.
+use Rattle.program.specs.declared.Scope as coded
 use mathlib.Core.Bool.{◌&&◌}
 use mathlib.Core.Option.{some}
 use mathlib.Core.Path.{◌≡◌, refl, ◌∙◌, sym}
@@ -69,7 +70,7 @@ module _ (P : Program) (used : ℕ) (T : Table) (position : ℕ) (ns : List ℕ)
       }
 
 -- at any stage
-module _ (P : Program) (position : ℕ) {nums directory ends scope slots frame : List ℕ}
+module _ (P : Program) (position : ℕ) {nums directory ends : List ℕ} {scope : coded.Scope} {slots frame : List ℕ}
     {actions from : ℕ} {used : ℕ} {es : List Entry} {s : State} {T : Table} {ns : List ℕ}
     (st : Stage nums directory ends scope slots frame (apply_scope P) used es s)
     (w : ActionAt nums actions from T ns)
@@ -212,7 +213,7 @@ module _ (nums directory ends slots frame : List ℕ) (actions at from : ℕ) wh
 
   module _ (kind returns parameters count : ℕ)
       (head : Finds callables_of (FoundHead nums kind returns parameters count) nums directory ends number) where
-    module _ (P : Program) {scope : List ℕ} {used : ℕ} {es : List Entry} {s : State} {T : Table} {ns : List ℕ}
+    module _ (P : Program) {scope : coded.Scope} {used : ℕ} {es : List Entry} {s : State} {T : Table} {ns : List ℕ}
         (st : Stage nums directory ends scope slots frame (apply_scope P) used es s)
         (w : ActionAt nums actions from T ns)
         (g : Goes (counter_of slots) (action_in P used T position ns s)) where

@@ -1,4 +1,5 @@
 -- An apply: it stands in the apply body, and runs its table.
+use Rattle.program.specs.declared.Scope as coded
 use mathlib.Core.Bool.{Bool, true, false}
 use mathlib.Core.Path.{◌≡◌, refl}
 use mathlib.Core.List.{List}
@@ -35,7 +36,7 @@ apply-body Γ used es t s counted g = go (is_apply Γ.body) refl g
     go false q h = unfold applied_in in not-nowhere s (rw (q, applied_in) at h)
 
 -- at any stage
-module _ {nums directory ends scope slots slots₁ frame : List ℕ} {depth at : ℕ} {Γ : Scope}
+module _ {nums directory ends : List ℕ} {scope : coded.Scope} {slots slots₁ frame : List ℕ} {depth at : ℕ} {Γ : Scope}
     {used : ℕ} {es : List Entry} {s : State} {x : Stmt} (v : NamedView nums ends depth at x (apply at))
     (st : Stage nums directory ends scope slots frame Γ used es s) (c : Counts slots slots₁)
     (g : Goes (counter_of slots) (stmt_in Γ used es x s)) where
@@ -80,7 +81,7 @@ module _ {nums directory ends scope slots slots₁ frame : List ℕ} {depth at :
           → Ran nums directory ends scope slots₁ slots₂ frame frame₂ Γ (applied_in Γ used es t s) (Ends r)
       moved Γ P e k = rw e (rw (applied-is P used es t s) k)
 
-module _ (nums directory ends scope slots frame : List ℕ) (depth at : ℕ)
+module _ (nums directory ends : List ℕ) (scope : coded.Scope) (slots frame : List ℕ) (depth at : ℕ)
     (a : AsksTagged 5 nums directory ends scope slots frame depth at) where
   apply_at : (x : Stmt) → StandsStmt nums ends depth at x → NamedView nums ends depth at x (apply at)
   unfolding StmtView
@@ -114,8 +115,8 @@ module _ (nums directory ends scope slots frame : List ℕ) (depth at : ℕ)
           apply-ran v st c g (there.runs Γ.program used es s (table-stage v st c g) (table-goes v st c g));
     }
 
-pub apply-fall : (scope : List ℕ) (depth x : ℕ) → rank (get_or scope 0 0) (2000 + 32 * depth + 19) ≡ x
-    → rank (get_or scope 0 0) 1500 < x
-apply-fall scope depth x e = rank-lower x (get_or scope 0 0) (2000 + 32 * depth + 19) 1500 e (omega arith)
+pub apply-fall : (scope : coded.Scope) (depth x : ℕ) → rank (scope.reach) (2000 + 32 * depth + 19) ≡ x
+    → rank (scope.reach) 1500 < x
+apply-fall scope depth x e = rank-lower x (scope.reach) (2000 + 32 * depth + 19) 1500 e (omega arith)
 
 pub ruleset apply_runs = (apply-inside, apply-table, apply-runs, apply-fall)

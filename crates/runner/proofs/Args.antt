@@ -1,4 +1,5 @@
 -- Arguments: what goes in for one parameter, then for all of them.
+use Rattle.program.specs.declared.Scope as coded
 use mathlib.Core.Bool.{true, false, not, ◌||◌}
 use mathlib.Core.Option.{some}
 use mathlib.Core.Path.{◌≡◌, refl, ◌∙◌, sym}
@@ -73,7 +74,7 @@ number-went p v ty number n h e =
     let same : n ≡ number = cc in
     record { is = same; fit = value-fits (fitting h.is_value) is }
 
-module _ (nums directory ends scope slots frame : List ℕ) (depth at parameters : ℕ) where
+module _ (nums directory ends : List ℕ) (scope : coded.Scope) (slots frame : List ℕ) (depth at parameters : ℕ) where
   module _ (a : AsksArg nums directory ends scope slots frame depth at parameters) where
     pub arg-inside : parameters < length nums
     arg-inside = a.direction.inside
@@ -125,9 +126,9 @@ module _ (nums directory ends scope slots frame : List ℕ) (depth at parameters
         (number-went p h.answer v.ty v.number k.member h.answers k.is)));
   }
 
-pub arg-fall : (scope : List ℕ) (depth t : ℕ) → rank (get_or scope 0 0) (32 * depth + 21) ≡ t
-    → rank (get_or scope 0 0) (32 * depth + 20) < t
-arg-fall scope depth t e = rank-lower t (get_or scope 0 0) (32 * depth + 21) (32 * depth + 20) e (omega arith)
+pub arg-fall : (scope : coded.Scope) (depth t : ℕ) → rank (scope.reach) (32 * depth + 21) ≡ t
+    → rank (scope.reach) (32 * depth + 20) < t
+arg-fall scope depth t e = rank-lower t (scope.reach) (32 * depth + 21) (32 * depth + 20) e (omega arith)
 
 pub ruleset arg_runs = (arg-inside, arg-count, arg-expr, arg-out, arg-in, arg-fall)
 
@@ -152,7 +153,7 @@ arg-first : {nums ends : List ℕ} {depth at : ℕ} {e : Expr} {xs : Args} → S
     → StandsExpr nums ends depth at e × StandsArgs nums ends depth (get_or ends at 0) xs
 arg-first (on-arg a s) = (a, s)
 
-module _ {nums directory ends scope slots frame : List ℕ} {depth at parameters count slot : ℕ}
+module _ {nums directory ends : List ℕ} {scope : coded.Scope} {slots frame : List ℕ} {depth at parameters count slot : ℕ}
     {Γ : Scope} {used : ℕ} {es : List Entry} {s : State} {e : Expr} {xs : Args} {p : Parameter} {ps : List Parameter}
     (st : Stage nums directory ends scope slots frame Γ used es s)
     (at-args : ArgsAt nums ends frame depth at parameters count slot Γ (arg e xs) (p ∷ ps))
@@ -251,7 +252,7 @@ apart used s counted (arg e xs) [] x w g = unfold args_in run_args in not-nowher
 apart used s counted (arg e xs) (p ∷ ps) x w g =
     record { expr = e; others = xs; parameter = p; list = ps; given = w; going = g; args = refl; params = refl }
 
-module _ (nums directory ends scope slots frame : List ℕ) (depth at parameters count slot : ℕ)
+module _ (nums directory ends : List ℕ) (scope : coded.Scope) (slots frame : List ℕ) (depth at parameters count slot : ℕ)
   where
     module _ (a : AsksArgs nums directory ends scope slots frame depth at parameters count slot)
         (x : count ≡ 0 → ⊥) where
@@ -291,9 +292,9 @@ module _ (nums directory ends scope slots frame : List ℕ) (depth at parameters
       pub args-slot : slot < length frame
       args-slot = omega (arith, a.given.inside, x)
 
-      pub args-fall : (t : ℕ) → rank (get_or scope 0 0) (32 * depth + 22 + count) ≡ t
-          → rank (get_or scope 0 0) (32 * depth + 22 + (count - 1)) < t
-      args-fall t e = rank-lower t (get_or scope 0 0) (32 * depth + 22 + count) (32 * depth + 22 + (count - 1)) e
+      pub args-fall : (t : ℕ) → rank (scope.reach) (32 * depth + 22 + count) ≡ t
+          → rank (scope.reach) (32 * depth + 22 + (count - 1)) < t
+      args-fall t e = rank-lower t (scope.reach) (32 * depth + 22 + count) (32 * depth + 22 + (count - 1)) e
           (omega (arith, x))
 
       pub args-rest : (slots₁ frame₁ : List ℕ) (n next : ℕ)
@@ -360,10 +361,10 @@ module _ (nums directory ends scope slots frame : List ℕ) (depth at parameters
           });
     }
 
-pub argument-fall : (scope : List ℕ) (depth count t : ℕ) → rank (get_or scope 0 0) (32 * depth + 22 + count) ≡ t
-    → rank (get_or scope 0 0) (32 * depth + 21) < t
+pub argument-fall : (scope : coded.Scope) (depth count t : ℕ) → rank (scope.reach) (32 * depth + 22 + count) ≡ t
+    → rank (scope.reach) (32 * depth + 21) < t
 argument-fall scope depth count t e =
-    rank-lower t (get_or scope 0 0) (32 * depth + 22 + count) (32 * depth + 21) e (omega arith)
+    rank-lower t (scope.reach) (32 * depth + 22 + count) (32 * depth + 21) e (omega arith)
 
 pub ruleset args_runs = (
   args-first,

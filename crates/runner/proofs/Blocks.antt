@@ -1,4 +1,5 @@
 -- A block: its members one after the other, up to the first that does not go on.
+use Rattle.program.specs.declared.Scope as coded
 use mathlib.Core.Path.{◌≡◌, refl, ◌∙◌, sym, ap}
 use mathlib.Core.List.{List, [], ◌++◌}
 use Prim.Native.Nat.{ℕ, ◌+◌, ◌-◌, ◌*◌, ◌<◌}
@@ -22,7 +23,7 @@ use Rattle.runner.proofs.Stages.{stage-counted, going-counted, ran-counted, stag
 use Rattle.runner.proofs.Stmts.{block-is}
 
 -- the block itself
-module _ (nums directory ends scope slots frame : List ℕ) (depth at : ℕ)
+module _ (nums directory ends : List ℕ) (scope : coded.Scope) (slots frame : List ℕ) (depth at : ℕ)
     (a : AsksTagged 3 nums directory ends scope slots frame depth at) where
   block_at : (x : Stmt) → StandsStmt nums ends depth at x → BlockView nums ends depth at x
   unfolding StmtView
@@ -68,18 +69,18 @@ module _ (nums directory ends scope slots frame : List ℕ) (depth at : ℕ)
           (stage-counted st c) v.stand (same ∙ v.count.holds.is) (block_goes Γ used es s x v slots₁ c st g)));
     }
 
-pub block-fall : (nums directory ends scope slots frame : List ℕ) (depth at : ℕ)
+pub block-fall : (nums directory ends : List ℕ) (scope : coded.Scope) (slots frame : List ℕ) (depth at : ℕ)
     → AsksTagged 3 nums directory ends scope slots frame depth at
-    → (t : ℕ) → rank (get_or scope 0 0) (2000 + 32 * depth + 19) ≡ t
-    → rank (get_or scope 0 0) (2000 + 32 * (depth - 1) + 21) < t
+    → (t : ℕ) → rank (scope.reach) (2000 + 32 * depth + 19) ≡ t
+    → rank (scope.reach) (2000 + 32 * (depth - 1) + 21) < t
 block-fall nums directory ends scope slots frame depth at a t e =
-    rank-lower t (get_or scope 0 0) (2000 + 32 * depth + 19) (2000 + 32 * (depth - 1) + 21) e
+    rank-lower t (scope.reach) (2000 + 32 * depth + 19) (2000 + 32 * (depth - 1) + 21) e
     (omega (arith, (stmt-begins a.asks.stands).levels))
 
 pub ruleset block_runs = (block_inside, block-members, block-runs, block-fall)
 
 -- its members: what is left of them
-pub record Rest (nums directory ends scope slots₀ slots frame₀ frame : List ℕ)
+pub record Rest (nums directory ends : List ℕ) (scope : coded.Scope) (slots₀ slots frame₀ frame : List ℕ)
     (depth next left : ℕ) (Γ : Scope) (used : ℕ) (es : List Entry) (s : State) (ss : Stmts) : Type 0 where
   pub rest : Stmts
   pub state : State
@@ -92,7 +93,7 @@ pub record Rest (nums directory ends scope slots₀ slots frame₀ frame : List 
   pub counted : counter_of slots ≡ counter_of slots₀ + length seen
   pub same : length frame ≡ length frame₀
 
-pub record Blocking (nums directory ends scope slots₀ slots frame₀ frame : List ℕ)
+pub record Blocking (nums directory ends : List ℕ) (scope : coded.Scope) (slots₀ slots frame₀ frame : List ℕ)
     (depth at count next left : ℕ) : Type 0 where
   pub kept : length frame ≡ length frame₀
   pub blocking : (Γ : Scope) (used : ℕ) (es : List Entry) (s : State) (ss : Stmts)
@@ -100,7 +101,7 @@ pub record Blocking (nums directory ends scope slots₀ slots frame₀ frame : L
       → StandsStmts nums ends depth at ss → count ≡ member_count ss → Goes (counter_of slots₀) (stmts_in Γ used es ss s)
       → Rest nums directory ends scope slots₀ slots frame₀ frame depth next left Γ used es s ss
 
-pub block-begins : (nums directory ends scope slots frame : List ℕ) (depth at count : ℕ)
+pub block-begins : (nums directory ends : List ℕ) (scope : coded.Scope) (slots frame : List ℕ) (depth at count : ℕ)
     → Blocking nums directory ends scope slots slots frame frame depth at count at count
 block-begins nums directory ends scope slots frame depth at count = record {
   kept = refl;
@@ -154,7 +155,7 @@ stops-is ended r ending m s ends-exited e w = refl
 stops-is ended r ending m s ends-rejected e w = refl
 
 -- at any stage
-module _ {nums directory ends scope slots₀ slots frame₀ frame : List ℕ} {depth next left : ℕ}
+module _ {nums directory ends : List ℕ} {scope : coded.Scope} {slots₀ slots frame₀ frame : List ℕ} {depth next left : ℕ}
     {Γ : Scope} {used : ℕ} {es : List Entry} {s : State} {ss : Stmts}
     (b : Rest nums directory ends scope slots₀ slots frame₀ frame depth next left Γ used es s ss)
     (v : MemberView nums ends depth next left b.rest) where
@@ -222,7 +223,7 @@ module _ {nums directory ends scope slots₀ slots frame₀ frame : List ℕ} {d
         }
 
 -- the loop
-module _ (nums directory ends scope slots₀ slots frame₀ frame : List ℕ)
+module _ (nums directory ends : List ℕ) (scope : coded.Scope) (slots₀ slots frame₀ frame : List ℕ)
     (depth at count next left : ℕ)
     (g : Blocking nums directory ends scope slots₀ slots frame₀ frame depth at count next left)
   where
@@ -311,10 +312,10 @@ module _ (nums directory ends scope slots₀ slots frame₀ frame : List ℕ)
           };
     }
 
-pub member-fall : (scope : List ℕ) (depth t : ℕ) → rank (get_or scope 0 0) (2000 + 32 * depth + 21) ≡ t
-    → rank (get_or scope 0 0) (2000 + 32 * depth + 20) < t
+pub member-fall : (scope : coded.Scope) (depth t : ℕ) → rank (scope.reach) (2000 + 32 * depth + 21) ≡ t
+    → rank (scope.reach) (2000 + 32 * depth + 20) < t
 member-fall scope depth t e =
-    rank-lower t (get_or scope 0 0) (2000 + 32 * depth + 21) (2000 + 32 * depth + 20) e (omega arith)
+    rank-lower t (scope.reach) (2000 + 32 * depth + 21) (2000 + 32 * depth + 20) e (omega arith)
 
 pub ruleset member_runs = (
   block-begins,

@@ -1,4 +1,5 @@
 -- A call: its arguments, the callee's body in the slots behind the caller's own, and what comes back.
+use Rattle.program.specs.declared.Scope as coded
 use mathlib.Core.Path.{◌≡◌, refl, ◌∙◌, ap}
 use mathlib.Core.List.{List, [], ◌∷◌}
 use Prim.Native.Nat.{ℕ, suc, ◌+◌, ◌-◌, ◌*◌, ◌≤◌, ◌<◌, ◌^◌}
@@ -48,7 +49,7 @@ pub record Came (frame : List ℕ) (own : ℕ) (ps : List Parameter) (ended : En
   pub fit : All2 FitParameter ps r.1
 
 -- at any stage
-module _ {nums directory ends scope slots frame : List ℕ} {depth at : ℕ} {Γ : Scope} {used : ℕ}
+module _ {nums directory ends : List ℕ} {scope : coded.Scope} {slots frame : List ℕ} {depth at : ℕ} {Γ : Scope} {used : ℕ}
     {es : List Entry} {s : State} {f : ℕ} {xs : Args} {c : Callable}
     (st : Stage nums directory ends scope slots frame Γ used es s)
     (w : CallAt nums ends depth at Γ f xs c)
@@ -200,7 +201,7 @@ module _ {nums directory ends scope slots frame : List ℕ} {depth at : ℕ} {Γ
             (ran_then (on_store (calls_of Γ used f h.answer)) then_back h.state body-ran k)
 
 -- from the numbers: the callee's head, and the slots of the caller's own
-module _ (nums directory ends scope slots frame : List ℕ) (depth at : ℕ) where
+module _ (nums directory ends : List ℕ) (scope : coded.Scope) (slots frame : List ℕ) (depth at : ℕ) where
   abbrev callee : ℕ
   callee = get_or nums (at + 1) 0
 
@@ -242,8 +243,8 @@ module _ (nums directory ends scope slots frame : List ℕ) (depth at : ℕ) whe
       few = a.stage.few;
     }
 
-    pub call-falls : (t : ℕ) → rank (get_or scope 0 0) (32 * depth + 18) ≡ t → rank callee 4000 < t
-    call-falls t e = rank-callee t (get_or scope 0 0) (32 * depth + 18) callee 4000 e
+    pub call-falls : (t : ℕ) → rank (scope.reach) (32 * depth + 18) ≡ t → rank callee 4000 < t
+    call-falls t e = rank-callee t (scope.reach) (32 * depth + 18) callee 4000 e
         (omega (arith, a.call.holds.is, (found a.stage a.call a.going).below, a.stage.scene.scopes.reach))
         (omega arith)
 
@@ -308,9 +309,9 @@ module _ (nums directory ends scope slots frame : List ℕ) (depth at : ℕ) whe
         going = (args-begun a.stage a.call a.going).first;
       })
 
-      pub call-args-fall : (t : ℕ) → rank (get_or scope 0 0) (32 * depth + 18) ≡ t
-          → rank (get_or scope 0 0) (32 * (depth - 1) + 22 + count) < t
-      call-args-fall t e = rank-lower t (get_or scope 0 0) (32 * depth + 18) (32 * (depth - 1) + 22 + count) e
+      pub call-args-fall : (t : ℕ) → rank (scope.reach) (32 * depth + 18) ≡ t
+          → rank (scope.reach) (32 * (depth - 1) + 22 + count) < t
+      call-args-fall t e = rank-lower t (scope.reach) (32 * depth + 18) (32 * (depth - 1) + 22 + count) e
           (omega (arith, few-arguments, a.call.levels))
 
       module _ (slots₁ frame₁ : List ℕ)

@@ -1,4 +1,5 @@
 -- A state entered: its statement runs, and where that goes on its transition follows.
+use Rattle.program.specs.declared.Scope as coded
 use mathlib.Core.Bool.{Bool, true, false, false≢true}
 use mathlib.Core.Path.{◌≡◌, refl, ◌∙◌, sym}
 use mathlib.Core.List.{List, []}
@@ -54,7 +55,7 @@ over-told ended r e w = record { on = λ q. absurd (false≢true q); over = λ _
 pub ruleset on_told = (on-told, over-told, stops-returned, stops-value, stops-exited, stops-rejected)
 
 -- at any stage
-module _ (P : Program) (n : ℕ) {nums directory ends scope slots frame : List ℕ} {used : ℕ} {es : List Entry} {s : State}
+module _ (P : Program) (n : ℕ) {nums directory ends : List ℕ} {scope : coded.Scope} {slots frame : List ℕ} {used : ℕ} {es : List Entry} {s : State}
     (st : Stage nums directory ends scope slots frame (state_scope P) used es s)
     (g : Goes (counter_of slots) (state_in P used n s)) where
   here : AtState P n
@@ -102,7 +103,7 @@ module _ (P : Program) (n : ℕ) {nums directory ends scope slots frame : List �
           (over-is ended h.answer (transition_in P used n x.transition) h.state h.answers q) h.answers)))
 
 -- from the numbers
-module _ (nums directory ends scope slots frame : List ℕ) (n : ℕ) where
+module _ (nums directory ends : List ℕ) (scope : coded.Scope) (slots frame : List ℕ) (n : ℕ) where
   module _ (a : AsksState nums directory ends scope slots frame n) where
     pub state-count : AsksCount slots
     state-count = count-asks a.stage _ (ticks a.program n a.stage a.going)

@@ -1,4 +1,5 @@
 -- Expressions: what each part asks, and what the whole then comes to.
+use Rattle.program.specs.declared.Scope as coded
 use mathlib.Core.Bool.{Bool, true, false}
 use mathlib.Core.Option.{some}
 use mathlib.Core.Path.{◌≡◌, refl, ◌∙◌, sym, ap}
@@ -43,7 +44,7 @@ unfolding expr_in
 two-is o Γ used s = rw (o.is Γ used (calls_of Γ)) refl
 
 -- no operand
-module _ (nums directory ends scope slots frame : List ℕ) (depth at : ℕ)
+module _ (nums directory ends : List ℕ) (scope : coded.Scope) (slots frame : List ℕ) (depth at : ℕ)
     (a : AsksLeafAt nums directory ends scope slots frame depth at) where
   leaf-going : Goes (counter_of slots) (tick (leaf_in a.asks.scope_of a.asks.expr) a.asks.state)
   leaf-going = rw (leaf-is a.leaf a.asks.scope_of a.asks.used a.asks.state a.asks.stands) at
@@ -87,7 +88,7 @@ module _ (nums directory ends scope slots frame : List ℕ) (depth at : ℕ)
 pub ruleset leaf_runs = (leaf-count, leaf-asks, leaf-runs)
 
 -- one operand, at any stage
-module _ {nums directory ends scope slots slots₁ frame : List ℕ} {depth first : ℕ} {Γ : Scope}
+module _ {nums directory ends : List ℕ} {scope : coded.Scope} {slots slots₁ frame : List ℕ} {depth first : ℕ} {Γ : Scope}
     {used : ℕ} {es : List Entry} {s : State} {e : Expr} (o : OneIn nums ends depth first e)
     (st : Stage nums directory ends scope slots frame Γ used es s) (c : Counts slots slots₁)
     (g : Goes (counter_of slots) (expr_in Γ used e s)) where
@@ -109,7 +110,7 @@ module _ {nums directory ends scope slots slots₁ frame : List ℕ} {depth firs
         (ran-here h.state (value_of ty number) h.scene (some_is (on_one e h.answer) h.state given)
         (record { is = refl; is_value = k.is_value }))))
 
-module _ (nums directory ends scope slots frame : List ℕ) (depth at first : ℕ)
+module _ (nums directory ends : List ℕ) (scope : coded.Scope) (slots frame : List ℕ) (depth at first : ℕ)
     (a : AsksOne nums directory ends scope slots frame depth at first) where
   one_form : OneIn nums ends depth first a.asks.expr
   one_form = a.one.one a.asks.expr a.asks.stands
@@ -124,9 +125,9 @@ module _ (nums directory ends scope slots frame : List ℕ) (depth at first : �
   pub one-levels : 1 ≤ depth
   one-levels = (expr-begins a.asks.stands).levels
 
-  pub one-fall : (t : ℕ) → rank (get_or scope 0 0) (32 * depth + 19) ≡ t
-      → rank (get_or scope 0 0) (32 * (depth - 1) + 20) < t
-  one-fall t e = rank-lower t (get_or scope 0 0) (32 * depth + 19) (32 * (depth - 1) + 20) e (omega (arith, one-levels))
+  pub one-fall : (t : ℕ) → rank (scope.reach) (32 * depth + 19) ≡ t
+      → rank (scope.reach) (32 * (depth - 1) + 20) < t
+  one-fall t e = rank-lower t (scope.reach) (32 * depth + 19) (32 * (depth - 1) + 20) e (omega (arith, one-levels))
 
   module _ (slots₁ : List ℕ) (c : Counts slots slots₁) where
     pub one-operand : AsksExpr nums directory ends scope slots₁ frame (depth - 1) first
@@ -285,7 +286,7 @@ after-goes : (e : Expr) (v : Value) (second : M State Value) (s : State) → sto
 unfolding pair_after
 after-goes e v second s q = rw (q, pair_after) refl
 
-module _ {nums directory ends scope slots slots₁ frame : List ℕ} {depth first : ℕ} {Γ : Scope}
+module _ {nums directory ends : List ℕ} {scope : coded.Scope} {slots slots₁ frame : List ℕ} {depth first : ℕ} {Γ : Scope}
     {used : ℕ} {es : List Entry} {s : State} {e : Expr} (o : TwoIn nums ends depth first e)
     (st : Stage nums directory ends scope slots frame Γ used es s) (c : Counts slots slots₁)
     (g : Goes (counter_of slots) (expr_in Γ used e s)) where
@@ -351,7 +352,7 @@ module _ {nums directory ends scope slots slots₁ frame : List ℕ} {depth firs
             (ran-here k.state (value_of ty number) k.scene (some_is (on_two e w k.answer) k.state given)
             (record { is = refl; is_value = y.is_value }))))
 
-module _ (nums directory ends scope slots frame : List ℕ) (depth at first : ℕ)
+module _ (nums directory ends : List ℕ) (scope : coded.Scope) (slots frame : List ℕ) (depth at first : ℕ)
     (a : AsksTwo nums directory ends scope slots frame depth at first) where
   two-form : TwoIn nums ends depth first a.asks.expr
   two-form = a.two.two a.asks.expr a.asks.stands
@@ -366,9 +367,9 @@ module _ (nums directory ends scope slots frame : List ℕ) (depth at first : �
   pub two-levels : 1 ≤ depth
   two-levels = (expr-begins a.asks.stands).levels
 
-  pub two-fall : (t : ℕ) → rank (get_or scope 0 0) (32 * depth + 19) ≡ t
-      → rank (get_or scope 0 0) (32 * (depth - 1) + 20) < t
-  two-fall t e = rank-lower t (get_or scope 0 0) (32 * depth + 19) (32 * (depth - 1) + 20) e (omega (arith, two-levels))
+  pub two-fall : (t : ℕ) → rank (scope.reach) (32 * depth + 19) ≡ t
+      → rank (scope.reach) (32 * (depth - 1) + 20) < t
+  two-fall t e = rank-lower t (scope.reach) (32 * depth + 19) (32 * (depth - 1) + 20) e (omega (arith, two-levels))
 
   pub two-stop : AsksStop nums at
   two-stop = record {
@@ -487,7 +488,7 @@ pub ruleset two_runs =
     (two-count, two-low, two-levels, two-fall, two-stop, two-inside, two-left, two-stops, two-right, two-on, two-runs)
 
 -- an expression by its tag
-module _ (nums directory ends scope slots frame : List ℕ) (depth at : ℕ)
+module _ (nums directory ends : List ℕ) (scope : coded.Scope) (slots frame : List ℕ) (depth at : ℕ)
     (a : AsksExpr nums directory ends scope slots frame depth at) where
   pub expr-inside : at < length nums
   expr-inside = (expr-begins a.stands).inside
@@ -508,9 +509,9 @@ module _ (nums directory ends scope slots frame : List ℕ) (depth at : ℕ)
       → AsksValue nums directory ends scope slots frame depth at
   expr-value q = record { asks = a; tagged = q }
 
-pub expr-fall : (scope : List ℕ) (depth t : ℕ) → rank (get_or scope 0 0) (32 * depth + 20) ≡ t
-    → rank (get_or scope 0 0) (32 * depth + 19) < t
-expr-fall scope depth t e = rank-lower t (get_or scope 0 0) (32 * depth + 20) (32 * depth + 19) e (omega arith)
+pub expr-fall : (scope : coded.Scope) (depth t : ℕ) → rank (scope.reach) (32 * depth + 20) ≡ t
+    → rank (scope.reach) (32 * depth + 19) < t
+expr-fall scope depth t e = rank-lower t (scope.reach) (32 * depth + 20) (32 * depth + 19) e (omega arith)
 
 pub ruleset expr_runs = (
   expr-inside,

@@ -1,4 +1,5 @@
 -- The keys of a table: each is worked out, and its number kept once those behind it are.
+use Rattle.program.specs.declared.Scope as coded
 use mathlib.Core.Option.{some}
 use mathlib.Core.Path.{◌≡◌, refl, ◌∙◌}
 use mathlib.Core.List.{List, [], ◌∷◌}
@@ -61,7 +62,7 @@ numbers-kept keys j n m (w ∷ ws) h k = (
 )
 
 -- at any stage
-module _ (P : Program) {nums directory ends scope slots frame keys : List ℕ}
+module _ (P : Program) {nums directory ends : List ℕ} {scope : coded.Scope} {slots frame keys : List ℕ}
     {j from count : ℕ} {used : ℕ} {es : List Entry} {s : State} {k : Key} {ks : List Key}
     (st : Stage nums directory ends scope slots frame (apply_scope P) used es s)
     (w : KeysAt nums ends keys j from count (k ∷ ks))
@@ -131,7 +132,7 @@ apart : {nums ends keys : List ℕ} {j from count : ℕ} (P : Program) (used : �
 apart P used s [] x w g = absurd (x w.counts)
 apart P used s (k ∷ ks) x w g = record { key = k; others = ks; at = w; going = g; is = refl }
 
-module _ (nums directory ends scope slots frame keys : List ℕ) (j from count : ℕ) where
+module _ (nums directory ends : List ℕ) (scope : coded.Scope) (slots frame keys : List ℕ) (j from count : ℕ) where
   module _ (a : AsksKeys nums directory ends scope slots frame keys j from count)
       (x : count ≡ 0 → ⊥) where
     parts : Apart nums ends keys j from count a.program a.used a.state (counter_of slots) a.key_list
@@ -167,8 +168,8 @@ module _ (nums directory ends scope slots frame keys : List ℕ) (j from count :
     pub keys-slot : j + 1 < 2 ^ 64
     keys-slot = omega (arith, a.keyed.inside)
 
-    pub keys-fall : (t : ℕ) → rank (get_or scope 0 0) (1400 + count) ≡ t → rank (get_or scope 0 0) (1400 + (count - 1)) < t
-    keys-fall t e = rank-lower t (get_or scope 0 0) (1400 + count) (1400 + (count - 1)) e (omega (arith, x))
+    pub keys-fall : (t : ℕ) → rank (scope.reach) (1400 + count) ≡ t → rank (scope.reach) (1400 + (count - 1)) < t
+    keys-fall t e = rank-lower t (scope.reach) (1400 + count) (1400 + (count - 1)) e (omega (arith, x))
 
     pub keys-rest : (slots₁ frame₁ : List ℕ) (v : values.Value) (next : ℕ)
         → RunsExpr nums directory ends scope slots slots₁ frame frame₁ 32 (from + 1) v
@@ -236,9 +237,9 @@ module _ (nums directory ends scope slots frame keys : List ℕ) (j from count :
       empty [] q = refl
       empty (k ∷ ks) q = absurd (omega arith)
 
-pub key-fall : (scope : List ℕ) (count t : ℕ) → rank (get_or scope 0 0) (1400 + count) ≡ t
-    → rank (get_or scope 0 0) (32 * 32 + 20) < t
-key-fall scope count t e = rank-lower t (get_or scope 0 0) (1400 + count) (32 * 32 + 20) e (omega arith)
+pub key-fall : (scope : coded.Scope) (count t : ℕ) → rank (scope.reach) (1400 + count) ≡ t
+    → rank (scope.reach) (32 * 32 + 20) < t
+key-fall scope count t e = rank-lower t (scope.reach) (1400 + count) (32 * 32 + 20) e (omega arith)
 
 pub ruleset keys_runs = (
   keys-expr,

@@ -1,4 +1,5 @@
 -- A transition, by its tag.
+use Rattle.program.specs.declared.Scope as coded
 use mathlib.Core.Path.{◌≡◌, refl, sym, ap}
 use mathlib.Core.List.{List, []}
 use Prim.Native.Nat.{ℕ, ◌+◌, ◌<◌, ◌^◌}
@@ -42,7 +43,7 @@ module _ {nums ends : List ℕ} {at : ℕ} where
   reject-is (on-lead-to h s) q = absurd (omega (arith, h.is, q))
   reject-is (on-select h e n ps) q = absurd (omega (arith, h.is, q))
 
-pub select-is : {nums directory ends scope slots frame : List ℕ} {at : ℕ}
+pub select-is : {nums directory ends : List ℕ} {scope : coded.Scope} {slots frame : List ℕ} {at : ℕ}
     → AsksSelect nums directory ends scope slots frame at → (T : Transition) → StandsTransition nums ends at T
     → SelectView nums ends at T
 select-is a T (on-no-transition h) = absurd (a.none h.is)
@@ -74,7 +75,7 @@ module _ (P : Program) (used n : ℕ) (s : State) (T : Transition) where
   lead-state m counted e g =
       rw (lead-ran m e) (later-is P used n m.number counted s (rw (lead-ran m e) at g))
 
-module _ (nums directory ends scope slots frame : List ℕ) (at : ℕ) where
+module _ (nums directory ends : List ℕ) (scope : coded.Scope) (slots frame : List ℕ) (at : ℕ) where
   module _ (a : AsksTransition nums directory ends scope slots frame at) where
     pub tag-inside : at < length nums
     tag-inside = transition-inside a.stands

@@ -1,4 +1,5 @@
 -- The slots that a call is lent: those of its caller's frame behind the caller's own. What it leaves in them is put back.
+use Rattle.program.specs.declared.Scope as coded
 use mathlib.Core.Path.{◌≡◌, ◌∙◌, sym, ap}
 use mathlib.Core.List.{List, ◌++◌}
 use Prim.Native.Nat.{ℕ, ◌+◌, ◌-◌, ◌≤◌, ◌<◌}
@@ -61,7 +62,7 @@ back-laid frame own part ns h same few l = record {
 }
 
 -- a slot behind a body's own is no part of its scene
-pub scene-kept : {nums directory ends scope slots frame : List ℕ} {Γ : Scope} {s : State} (slot n : ℕ)
+pub scene-kept : {nums directory ends : List ℕ} {scope : coded.Scope} {slots frame : List ℕ} {Γ : Scope} {s : State} (slot n : ℕ)
     → Scene nums directory ends scope slots frame Γ s → own_of Γ ≤ slot
     → Scene nums directory ends scope slots (set frame slot n) Γ s
 scene-kept {frame = frame} {Γ = Γ} {s = s} slot n h own =

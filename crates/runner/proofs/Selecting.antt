@@ -1,4 +1,5 @@
 -- A select: its expression runs, and the first equal value leads on.
+use Rattle.program.specs.declared.Scope as coded
 use mathlib.Core.Bool.{Bool, true, false}
 use mathlib.Core.Path.{◌≡◌, refl, ◌∙◌, sym, ap, subst}
 use mathlib.Core.List.{List, [], ◌∷◌}
@@ -128,7 +129,7 @@ then_pair P used n ps k = must (is_fine (values_fit k.width ps)) >>= λ _. selec
 abbrev then_select : Program → ℕ → ℕ → List Pair → Value → M State Ending
 then_select P used n ps v = or_stuck (worked v) >>= then_pair P used n ps
 
-module _ (P : Program) (n : ℕ) {nums directory ends scope slots frame : List ℕ} {at : ℕ} {used : ℕ} {es : List Entry}
+module _ (P : Program) (n : ℕ) {nums directory ends : List ℕ} {scope : coded.Scope} {slots frame : List ℕ} {at : ℕ} {used : ℕ} {es : List Entry}
     {s : State} {T : Transition} (v : SelectView nums ends at T)
     (st : Stage nums directory ends scope slots frame (state_scope P) used es s)
     (g : Goes (counter_of slots) (transition_in P used n T s)) where
@@ -200,7 +201,7 @@ module _ (P : Program) (n : ℕ) {nums directory ends scope slots frame : List �
             (rw all at others)
 
 -- from the numbers
-module _ (nums directory ends scope slots frame : List ℕ) (at : ℕ)
+module _ (nums directory ends : List ℕ) (scope : coded.Scope) (slots frame : List ℕ) (at : ℕ)
     (a : AsksSelect nums directory ends scope slots frame at) where
   abbrev this : SelectView nums ends at a.asks.transition
   this = select-is a a.asks.transition a.asks.stands

@@ -1,4 +1,5 @@
 -- A stage as a run goes on: a step is counted, a construct has run.
+use Rattle.program.specs.declared.Scope as coded
 use mathlib.Core.Path.{◌≡◌}
 use mathlib.Core.List.{List}
 use Prim.Native.Nat.{ℕ, ◌+◌}
@@ -13,7 +14,7 @@ use Rattle.steps.specs.Outcomes.{Goes, counter_of, Ran, AsksCount, Counts}
 use Rattle.steps.proofs.Going.{Begun, tick_goes, tick-below, rest_from, counter-ticked, ran-tick}
 use Rattle.runner.specs.Runs.{Stage}
 
-module _ {nums directory ends scope slots frame : List ℕ} {Γ : Scope} {used : ℕ}
+module _ {nums directory ends : List ℕ} {scope : coded.Scope} {slots frame : List ℕ} {Γ : Scope} {used : ℕ}
     {es : List Entry} {s : State}
     (st : Stage nums directory ends scope slots frame Γ used es s) where
   pub store-count : length slots ≡ store_slots

@@ -1,4 +1,5 @@
 -- The parser from its start: state 0 with the packet's index set, where there are states.
+use Rattle.program.specs.declared.Scope as coded
 use mathlib.Core.Bool.{false≢true}
 use mathlib.Core.Path.{◌≡◌, refl, ◌∙◌, sym}
 use mathlib.Core.List.{List, [], ◌∷◌}
@@ -43,7 +44,7 @@ module _ (nums directory ends slots frame : List ℕ) (store size : ℕ) where
   placed = set slots position_slot (store + size + 1)
 
   -- at any stage
-  module _ (P : Program) {scope : List ℕ} {used : ℕ} {es : List Entry} {s : State}
+  module _ (P : Program) {scope : coded.Scope} {used : ℕ} {es : List Entry} {s : State}
       (st : Stage nums directory ends scope slots frame (apply_scope P) used es s) where
     counted : length P.states ≡ get_or directory states_slot 0
     unfolding apply_scope

@@ -1,4 +1,5 @@
 -- Statements: what each part asks, and what the whole then comes to.
+use Rattle.program.specs.declared.Scope as coded
 use mathlib.Core.Option.{Option, none, some}
 use mathlib.Core.Path.{◌≡◌, refl, ◌∙◌, sym, ap}
 use mathlib.Core.List.{List}
@@ -34,7 +35,7 @@ use Rattle.runner.proofs.Forming.{single-form}
 use Rattle.runner.proofs.Exprs.{value-fits, fitting}
 
 -- by its tag
-module _ (nums directory ends scope slots frame : List ℕ) (depth at : ℕ)
+module _ (nums directory ends : List ℕ) (scope : coded.Scope) (slots frame : List ℕ) (depth at : ℕ)
     (a : AsksStmt nums directory ends scope slots frame depth at) where
   pub stmt-inside : at < length nums
   stmt-inside = (stmt-begins a.stands).inside
@@ -47,10 +48,10 @@ module _ (nums directory ends scope slots frame : List ℕ) (depth at : ℕ)
       → AsksPlain nums directory ends scope slots frame depth at
   stmt-plain l = record { asks = a; single = l }
 
-pub stmt-fall : (scope : List ℕ) (depth t : ℕ) → rank (get_or scope 0 0) (2000 + 32 * depth + 20) ≡ t
-    → rank (get_or scope 0 0) (2000 + 32 * depth + 19) < t
+pub stmt-fall : (scope : coded.Scope) (depth t : ℕ) → rank (scope.reach) (2000 + 32 * depth + 20) ≡ t
+    → rank (scope.reach) (2000 + 32 * depth + 19) < t
 stmt-fall scope depth t e =
-    rank-lower t (get_or scope 0 0) (2000 + 32 * depth + 20) (2000 + 32 * depth + 19) e (omega arith)
+    rank-lower t (scope.reach) (2000 + 32 * depth + 20) (2000 + 32 * depth + 19) e (omega arith)
 
 pub ruleset stmt_runs = (stmt-inside, stmt-tagged, stmt-plain, stmt-fall, single-form)
 
@@ -72,7 +73,7 @@ stmt-below Γ used es s counted (set_invalid at n) g = tick-below _ s g
 stmt-below Γ used es s counted (extract at n) g = tick-below _ s g
 stmt-below Γ used es s counted (verify at c e) g = tick-below _ s g
 
-module _ (tag : ℕ) (nums directory ends scope slots frame : List ℕ) (depth at : ℕ)
+module _ (tag : ℕ) (nums directory ends : List ℕ) (scope : coded.Scope) (slots frame : List ℕ) (depth at : ℕ)
     (a : AsksTagged tag nums directory ends scope slots frame depth at) where
   pub tagged-count : AsksCount slots
   tagged-count = record {
@@ -96,10 +97,10 @@ module _ (tag : ℕ) (nums directory ends scope slots frame : List ℕ) (depth a
   pub tagged-second : at + 2 < 2 ^ 64
   tagged-second = omega (arith, tagged-inside, a.asks.stage.scene.scopes.program.numbers)
 
-pub operand-fall : (scope : List ℕ) (depth t : ℕ) → rank (get_or scope 0 0) (2000 + 32 * depth + 19) ≡ t
-    → rank (get_or scope 0 0) (32 * (depth - 1) + 20) < t
+pub operand-fall : (scope : coded.Scope) (depth t : ℕ) → rank (scope.reach) (2000 + 32 * depth + 19) ≡ t
+    → rank (scope.reach) (32 * (depth - 1) + 20) < t
 operand-fall scope depth t e =
-    rank-lower t (get_or scope 0 0) (2000 + 32 * depth + 19) (32 * (depth - 1) + 20) e (omega arith)
+    rank-lower t (scope.reach) (2000 + 32 * depth + 19) (32 * (depth - 1) + 20) e (omega arith)
 
 pub ruleset tagged_runs = (tagged-count, tagged-levels, tagged-next, tagged-second, operand-fall)
 
@@ -109,7 +110,7 @@ single-is : {nums ends : List ℕ} {depth at : ℕ} {x : Stmt} (l : SingleAt num
 unfolding stmt_in
 single-is {x = x} l Γ used es s w = rw (l.is x w Γ used (calls_of Γ) (applied_in Γ used es)) refl
 
-module _ (nums directory ends scope slots frame : List ℕ) (depth at : ℕ)
+module _ (nums directory ends : List ℕ) (scope : coded.Scope) (slots frame : List ℕ) (depth at : ℕ)
     (a : AsksPlain nums directory ends scope slots frame depth at) where
   single-going : Goes (counter_of slots) (tick (single_in a.asks.scope_of a.asks.stmt) a.asks.state)
   single-going = rw (single-is a.single a.asks.scope_of a.asks.used a.asks.entry_list a.asks.state
@@ -179,7 +180,7 @@ module _ (Γ : Scope) (used : ℕ) (es : List Entry) (s : State) (at : ℕ) wher
   apply-is x t q = rw q refl
 
 -- an operand that runs first
-module _ {nums directory ends scope slots slots₁ frame : List ℕ} {Γ : Scope} {used : ℕ}
+module _ {nums directory ends : List ℕ} {scope : coded.Scope} {slots slots₁ frame : List ℕ} {Γ : Scope} {used : ℕ}
     {es : List Entry} {s : State} (e : Expr) (k : Value → M State Ending)
     (st : Stage nums directory ends scope slots frame Γ used es s) (c : Counts slots slots₁)
     (g : Goes (counter_of slots) (tick (expr_in Γ used e >>= k) s)) where
@@ -215,7 +216,7 @@ written_as Γ p ty number h t =
     let same : t.number ≡ number = cc in
     (same, rw same at (value-fits (fitting h) is))
 
-module _ {nums directory ends scope slots slots₁ frame : List ℕ} {depth at : ℕ} {Γ : Scope}
+module _ {nums directory ends : List ℕ} {scope : coded.Scope} {slots slots₁ frame : List ℕ} {depth at : ℕ} {Γ : Scope}
     {used : ℕ} {es : List Entry} {s : State} {x : Stmt} (v : AssignView nums ends depth at x)
     (st : Stage nums directory ends scope slots frame Γ used es s) (c : Counts slots slots₁)
     (g : Goes (counter_of slots) (stmt_in Γ used es x s)) where
@@ -259,7 +260,7 @@ module _ {nums directory ends scope slots slots₁ frame : List ℕ} {depth at :
         (ran_then (write_at Γ v.place w) (λ _. pure onward) h.state puts-ran
         (ran-here puts-ran.state onward puts-ran.scene refl ends-onward)))
 
-module _ (nums directory ends scope slots frame : List ℕ) (depth at : ℕ)
+module _ (nums directory ends : List ℕ) (scope : coded.Scope) (slots frame : List ℕ) (depth at : ℕ)
     (a : AsksTagged 1 nums directory ends scope slots frame depth at) where
   assign-at : (x : Stmt) → StandsStmt nums ends depth at x → AssignView nums ends depth at x
   unfolding StmtView
@@ -346,7 +347,7 @@ chosen_more ty number counted x y s e g = go (ty_of ty) number e g
     go bool (suc n) e h = unfold choose in refl
     go (bits width) n e h = unfold choose in not-nowhere s h
 
-module _ {nums directory ends scope slots slots₁ frame : List ℕ} {depth at : ℕ} {Γ : Scope}
+module _ {nums directory ends : List ℕ} {scope : coded.Scope} {slots slots₁ frame : List ℕ} {depth at : ℕ} {Γ : Scope}
     {used : ℕ} {es : List Entry} {s : State} {x : Stmt} (v : IfView nums ends depth at x)
     (st : Stage nums directory ends scope slots frame Γ used es s) (c : Counts slots slots₁)
     (g : Goes (counter_of slots) (stmt_in Γ used es x s)) where
@@ -387,7 +388,7 @@ module _ {nums directory ends scope slots slots₁ frame : List ℕ} {depth at :
     first-is q = chosen_more y.ty y.number (counter_of slots₂) (stmt_in Γ used es v.first)
         (stmt_in Γ used es v.second) h.state q if-rest
 
-module _ (nums directory ends scope slots frame : List ℕ) (depth at : ℕ)
+module _ (nums directory ends : List ℕ) (scope : coded.Scope) (slots frame : List ℕ) (depth at : ℕ)
     (a : AsksTagged 2 nums directory ends scope slots frame depth at) where
   if-at : (x : Stmt) → StandsStmt nums ends depth at x → IfView nums ends depth at x
   unfolding StmtView
@@ -506,12 +507,12 @@ module _ (nums directory ends scope slots frame : List ℕ) (depth at : ℕ)
             runs = λ Γ used es s x st w g. first-ran first q e k Γ used es s x (if-at x w) st g;
           }
 
-pub branch-fall : (tag : ℕ) (nums directory ends scope slots frame : List ℕ) (depth at : ℕ)
+pub branch-fall : (tag : ℕ) (nums directory ends : List ℕ) (scope : coded.Scope) (slots frame : List ℕ) (depth at : ℕ)
     → AsksTagged tag nums directory ends scope slots frame depth at
-    → (t : ℕ) → rank (get_or scope 0 0) (2000 + 32 * depth + 19) ≡ t
-    → rank (get_or scope 0 0) (2000 + 32 * (depth - 1) + 20) < t
+    → (t : ℕ) → rank (scope.reach) (2000 + 32 * depth + 19) ≡ t
+    → rank (scope.reach) (2000 + 32 * (depth - 1) + 20) < t
 branch-fall tag nums directory ends scope slots frame depth at a t e =
-    rank-lower t (get_or scope 0 0) (2000 + 32 * depth + 19) (2000 + 32 * (depth - 1) + 20) e
+    rank-lower t (scope.reach) (2000 + 32 * depth + 19) (2000 + 32 * (depth - 1) + 20) e
     (omega (arith, (stmt-begins a.asks.stands).levels))
 
 pub ruleset if_runs =
@@ -533,7 +534,7 @@ returned-is in_action ty number ending e = unfold returned_from in let z : ◌�
 returned-is in_apply ty number ending e = unfold returned_from in let z : ◌≡◌ {A = ℕ} 0 1 = cc in absurd (omega arith)
 returned-is in_state ty number ending e = unfold returned_from in let z : ◌≡◌ {A = ℕ} 0 1 = cc in absurd (omega arith)
 
-module _ {nums directory ends scope slots slots₁ frame : List ℕ} {depth at : ℕ} {Γ : Scope}
+module _ {nums directory ends : List ℕ} {scope : coded.Scope} {slots slots₁ frame : List ℕ} {depth at : ℕ} {Γ : Scope}
     {used : ℕ} {es : List Entry} {s : State} {x : Stmt} (v : ReturnView nums ends depth at x)
     (st : Stage nums directory ends scope slots frame Γ used es s) (c : Counts slots slots₁)
     (g : Goes (counter_of slots) (stmt_in Γ used es x s)) where
@@ -561,7 +562,7 @@ module _ {nums directory ends scope slots slots₁ frame : List ℕ} {depth at :
       (ran-here h.state (returned_value (value_of y.ty y.number)) h.scene
       (some_is (returned_from Γ.body (value_of y.ty y.number)) h.state (k.is ∙ ap some same)) ends))
 
-module _ (nums directory ends scope slots frame : List ℕ) (depth at : ℕ)
+module _ (nums directory ends : List ℕ) (scope : coded.Scope) (slots frame : List ℕ) (depth at : ℕ)
     (a : AsksTagged 6 nums directory ends scope slots frame depth at) where
   return-at : (x : Stmt) → StandsStmt nums ends depth at x → ReturnView nums ends depth at x
   unfolding StmtView

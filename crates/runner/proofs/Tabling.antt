@@ -1,4 +1,5 @@
 -- A table that is applied: its keys, the look-up, then the action of the entry that is found, or the default.
+use Rattle.program.specs.declared.Scope as coded
 use mathlib.Core.Bool.{true, false, ◌&&◌}
 use mathlib.Core.Option.{some}
 use mathlib.Core.Path.{◌≡◌, refl, ◌∙◌, sym}
@@ -160,7 +161,7 @@ module _ (P : Program) (used : ℕ) (parts : PartsJudged P) (t : ℕ) (T : Table
         (calls-below working_slots P parts.callables (length P.callables)) T))).run s fits) e
 
 -- at any stage
-module _ (P : Program) {nums directory ends scope slots frame : List ℕ} {t : ℕ} {used : ℕ}
+module _ (P : Program) {nums directory ends : List ℕ} {scope : coded.Scope} {slots frame : List ℕ} {t : ℕ} {used : ℕ}
     {es : List Entry} {s : State} {at actions default : ℕ}
     (found : Finds tables_of (FoundTable nums ends at actions default) nums directory ends t)
     (st : Stage nums directory ends scope slots frame (apply_scope P) used es s)
@@ -281,7 +282,7 @@ module _ (P : Program) {nums directory ends scope slots frame : List ℕ} {t : �
         }
 
 -- from the numbers
-module _ (nums directory ends scope slots frame : List ℕ) (t : ℕ) where
+module _ (nums directory ends : List ℕ) (scope : coded.Scope) (slots frame : List ℕ) (t : ℕ) where
   module _ (a : AsksTable nums directory ends scope slots frame t) where
     pub table-has : Has tables_of nums directory ends t
     unfolding tables_of apply_scope
@@ -320,9 +321,9 @@ module _ (nums directory ends scope slots frame : List ℕ) (t : ℕ) where
         going = (this a.program found a.stage a.going).begun.first;
       }
 
-      pub table-keys-fall : (x : ℕ) → rank (get_or scope 0 0) 1500 ≡ x
-          → rank (get_or scope 0 0) (1400 + get_or nums at 0) < x
-      table-keys-fall x e = rank-lower x (get_or scope 0 0) 1500 (1400 + get_or nums at 0) e
+      pub table-keys-fall : (x : ℕ) → rank (scope.reach) 1500 ≡ x
+          → rank (scope.reach) (1400 + get_or nums at 0) < x
+      table-keys-fall x e = rank-lower x (scope.reach) 1500 (1400 + get_or nums at 0) e
           (omega (arith, key-count a.program found a.stage a.going))
 
     module _ (slots₁ frame₁ keys₁ : List ℕ)
@@ -431,12 +432,12 @@ module _ (nums directory ends scope slots frame : List ℕ) (t : ℕ) where
             → RunsTable nums directory ends scope slots slots₂ frame frame₂ t y
         default-runs q k = record { runs = default-ran q k }
 
-pub action-fall : (nums directory ends scope slots frame : List ℕ) (t : ℕ)
+pub action-fall : (nums directory ends : List ℕ) (scope : coded.Scope) (slots frame : List ℕ) (t : ℕ)
     → AsksTable nums directory ends scope slots frame t → (x : ℕ)
-    → rank (get_or scope 0 0) 1500 ≡ x → rank (get_or directory callables_slot 0) 1450 < x
+    → rank (scope.reach) 1500 ≡ x → rank (get_or directory callables_slot 0) 1450 < x
 unfolding apply_scope
 action-fall nums directory ends scope slots frame t a x e =
-    let same : get_or scope 0 0 ≡ get_or directory callables_slot 0
+    let same : scope.reach ≡ get_or directory callables_slot 0
     = omega (arith, a.stage.scene.scopes.reach, a.stage.scene.scopes.program.callables.count) in
     rank-lower x (get_or directory callables_slot 0) 1500 1450 (rw same at e) (omega arith)
 

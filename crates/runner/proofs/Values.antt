@@ -1,4 +1,5 @@
 -- A call as an expression and as a statement: its callable is found, it runs, and its ending is looked at.
+use Rattle.program.specs.declared.Scope as coded
 use mathlib.Core.Bool.{true, false}
 use mathlib.Core.Option.{Option, some}
 use mathlib.Core.Path.{◌≡◌, refl, ◌∙◌}
@@ -147,7 +148,7 @@ module _ {nums ends : List ℕ} {depth at : ℕ} (Γ : Scope) (used : ℕ) (es :
   call-ticks v g = rw (call-is v) at g
 
 -- at any stage, as an expression
-module _ {nums directory ends scope slots slots₁ frame : List ℕ} {depth at : ℕ} {Γ : Scope}
+module _ {nums directory ends : List ℕ} {scope : coded.Scope} {slots slots₁ frame : List ℕ} {depth at : ℕ} {Γ : Scope}
     {used : ℕ} {es : List Entry} {s : State} {e : Expr} (v : CallView nums ends depth at e)
     (w : StandsExpr nums ends depth at e)
     (st : Stage nums directory ends scope slots frame Γ used es s) (c : Counts slots slots₁)
@@ -182,7 +183,7 @@ module _ {nums directory ends scope slots slots₁ frame : List ℕ} {depth at :
           → Ends ended (returned_value x)
       value-ends ending x q y = rw (value-of ending x q) at y
 
-module _ (nums directory ends scope slots frame : List ℕ) (depth at : ℕ)
+module _ (nums directory ends : List ℕ) (scope : coded.Scope) (slots frame : List ℕ) (depth at : ℕ)
     (a : AsksValue nums directory ends scope slots frame depth at) where
   view-at : (e : Expr) → StandsExpr nums ends depth at e → CallView nums ends depth at e
   unfolding ExprView
@@ -225,14 +226,14 @@ module _ (nums directory ends scope slots frame : List ℕ) (depth at : ℕ)
         (value-at v w st c g) k.going.first) y;
   }
 
-pub value-fall : (scope : List ℕ) (depth t : ℕ) → rank (get_or scope 0 0) (32 * depth + 19) ≡ t
-    → rank (get_or scope 0 0) (32 * depth + 18) < t
-value-fall scope depth t e = rank-lower t (get_or scope 0 0) (32 * depth + 19) (32 * depth + 18) e (omega arith)
+pub value-fall : (scope : coded.Scope) (depth t : ℕ) → rank (scope.reach) (32 * depth + 19) ≡ t
+    → rank (scope.reach) (32 * depth + 18) < t
+value-fall scope depth t e = rank-lower t (scope.reach) (32 * depth + 19) (32 * depth + 18) e (omega arith)
 
 pub ruleset value_runs = (value-count, value-call, value-runs, value-fall)
 
 -- as a statement
-module _ {nums directory ends scope slots slots₁ frame : List ℕ} {depth at : ℕ} {Γ : Scope}
+module _ {nums directory ends : List ℕ} {scope : coded.Scope} {slots slots₁ frame : List ℕ} {depth at : ℕ} {Γ : Scope}
     {used : ℕ} {es : List Entry} {s : State} {x : Stmt} (v : CallStmtView nums ends depth at x)
     (w : StandsStmt nums ends depth at x)
     (st : Stage nums directory ends scope slots frame Γ used es s) (c : Counts slots slots₁)
@@ -260,7 +261,7 @@ module _ {nums directory ends scope slots slots₁ frame : List ℕ} {depth at :
       rw (call-is Γ used es s v) (ran-counted st _ c (rw call-found.same (ran_then _ (λ ending. pure (after_call ending)) s h
       (ran-here h.state (after_call h.answer) h.scene refl (r.goes_on h.answer h.answers)))))
 
-module _ (nums directory ends scope slots frame : List ℕ) (depth at : ℕ)
+module _ (nums directory ends : List ℕ) (scope : coded.Scope) (slots frame : List ℕ) (depth at : ℕ)
     (a : AsksTagged 4 nums directory ends scope slots frame depth at) where
   stmt-at : (x : Stmt) → StandsStmt nums ends depth at x → CallStmtView nums ends depth at x
   unfolding StmtView
@@ -299,8 +300,8 @@ module _ (nums directory ends scope slots frame : List ℕ) (depth at : ℕ)
         (call_at v w st c g) k.going.first) y;
   }
 
-pub call-fall : (scope : List ℕ) (depth t : ℕ) → rank (get_or scope 0 0) (2000 + 32 * depth + 19) ≡ t
-    → rank (get_or scope 0 0) (32 * depth + 18) < t
-call-fall scope depth t e = rank-lower t (get_or scope 0 0) (2000 + 32 * depth + 19) (32 * depth + 18) e (omega arith)
+pub call-fall : (scope : coded.Scope) (depth t : ℕ) → rank (scope.reach) (2000 + 32 * depth + 19) ≡ t
+    → rank (scope.reach) (32 * depth + 18) < t
+call-fall scope depth t e = rank-lower t (scope.reach) (2000 + 32 * depth + 19) (32 * depth + 18) e (omega arith)
 
 pub ruleset call_stmt_runs = (call-stmt, call-stmt-runs, call-fall)

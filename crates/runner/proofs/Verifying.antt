@@ -1,4 +1,5 @@
 -- A verify: its condition runs, and where it is false the error behind it rejects.
+use Rattle.program.specs.declared.Scope as coded
 use mathlib.Core.Path.{◌≡◌, refl, ◌∙◌, ap}
 use mathlib.Core.List.{List, [], ◌∷◌}
 use Prim.Native.Nat.{ℕ, ◌+◌, ◌-◌, ◌<◌}
@@ -44,7 +45,7 @@ module _ (Γ : Scope) (used : ℕ) (es : List Entry) (s : State) (at : ℕ) wher
       verify-is x c error q ∙ (unfold tick in
       ap (more (s.store ∷ [])) (must-then-is (is_state Γ.body) (λ _. expr_in Γ used c >>= verified error) s m.0))
 
-module _ {nums directory ends scope slots slots₁ frame : List ℕ} {depth at : ℕ} {Γ : Scope}
+module _ {nums directory ends : List ℕ} {scope : coded.Scope} {slots slots₁ frame : List ℕ} {depth at : ℕ} {Γ : Scope}
     {used : ℕ} {es : List Entry} {s : State} {x : Stmt} (v : VerifyView nums ends depth at x)
     (st : Stage nums directory ends scope slots frame Γ used es s) (c : Counts slots slots₁)
     (g : Goes (counter_of slots) (stmt_in Γ used es x s)) where
@@ -82,7 +83,7 @@ module _ {nums directory ends scope slots slots₁ frame : List ℕ} {depth at :
         (chosen_more y.ty y.number (counter_of slots₂) (pure onward) (pure (rejected v.error)) h.state q
         verify-rest) ends-onward))
 
-module _ (nums directory ends scope slots frame : List ℕ) (depth at : ℕ)
+module _ (nums directory ends : List ℕ) (scope : coded.Scope) (slots frame : List ℕ) (depth at : ℕ)
     (a : AsksTagged 12 nums directory ends scope slots frame depth at) where
   verify-at : (x : Stmt) → StandsStmt nums ends depth at x → VerifyView nums ends depth at x
   unfolding StmtView

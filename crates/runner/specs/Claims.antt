@@ -1,5 +1,6 @@
 -- What the functions of the run ask and promise one another. Each asks that the rules go on from what stands in the
 -- slots, and promises what they come to.
+use Rattle.program.specs.declared.Scope as coded
 use Rattle.std.specs.Prelude.{false, ◌≡◌, List, [], ◌∷◌, ℕ, ◌+◌, ◌-◌, ◌≤◌, ◌<◌, length, get_or}
 use Rattle.std.proofs.Math.Option.{some}
 use Rattle.rules.specs.Syntax.{Expr, Args, Stmt, Stmts, Parameter, Callable, Key, Table, Program, place_in}
@@ -20,7 +21,7 @@ use Rattle.runner.specs.Runs.{expr_in, args_in, call_in, stmt_in, stmts_in, body
 use Rattle.runner.specs.Forms.{LeafAt, OneAt, TwoAt, SingleAt}
 
 -- an expression
-pub record AsksExpr (nums directory ends scope slots frame : List ℕ) (depth at : ℕ)
+pub record AsksExpr (nums directory ends : List ℕ) (scope : coded.Scope) (slots frame : List ℕ) (depth at : ℕ)
     : Type 0 where
   pub scope_of : Scope
   pub used : ℕ
@@ -32,7 +33,7 @@ pub record AsksExpr (nums directory ends scope slots frame : List ℕ) (depth at
   pub deep : depth ≤ deepest
   pub going : Goes (counter_of slots) (expr_in scope_of used expr state)
 
-pub record RunsExpr (nums directory ends scope slots slots' frame frame' : List ℕ) (depth at : ℕ)
+pub record RunsExpr (nums directory ends : List ℕ) (scope : coded.Scope) (slots slots' frame frame' : List ℕ) (depth at : ℕ)
     (r : Value) : Type 0 where
   pub runs : (Γ : Scope) (used : ℕ) (es : List Entry) (s : State) (e : Expr)
       → Stage nums directory ends scope slots frame Γ used es s → StandsExpr nums ends depth at e
@@ -40,22 +41,22 @@ pub record RunsExpr (nums directory ends scope slots slots' frame frame' : List 
       → Ran nums directory ends scope slots slots' frame frame' Γ (expr_in Γ used e s) (Gave r.ty r.number)
 
 -- one without operands, with one whose operand begins at an index, with two whose first begins there, a call
-pub record AsksLeafAt (nums directory ends scope slots frame : List ℕ) (depth at : ℕ)
+pub record AsksLeafAt (nums directory ends : List ℕ) (scope : coded.Scope) (slots frame : List ℕ) (depth at : ℕ)
     : Type 0 where
   pub asks : AsksExpr nums directory ends scope slots frame depth at
   pub leaf : LeafAt nums ends depth at
 
-pub record AsksOne (nums directory ends scope slots frame : List ℕ) (depth at first : ℕ)
+pub record AsksOne (nums directory ends : List ℕ) (scope : coded.Scope) (slots frame : List ℕ) (depth at first : ℕ)
     : Type 0 where
   pub asks : AsksExpr nums directory ends scope slots frame depth at
   pub one : OneAt nums ends depth at first
 
-pub record AsksTwo (nums directory ends scope slots frame : List ℕ) (depth at first : ℕ)
+pub record AsksTwo (nums directory ends : List ℕ) (scope : coded.Scope) (slots frame : List ℕ) (depth at first : ℕ)
     : Type 0 where
   pub asks : AsksExpr nums directory ends scope slots frame depth at
   pub two : TwoAt nums ends depth at first
 
-pub record AsksValue (nums directory ends scope slots frame : List ℕ) (depth at : ℕ)
+pub record AsksValue (nums directory ends : List ℕ) (scope : coded.Scope) (slots frame : List ℕ) (depth at : ℕ)
     : Type 0 where
   pub asks : AsksExpr nums directory ends scope slots frame depth at
   pub tagged : get_or nums at 0 ≡ 13
@@ -69,7 +70,7 @@ pub record CallAt (nums ends : List ℕ) (depth at : ℕ) (Γ : Scope) (f : ℕ)
   pub is : callable_below Γ.program Γ.reach f ≡ some c
   pub outside : is_state Γ.body ≡ false
 
-pub record AsksCall (nums directory ends scope slots frame : List ℕ) (depth at : ℕ)
+pub record AsksCall (nums directory ends : List ℕ) (scope : coded.Scope) (slots frame : List ℕ) (depth at : ℕ)
     : Type 0 where
   pub scope_of : Scope
   pub used : ℕ
@@ -83,7 +84,7 @@ pub record AsksCall (nums directory ends scope slots frame : List ℕ) (depth at
   pub deep : depth ≤ deepest
   pub going : Goes (counter_of slots) (call_in scope_of used callable args found.parameters state)
 
-pub record RunsCall (nums directory ends scope slots slots' frame frame' : List ℕ) (depth at : ℕ)
+pub record RunsCall (nums directory ends : List ℕ) (scope : coded.Scope) (slots slots' frame frame' : List ℕ) (depth at : ℕ)
     (r : Ended) : Type 0 where
   pub runs : (Γ : Scope) (used : ℕ) (es : List Entry) (s : State) (f : ℕ) (xs : Args) (c : Callable)
       → Stage nums directory ends scope slots frame Γ used es s
@@ -94,7 +95,7 @@ pub record RunsCall (nums directory ends scope slots slots' frame frame' : List 
 unfoldable pub arg_in : Scope → ℕ → Expr → Parameter → M State ℕ
 arg_in Γ used e p = go_in Γ p (place_in e) (expr_in Γ used e)
 
-pub record AsksArg (nums directory ends scope slots frame : List ℕ) (depth at parameters : ℕ)
+pub record AsksArg (nums directory ends : List ℕ) (scope : coded.Scope) (slots frame : List ℕ) (depth at parameters : ℕ)
     : Type 0 where
   pub scope_of : Scope
   pub used : ℕ
@@ -112,7 +113,7 @@ pub record Went (p : Parameter) (r n : ℕ) : Type 0 where
   pub is : n ≡ r
   pub fit : FitParameter p n
 
-pub record RunsArg (nums directory ends scope slots slots' frame frame' : List ℕ)
+pub record RunsArg (nums directory ends : List ℕ) (scope : coded.Scope) (slots slots' frame frame' : List ℕ)
     (depth at parameters r : ℕ) : Type 0 where
   pub runs : (Γ : Scope) (used : ℕ) (es : List Entry) (s : State) (e : Expr) (p : Parameter)
       → Stage nums directory ends scope slots frame Γ used es s → StandsExpr nums ends depth at e
@@ -128,7 +129,7 @@ pub record ArgsAt (nums ends frame : List ℕ) (depth at parameters count slot :
   pub own : own_of Γ ≤ slot
   pub inside : slot + count ≤ length frame
 
-pub record AsksArgs (nums directory ends scope slots frame : List ℕ)
+pub record AsksArgs (nums directory ends : List ℕ) (scope : coded.Scope) (slots frame : List ℕ)
     (depth at parameters count slot : ℕ) : Type 0 where
   pub scope_of : Scope
   pub used : ℕ
@@ -146,7 +147,7 @@ pub record Laying (frame : List ℕ) (slot : ℕ) (ps : List Parameter) (ns : Li
   pub laid : Laid frame slot ns
   pub fit : All2 FitParameter ps ns
 
-pub record RunsArgs (nums directory ends scope slots slots' frame frame' : List ℕ)
+pub record RunsArgs (nums directory ends : List ℕ) (scope : coded.Scope) (slots slots' frame frame' : List ℕ)
     (depth at parameters count slot : ℕ) : Type 0 where
   pub runs : (Γ : Scope) (used : ℕ) (es : List Entry) (s : State) (xs : Args) (ps : List Parameter)
       → Stage nums directory ends scope slots frame Γ used es s
@@ -172,7 +173,7 @@ pub record RunsBody (nums directory ends slots slots' frame frame' : List ℕ) (
       → RanBody slots slots' frame frame' P c (body_in P f c used ns cells) r
 
 -- a statement; one of a tag
-pub record AsksStmt (nums directory ends scope slots frame : List ℕ) (depth at : ℕ)
+pub record AsksStmt (nums directory ends : List ℕ) (scope : coded.Scope) (slots frame : List ℕ) (depth at : ℕ)
     : Type 0 where
   pub scope_of : Scope
   pub used : ℕ
@@ -184,26 +185,26 @@ pub record AsksStmt (nums directory ends scope slots frame : List ℕ) (depth at
   pub deep : depth ≤ deepest
   pub going : Goes (counter_of slots) (stmt_in scope_of used entry_list stmt state)
 
-pub record RunsStmt (nums directory ends scope slots slots' frame frame' : List ℕ) (depth at : ℕ)
+pub record RunsStmt (nums directory ends : List ℕ) (scope : coded.Scope) (slots slots' frame frame' : List ℕ) (depth at : ℕ)
     (r : Ended) : Type 0 where
   pub runs : (Γ : Scope) (used : ℕ) (es : List Entry) (s : State) (st : Stmt)
       → Stage nums directory ends scope slots frame Γ used es s → StandsStmt nums ends depth at st
       → Goes (counter_of slots) (stmt_in Γ used es st s)
       → Ran nums directory ends scope slots slots' frame frame' Γ (stmt_in Γ used es st s) (Ends r)
 
-pub record AsksTagged (tag : ℕ) (nums directory ends scope slots frame : List ℕ) (depth at : ℕ)
+pub record AsksTagged (tag : ℕ) (nums directory ends : List ℕ) (scope : coded.Scope) (slots frame : List ℕ) (depth at : ℕ)
     : Type 0 where
   pub asks : AsksStmt nums directory ends scope slots frame depth at
   pub tagged : get_or nums at 0 ≡ tag
 
 -- one that runs no other construct
-pub record AsksPlain (nums directory ends scope slots frame : List ℕ) (depth at : ℕ)
+pub record AsksPlain (nums directory ends : List ℕ) (scope : coded.Scope) (slots frame : List ℕ) (depth at : ℕ)
     : Type 0 where
   pub asks : AsksStmt nums directory ends scope slots frame depth at
   pub single : SingleAt nums ends depth at
 
 -- so many members of a block
-pub record AsksStmts (nums directory ends scope slots frame : List ℕ) (depth at count : ℕ)
+pub record AsksStmts (nums directory ends : List ℕ) (scope : coded.Scope) (slots frame : List ℕ) (depth at count : ℕ)
     : Type 0 where
   pub scope_of : Scope
   pub used : ℕ
@@ -216,7 +217,7 @@ pub record AsksStmts (nums directory ends scope slots frame : List ℕ) (depth a
   pub deep : depth ≤ deepest
   pub going : Goes (counter_of slots) (stmts_in scope_of used entry_list stmts state)
 
-pub record RunsStmts (nums directory ends scope slots slots' frame frame' : List ℕ)
+pub record RunsStmts (nums directory ends : List ℕ) (scope : coded.Scope) (slots slots' frame frame' : List ℕ)
     (depth at count : ℕ) (r : Ended) : Type 0 where
   pub runs : (Γ : Scope) (used : ℕ) (es : List Entry) (s : State) (ss : Stmts)
       → Stage nums directory ends scope slots frame Γ used es s
@@ -224,7 +225,7 @@ pub record RunsStmts (nums directory ends scope slots slots' frame frame' : List
       → Ran nums directory ends scope slots slots' frame frame' Γ (stmts_in Γ used es ss s) (Ends r)
 
 -- a table, applied in the apply body
-pub record AsksTable (nums directory ends scope slots frame : List ℕ) (t : ℕ) : Type 0 where
+pub record AsksTable (nums directory ends : List ℕ) (scope : coded.Scope) (slots frame : List ℕ) (t : ℕ) : Type 0 where
   pub program : Program
   pub used : ℕ
   pub entry_list : List Entry
@@ -232,7 +233,7 @@ pub record AsksTable (nums directory ends scope slots frame : List ℕ) (t : ℕ
   pub stage : Stage nums directory ends scope slots frame (apply_scope program) used entry_list state
   pub going : Goes (counter_of slots) (table_in program used entry_list t state)
 
-pub record RunsTable (nums directory ends scope slots slots' frame frame' : List ℕ) (t : ℕ)
+pub record RunsTable (nums directory ends : List ℕ) (scope : coded.Scope) (slots slots' frame frame' : List ℕ) (t : ℕ)
     (r : Ended) : Type 0 where
   pub runs : (P : Program) (used : ℕ) (es : List Entry) (s : State)
       → Stage nums directory ends scope slots frame (apply_scope P) used es s
@@ -250,7 +251,7 @@ pub record KeysAt (nums ends keys : List ℕ) (j from count : ℕ) (ks : List Ke
   pub slots : length keys ≡ most_keys
   pub inside : j + count ≤ most_keys
 
-pub record AsksKeys (nums directory ends scope slots frame keys : List ℕ) (j from count : ℕ)
+pub record AsksKeys (nums directory ends : List ℕ) (scope : coded.Scope) (slots frame keys : List ℕ) (j from count : ℕ)
     : Type 0 where
   pub program : Program
   pub used : ℕ
@@ -261,7 +262,7 @@ pub record AsksKeys (nums directory ends scope slots frame keys : List ℕ) (j f
   pub keyed : KeysAt nums ends keys j from count key_list
   pub going : Goes (counter_of slots) (keys_in program used key_list state)
 
-pub record RunsKeys (nums directory ends scope slots slots' frame frame' keys keys' : List ℕ)
+pub record RunsKeys (nums directory ends : List ℕ) (scope : coded.Scope) (slots slots' frame frame' keys keys' : List ℕ)
     (j from count : ℕ) : Type 0 where
   pub same : length keys' ≡ length keys
   pub before : (i : ℕ) → i < j → get_or keys' i 0 ≡ get_or keys i 0
@@ -277,7 +278,7 @@ pub record ActionAt (nums : List ℕ) (actions from : ℕ) (T : Table) (ns : Lis
   pub given : HoldsAll nums from ns
 
 pub record AsksAction (nums directory ends slots frame : List ℕ) (actions at from : ℕ) : Type 0 where
-  pub scope : List ℕ
+  pub scope : coded.Scope
   pub program : Program
   pub used : ℕ
   pub entry_list : List Entry
@@ -292,7 +293,7 @@ pub record AsksAction (nums directory ends slots frame : List ℕ) (actions at f
 
 pub record RunsAction (nums directory ends slots slots' frame frame' : List ℕ) (actions at from : ℕ) (r : Ended)
     : Type 0 where
-  pub runs : (scope : List ℕ) (P : Program) (used : ℕ) (es : List Entry) (s : State) (T : Table) (ns : List ℕ)
+  pub runs : (scope : coded.Scope) (P : Program) (used : ℕ) (es : List Entry) (s : State) (T : Table) (ns : List ℕ)
       → Stage nums directory ends scope slots frame (apply_scope P) used es s
       → ActionAt nums actions from T ns → Goes (counter_of slots) (action_in P used T (get_or nums at 0) ns s)
       → Ran nums directory ends scope slots slots' frame frame' (apply_scope P) (action_in P used T (get_or nums at 0) ns s)

@@ -1,5 +1,6 @@
 -- The parser: what its states and their transitions do by the rules, and what the functions that run them ask and
 -- promise.
+use Rattle.program.specs.declared.Scope as coded
 use Rattle.std.specs.Prelude.{Bool, true, false, ◌≡◌, List, [], ℕ, suc, ◌+◌, ◌*◌, ◌≤◌, ◌<◌, length, get_or, drop}
 use Rattle.rules.specs.Numbers.{most_bytes}
 use Rattle.rules.specs.Syntax.{Transition, Program}
@@ -33,7 +34,7 @@ pub record TellsOn (ended : Ended) (r : Bool) : Type 0 where
   pub over : r ≡ false → ended ≡ Onward → ⊥
 
 -- a state
-pub record AsksState (nums directory ends scope slots frame : List ℕ) (n : ℕ) : Type 0 where
+pub record AsksState (nums directory ends : List ℕ) (scope : coded.Scope) (slots frame : List ℕ) (n : ℕ) : Type 0 where
   pub program : Program
   pub used : ℕ
   pub entry_list : List Entry
@@ -41,14 +42,14 @@ pub record AsksState (nums directory ends scope slots frame : List ℕ) (n : ℕ
   pub stage : Stage nums directory ends scope slots frame (state_scope program) used entry_list state
   pub going : Goes (counter_of slots) (state_in program used n state)
 
-pub record RunsState (nums directory ends scope slots slots' frame frame' : List ℕ) (n : ℕ) (r : Ended) : Type 0 where
+pub record RunsState (nums directory ends : List ℕ) (scope : coded.Scope) (slots slots' frame frame' : List ℕ) (n : ℕ) (r : Ended) : Type 0 where
   pub runs : (P : Program) (used : ℕ) (es : List Entry) (s : State)
       → Stage nums directory ends scope slots frame (state_scope P) used es s
       → Goes (counter_of slots) (state_in P used n s)
       → Ran nums directory ends scope slots slots' frame frame' (state_scope P) (state_in P used n s) (Ends r)
 
 -- a transition; a select
-pub record AsksTransition (nums directory ends scope slots frame : List ℕ) (at : ℕ) : Type 0 where
+pub record AsksTransition (nums directory ends : List ℕ) (scope : coded.Scope) (slots frame : List ℕ) (at : ℕ) : Type 0 where
   pub program : Program
   pub used : ℕ
   pub entry_list : List Entry
@@ -59,14 +60,14 @@ pub record AsksTransition (nums directory ends scope slots frame : List ℕ) (at
   pub stands : StandsTransition nums ends at transition
   pub going : Goes (counter_of slots) (transition_in program used from transition state)
 
-pub record RunsTransition (nums directory ends scope slots slots' frame frame' : List ℕ) (at : ℕ) (r : Ended)
+pub record RunsTransition (nums directory ends : List ℕ) (scope : coded.Scope) (slots slots' frame frame' : List ℕ) (at : ℕ) (r : Ended)
     : Type 0 where
   pub runs : (P : Program) (used : ℕ) (es : List Entry) (s : State) (n : ℕ) (T : Transition)
       → Stage nums directory ends scope slots frame (state_scope P) used es s → StandsTransition nums ends at T
       → Goes (counter_of slots) (transition_in P used n T s)
       → Ran nums directory ends scope slots slots' frame frame' (state_scope P) (transition_in P used n T s) (Ends r)
 
-pub record AsksSelect (nums directory ends scope slots frame : List ℕ) (at : ℕ) : Type 0 where
+pub record AsksSelect (nums directory ends : List ℕ) (scope : coded.Scope) (slots frame : List ℕ) (at : ℕ) : Type 0 where
   pub asks : AsksTransition nums directory ends scope slots frame at
   pub none : get_or nums at 0 ≡ 0 → ⊥
   pub accept : get_or nums at 0 ≡ 1 → ⊥
@@ -87,7 +88,7 @@ pub record FirstEqual (nums : List ℕ) (at count number r : ℕ) : Type 0 where
 -- the parser, from where the apply body would run: behind a store of so many numbers stand the packet's count and its
 -- bytes
 pub record AsksParser (nums directory ends slots frame : List ℕ) (store size : ℕ) : Type 0 where
-  pub scope : List ℕ
+  pub scope : coded.Scope
   pub program : Program
   pub used : ℕ
   pub entry_list : List Entry
@@ -98,7 +99,7 @@ pub record AsksParser (nums directory ends slots frame : List ℕ) (store size :
 
 pub record RunsParser (nums directory ends slots slots' frame frame' : List ℕ) (store size : ℕ) (r : Ended)
     : Type 0 where
-  pub runs : (scope : List ℕ) (P : Program) (used : ℕ) (es : List Entry) (s : State)
+  pub runs : (scope : coded.Scope) (P : Program) (used : ℕ) (es : List Entry) (s : State)
       → Stage nums directory ends scope slots frame (apply_scope P) used es s
       → ((P.states ≡ [] → ⊥) → Unread nums (store + size + 1) s.packet)
       → Goes (counter_of slots) (parser_in P used s)

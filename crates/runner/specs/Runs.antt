@@ -1,5 +1,6 @@
 -- A run of the rules beside the slots of the runner: what each construct of a body does by the rules, and what stands in
 -- the slots while a body runs.
+use Rattle.program.specs.declared.Scope as coded
 use Rattle.std.specs.Prelude.{true, false, ◌≡◌, List, ℕ, ◌+◌, ◌*◌, ◌≤◌, length, get_or}
 use Rattle.std.proofs.Math.Option.{some}
 use Rattle.std.proofs.Math.ListN.{get_elem?}
@@ -73,7 +74,7 @@ pub record Tables (nums directory : List ℕ) (P : Program) (es : List Entry) : 
       → (get_or directory (width_slot t j) 0 ≡ key_width P k) × (get_or directory (width_slot t j) 0 ≤ widest)
 
 -- a body in its run: the working slots that the rules do not have in use are those behind its own
-pub record Stage (nums directory ends scope slots frame : List ℕ) (Γ : Scope) (used : ℕ)
+pub record Stage (nums directory ends : List ℕ) (scope : coded.Scope) (slots frame : List ℕ) (Γ : Scope) (used : ℕ)
     (es : List Entry) (s : State) : Type 0 where
   pub scene : Scene nums directory ends scope slots frame Γ s
   pub tables : Tables nums directory Γ.program es

@@ -5,7 +5,9 @@
 
 ghost use Rattle.runner.specs.Prepares.{AsksLay, Lays, AsksPrepare, Prepares};
 ghost use Rattle.runner.specs.Whole.{AsksRun, RunsWhole, TellsSignal};
+ghost use Rattle.program.specs.In.{In};
 
+use program::Source;
 use rules::Signal;
 use shape::limits::DEEPEST;
 use steps::Ended;
@@ -56,24 +58,30 @@ pub fn prepare(
 // states, the packet's count and its bytes stand behind. It leaves the final store's numbers in the slots, and the steps
 // behind them.
 pub fn run(
-    nums: &[u64],
-    ends: &[u64],
-    directory: &[u64; shape::SLOTS],
+    source: &Source,
     store: usize,
     size: usize,
     slots: &mut [u64; STORE],
     frame: &mut [u64],
 ) -> Signal
-    requires { AsksRun nums.now directory.now ends.now slots.old frame.old store size }
-    ensures { RunsWhole nums.now directory.now ends.now slots.old slots.new frame.old store size result }
+    requires { In AsksRun source.now slots.old frame.old store size }
+    ensures { In RunsWhole source.now slots.old slots.new frame.old store size result }
 {
-    copy(nums, store, size, slots);
+    copy(source.nums, store, size, slots);
     slots[COUNTER] = 0;
-    let parsed = parser::run_parser(nums, ends, directory, store, size, slots, frame);
+    let parsed = parser::run_parser(source, store, size, slots, frame);
     if parser::goes_on(parsed) {
-        let scope = [directory[shape::CALLABLES], 0, 0, 0, 0, program::APPLY, 0];
-        let body = directory[shape::BODY] as usize;
-        let ended = running::run_stmt(nums, ends, directory, &scope, DEEPEST, body, slots, frame);
+        let scope = [
+            source.directory[shape::CALLABLES],
+            0,
+            0,
+            0,
+            0,
+            program::APPLY,
+            0,
+        ];
+        let body = source.directory[shape::BODY] as usize;
+        let ended = running::run_stmt(source, &scope, DEEPEST, body, slots, frame);
         signal_of(ended)
     } else {
         signal_of(parsed)

@@ -1,8 +1,10 @@
 // The parser: from state 0 on, each state leads to a later one, until one accepts or rejects. A state entered is a
 // step, and so its work ends.
 ghost use Rattle.runner.specs.Parsing.{TellsOn, AsksState, RunsState, AsksTransition, RunsTransition, AsksSelect, AsksEqual, FirstEqual, AsksParser, RunsParser};
+ghost use Rattle.program.specs.In.{In};
 
 use super::running::{run_expr, run_stmt};
+use program::{Scope, Source};
 use shape::limits::DEEPEST;
 use steps::Ended;
 use steps::operands::count_step;
@@ -37,46 +39,50 @@ pub(crate) fn goes_on(ended: Ended) -> bool
 
 // The parser, where there is one: behind a store of so many numbers stand the packet's count and its bytes.
 pub(crate) fn run_parser(
-    nums: &[u64],
-    ends: &[u64],
-    directory: &[u64; shape::SLOTS],
+    source: &Source,
     store: usize,
     size: usize,
     slots: &mut [u64; STORE],
     frame: &mut [u64],
 ) -> Ended
-    requires { AsksParser nums.now directory.now ends.now slots.old frame.old store size }
-    ensures { RunsParser nums.now directory.now ends.now slots.old slots.new frame.old frame.new store size result }
+    requires { In AsksParser source.now slots.old frame.old store size }
+    ensures { In RunsParser source.now slots.old slots.new frame.old frame.new store size result }
 {
-    if directory[shape::STATES] == 0 {
+    if source.directory[shape::STATES] == 0 {
         Ended::Onward
     } else {
         slots[POSITION] = (store + size + 1) as u64;
-        let scope = [directory[shape::CALLABLES], 0, 0, 0, 0, program::STATE, 0];
-        run_state(nums, ends, directory, &scope, 0, slots, frame)
+        let scope = [
+            source.directory[shape::CALLABLES],
+            0,
+            0,
+            0,
+            0,
+            program::STATE,
+            0,
+        ];
+        run_state(source, &scope, 0, slots, frame)
     }
 }
 
 // State n: its statement, and where that goes on its transition.
 #[cycle(states)]
 fn run_state(
-    nums: &[u64],
-    ends: &[u64],
-    directory: &[u64; shape::SLOTS],
-    scope: &[u64; program::SCOPE],
+    source: &Source,
+    scope: &Scope,
     n: usize,
     slots: &mut [u64; STORE],
     frame: &mut [u64],
 ) -> Ended
-    requires { AsksState nums.now directory.now ends.now scope.now slots.old frame.old n }
-    ensures { RunsState nums.now directory.now ends.now scope.now slots.old slots.new frame.old frame.new n result }
+    requires { In AsksState source.now scope.now slots.old frame.old n }
+    ensures { In RunsState source.now scope.now slots.old slots.new frame.old frame.new n result }
 {
     count_step(slots);
-    let at = program::state_of(nums, ends, directory, n);
-    let ended = run_stmt(nums, ends, directory, scope, DEEPEST, at, slots, frame);
+    let at = source.state_of(n);
+    let ended = run_stmt(source, scope, DEEPEST, at, slots, frame);
     if goes_on(ended) {
-        let transition = ends[at] as usize;
-        run_transition(nums, ends, directory, scope, transition, slots, frame)
+        let transition = source.ends[at] as usize;
+        run_transition(source, scope, transition, slots, frame)
     } else {
         ended
     }
@@ -85,51 +91,47 @@ fn run_state(
 // A transition, by its tag.
 #[cycle(states)]
 fn run_transition(
-    nums: &[u64],
-    ends: &[u64],
-    directory: &[u64; shape::SLOTS],
-    scope: &[u64; program::SCOPE],
+    source: &Source,
+    scope: &Scope,
     at: usize,
     slots: &mut [u64; STORE],
     frame: &mut [u64],
 ) -> Ended
-    requires { AsksTransition nums.now directory.now ends.now scope.now slots.old frame.old at }
-    ensures { RunsTransition nums.now directory.now ends.now scope.now slots.old slots.new frame.old frame.new at result }
+    requires { In AsksTransition source.now scope.now slots.old frame.old at }
+    ensures { In RunsTransition source.now scope.now slots.old slots.new frame.old frame.new at result }
 {
-    let tag = nums[at];
+    let tag = source.nums[at];
     match tag {
         NO_TRANSITION => Ended::Rejected(NO_WAY_ON),
         ACCEPT => Ended::Onward,
-        REJECT => Ended::Rejected(nums[at + 1]),
+        REJECT => Ended::Rejected(source.nums[at + 1]),
         LEAD_TO => {
-            let later = nums[at + 1] as usize;
-            run_state(nums, ends, directory, scope, later, slots, frame)
+            let later = source.nums[at + 1] as usize;
+            run_state(source, scope, later, slots, frame)
         }
-        _ => run_select(nums, ends, directory, scope, at, slots, frame),
+        _ => run_select(source, scope, at, slots, frame),
     }
 }
 
 // A select: its expression, then the state of the first equal value.
 #[cycle(states)]
 fn run_select(
-    nums: &[u64],
-    ends: &[u64],
-    directory: &[u64; shape::SLOTS],
-    scope: &[u64; program::SCOPE],
+    source: &Source,
+    scope: &Scope,
     at: usize,
     slots: &mut [u64; STORE],
     frame: &mut [u64],
 ) -> Ended
-    requires { AsksSelect nums.now directory.now ends.now scope.now slots.old frame.old at }
-    ensures { RunsTransition nums.now directory.now ends.now scope.now slots.old slots.new frame.old frame.new at result }
+    requires { In AsksSelect source.now scope.now slots.old frame.old at }
+    ensures { In RunsTransition source.now scope.now slots.old slots.new frame.old frame.new at result }
 {
-    let a = run_expr(nums, ends, directory, scope, DEEPEST, at + 1, slots, frame);
-    let pairs = ends[at + 1] as usize;
-    let count = nums[pairs] as usize;
-    let found = first_equal(nums, pairs + 1, count, a.number);
+    let a = run_expr(source, scope, DEEPEST, at + 1, slots, frame);
+    let pairs = source.ends[at + 1] as usize;
+    let count = source.nums[pairs] as usize;
+    let found = first_equal(source.nums, pairs + 1, count, a.number);
     if found < count {
-        let later = nums[pairs + 2 + 2 * found] as usize;
-        run_state(nums, ends, directory, scope, later, slots, frame)
+        let later = source.nums[pairs + 2 + 2 * found] as usize;
+        run_state(source, scope, later, slots, frame)
     } else {
         Ended::Rejected(NO_MATCH)
     }

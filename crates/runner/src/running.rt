@@ -3,8 +3,10 @@
 // and its arguments are put there before.
 ghost use Rattle.std.specs.Prelude.{◌+◌};
 ghost use Rattle.runner.specs.Claims.{AsksExpr, RunsExpr, AsksLeafAt, AsksOne, AsksTwo, AsksValue, AsksCall, RunsCall, AsksArg, RunsArg, AsksArgs, RunsArgs, AsksBody, RunsBody, AsksStmt, RunsStmt, AsksTagged, AsksPlain, AsksStmts, RunsStmts, AsksTable, RunsTable, AsksKeys, RunsKeys, AsksAction, RunsAction};
+ghost use Rattle.program.specs.In.{In};
 
 use lookup::Lookup;
+use program::{Scope, Source};
 use shape::limits::DEEPEST;
 use steps::calls::{OUT, after_call, finish_call, keep, own_slots, returned};
 use steps::operands::count_step;
@@ -31,127 +33,106 @@ const VERIFY: u64 = 12;
 // An expression, by its tag.
 #[cycle(constructs)]
 pub(crate) fn run_expr(
-    nums: &[u64],
-    ends: &[u64],
-    directory: &[u64; shape::SLOTS],
-    scope: &[u64; program::SCOPE],
+    source: &Source,
+    scope: &Scope,
     depth: usize,
     at: usize,
     slots: &mut [u64; STORE],
     frame: &mut [u64],
 ) -> Value
-    requires { AsksExpr nums.now directory.now ends.now scope.now slots.old frame.old depth at }
-    ensures { RunsExpr nums.now directory.now ends.now scope.now slots.old slots.new frame.old frame.new depth at result }
+    requires { In AsksExpr source.now scope.now slots.old frame.old depth at }
+    ensures { In RunsExpr source.now scope.now slots.old slots.new frame.old frame.new depth at result }
 {
-    let tag = nums[at];
+    let tag = source.nums[at];
     match tag {
-        operands::NOT => run_one(nums, ends, directory, scope, depth, at, 1, slots, frame),
-        operands::COMPLEMENT => run_one(nums, ends, directory, scope, depth, at, 1, slots, frame),
-        operands::BINARY => run_two(nums, ends, directory, scope, depth, at, 2, slots, frame),
-        operands::CAST => run_one(nums, ends, directory, scope, depth, at, 2, slots, frame),
-        operands::SLICE => run_one(nums, ends, directory, scope, depth, at, 3, slots, frame),
-        operands::CONCATENATION => run_two(
-            nums, ends, directory, scope, depth, at, 1, slots, frame,
-        ),
-        operands::CALL => run_value(nums, ends, directory, scope, depth, at, slots, frame),
-        _ => run_leaf(nums, ends, directory, scope, depth, at, slots, frame),
+        operands::NOT => run_one(source, scope, depth, at, 1, slots, frame),
+        operands::COMPLEMENT => run_one(source, scope, depth, at, 1, slots, frame),
+        operands::BINARY => run_two(source, scope, depth, at, 2, slots, frame),
+        operands::CAST => run_one(source, scope, depth, at, 2, slots, frame),
+        operands::SLICE => run_one(source, scope, depth, at, 3, slots, frame),
+        operands::CONCATENATION => run_two(source, scope, depth, at, 1, slots, frame),
+        operands::CALL => run_value(source, scope, depth, at, slots, frame),
+        _ => run_leaf(source, scope, depth, at, slots, frame),
     }
 }
 
 // One without operands.
 fn run_leaf(
-    nums: &[u64],
-    ends: &[u64],
-    directory: &[u64; shape::SLOTS],
-    scope: &[u64; program::SCOPE],
+    source: &Source,
+    scope: &Scope,
     depth: usize,
     at: usize,
     slots: &mut [u64; STORE],
     frame: &mut [u64],
 ) -> Value
-    requires { AsksLeafAt nums.now directory.now ends.now scope.now slots.old frame.old depth at }
-    ensures { RunsExpr nums.now directory.now ends.now scope.now slots.old slots.new frame.old frame.new depth at result }
+    requires { In AsksLeafAt source.now scope.now slots.old frame.old depth at }
+    ensures { In RunsExpr source.now scope.now slots.old slots.new frame.old frame.new depth at result }
 {
     count_step(slots);
-    operands::leaf(nums, ends, directory, scope, at, slots, frame)
+    operands::leaf(source, scope, at, slots, frame)
 }
 
 // One with one operand, which begins so many numbers behind its tag.
 #[cycle(constructs)]
 fn run_one(
-    nums: &[u64],
-    ends: &[u64],
-    directory: &[u64; shape::SLOTS],
-    scope: &[u64; program::SCOPE],
+    source: &Source,
+    scope: &Scope,
     depth: usize,
     at: usize,
     behind: usize,
     slots: &mut [u64; STORE],
     frame: &mut [u64],
 ) -> Value
-    requires { AsksOne nums.now directory.now ends.now scope.now slots.old frame.old depth at (at + behind) }
-    ensures { RunsExpr nums.now directory.now ends.now scope.now slots.old slots.new frame.old frame.new depth at result }
+    requires { In AsksOne source.now scope.now slots.old frame.old depth at (at + behind) }
+    ensures { In RunsExpr source.now scope.now slots.old slots.new frame.old frame.new depth at result }
 {
     count_step(slots);
     let first = at + behind;
-    let a = run_expr(nums, ends, directory, scope, depth - 1, first, slots, frame);
-    operands::one(nums, at, a)
+    let a = run_expr(source, scope, depth - 1, first, slots, frame);
+    operands::one(source.nums, at, a)
 }
 
 // One with two operands, the first of which begins so many numbers behind its tag: both and either may stop after it.
 #[cycle(constructs)]
 fn run_two(
-    nums: &[u64],
-    ends: &[u64],
-    directory: &[u64; shape::SLOTS],
-    scope: &[u64; program::SCOPE],
+    source: &Source,
+    scope: &Scope,
     depth: usize,
     at: usize,
     behind: usize,
     slots: &mut [u64; STORE],
     frame: &mut [u64],
 ) -> Value
-    requires { AsksTwo nums.now directory.now ends.now scope.now slots.old frame.old depth at (at + behind) }
-    ensures { RunsExpr nums.now directory.now ends.now scope.now slots.old slots.new frame.old frame.new depth at result }
+    requires { In AsksTwo source.now scope.now slots.old frame.old depth at (at + behind) }
+    ensures { In RunsExpr source.now scope.now slots.old slots.new frame.old frame.new depth at result }
 {
     count_step(slots);
     let first = at + behind;
-    let a = run_expr(nums, ends, directory, scope, depth - 1, first, slots, frame);
-    if operands::stops_early(nums, at, a) {
+    let a = run_expr(source, scope, depth - 1, first, slots, frame);
+    if operands::stops_early(source.nums, at, a) {
         a
     } else {
-        let second = ends[first] as usize;
-        let b = run_expr(
-            nums,
-            ends,
-            directory,
-            scope,
-            depth - 1,
-            second,
-            slots,
-            frame,
-        );
-        operands::two(nums, at, a, b)
+        let second = source.ends[first] as usize;
+        let b = run_expr(source, scope, depth - 1, second, slots, frame);
+        operands::two(source.nums, at, a, b)
     }
 }
 
 // A call for its value.
 #[cycle(constructs)]
 fn run_value(
-    nums: &[u64],
-    ends: &[u64],
-    directory: &[u64; shape::SLOTS],
-    scope: &[u64; program::SCOPE],
+    source: &Source,
+    scope: &Scope,
     depth: usize,
     at: usize,
     slots: &mut [u64; STORE],
     frame: &mut [u64],
 ) -> Value
-    requires { AsksValue nums.now directory.now ends.now scope.now slots.old frame.old depth at }
-    ensures { RunsExpr nums.now directory.now ends.now scope.now slots.old slots.new frame.old frame.new depth at result }
+    requires { In AsksValue source.now scope.now slots.old frame.old depth at }
+    ensures { In RunsExpr source.now scope.now slots.old slots.new frame.old frame.new depth at result }
 {
     count_step(slots);
-    let ended = run_call(nums, ends, directory, scope, depth, at, slots, frame);
+    let ended = run_call(source, scope, depth, at, slots, frame);
     returned(ended)
 }
 
@@ -159,25 +140,21 @@ fn run_value(
 // back.
 #[cycle(constructs)]
 fn run_call(
-    nums: &[u64],
-    ends: &[u64],
-    directory: &[u64; shape::SLOTS],
-    scope: &[u64; program::SCOPE],
+    source: &Source,
+    scope: &Scope,
     depth: usize,
     at: usize,
     slots: &mut [u64; STORE],
     frame: &mut [u64],
 ) -> Ended
-    requires { AsksCall nums.now directory.now ends.now scope.now slots.old frame.old depth at }
-    ensures { RunsCall nums.now directory.now ends.now scope.now slots.old slots.new frame.old frame.new depth at result }
+    requires { In AsksCall source.now scope.now slots.old frame.old depth at }
+    ensures { In RunsCall source.now scope.now slots.old slots.new frame.old frame.new depth at result }
 {
-    let f = nums[at + 1] as usize;
-    let head = program::head_of(nums, ends, directory, f);
+    let f = source.nums[at + 1] as usize;
+    let head = source.head_of(f);
     let own = own_slots(scope);
     run_args(
-        nums,
-        ends,
-        directory,
+        source,
         scope,
         depth - 1,
         at + 3,
@@ -187,8 +164,8 @@ fn run_call(
         slots,
         frame,
     );
-    let ended = run_body(nums, ends, directory, f, slots, &mut frame[own..]);
-    finish_call(nums, ends, directory, scope, at, head, ended, slots, frame);
+    let ended = run_body(source, f, slots, &mut frame[own..]);
+    finish_call(source, scope, at, head, ended, slots, frame);
     ended
 }
 
@@ -196,10 +173,8 @@ fn run_call(
 // are worked out, so a call among them may use the slots.
 #[cycle(constructs)]
 fn run_args(
-    nums: &[u64],
-    ends: &[u64],
-    directory: &[u64; shape::SLOTS],
-    scope: &[u64; program::SCOPE],
+    source: &Source,
+    scope: &Scope,
     depth: usize,
     at: usize,
     param: usize,
@@ -208,16 +183,14 @@ fn run_args(
     slots: &mut [u64; STORE],
     frame: &mut [u64],
 )
-    requires { AsksArgs nums.now directory.now ends.now scope.now slots.old frame.old depth at param count slot }
-    ensures { RunsArgs nums.now directory.now ends.now scope.now slots.old slots.new frame.old frame.new depth at param count slot }
+    requires { In AsksArgs source.now scope.now slots.old frame.old depth at param count slot }
+    ensures { In RunsArgs source.now scope.now slots.old slots.new frame.old frame.new depth at param count slot }
 {
     if count != 0 {
-        let number = run_arg(nums, ends, directory, scope, depth, at, param, slots, frame);
-        let next = ends[at] as usize;
+        let number = run_arg(source, scope, depth, at, param, slots, frame);
+        let next = source.ends[at] as usize;
         run_args(
-            nums,
-            ends,
-            directory,
+            source,
             scope,
             depth,
             next,
@@ -234,43 +207,34 @@ fn run_args(
 // What goes in for a parameter: its argument's number, or 0 where the direction is out.
 #[cycle(constructs)]
 fn run_arg(
-    nums: &[u64],
-    ends: &[u64],
-    directory: &[u64; shape::SLOTS],
-    scope: &[u64; program::SCOPE],
+    source: &Source,
+    scope: &Scope,
     depth: usize,
     at: usize,
     param: usize,
     slots: &mut [u64; STORE],
     frame: &mut [u64],
 ) -> u64
-    requires { AsksArg nums.now directory.now ends.now scope.now slots.old frame.old depth at param }
-    ensures { RunsArg nums.now directory.now ends.now scope.now slots.old slots.new frame.old frame.new depth at param result }
+    requires { In AsksArg source.now scope.now slots.old frame.old depth at param }
+    ensures { In RunsArg source.now scope.now slots.old slots.new frame.old frame.new depth at param result }
 {
-    if nums[param] == OUT {
+    if source.nums[param] == OUT {
         count_step(slots);
         0
     } else {
-        let a = run_expr(nums, ends, directory, scope, depth, at, slots, frame);
+        let a = run_expr(source, scope, depth, at, slots, frame);
         a.number
     }
 }
 
 // The body of callable f, whose parameters' numbers are in the first slots.
 #[cycle(constructs)]
-fn run_body(
-    nums: &[u64],
-    ends: &[u64],
-    directory: &[u64; shape::SLOTS],
-    f: usize,
-    slots: &mut [u64; STORE],
-    frame: &mut [u64],
-) -> Ended
-    requires { AsksBody nums.now directory.now ends.now slots.old frame.old f }
-    ensures { RunsBody nums.now directory.now ends.now slots.old slots.new frame.old frame.new f result }
+fn run_body(source: &Source, f: usize, slots: &mut [u64; STORE], frame: &mut [u64]) -> Ended
+    requires { In AsksBody source.now slots.old frame.old f }
+    ensures { In RunsBody source.now slots.old slots.new frame.old frame.new f result }
 {
-    let head = program::head_of(nums, ends, directory, f);
-    let body = program::frame_of(nums, ends, directory, f);
+    let head = source.head_of(f);
+    let body = source.frame_of(f);
     let count = head.count as usize;
     let locals = body.count as usize;
     let scope = [
@@ -283,159 +247,135 @@ fn run_body(
         head.returns,
     ];
     clear(count, count + locals, frame);
-    run_stmt(
-        nums, ends, directory, &scope, DEEPEST, body.body, slots, frame,
-    )
+    run_stmt(source, &scope, DEEPEST, body.body, slots, frame)
 }
 
 // A statement, by its tag.
 #[cycle(constructs)]
 pub(crate) fn run_stmt(
-    nums: &[u64],
-    ends: &[u64],
-    directory: &[u64; shape::SLOTS],
-    scope: &[u64; program::SCOPE],
+    source: &Source,
+    scope: &Scope,
     depth: usize,
     at: usize,
     slots: &mut [u64; STORE],
     frame: &mut [u64],
 ) -> Ended
-    requires { AsksStmt nums.now directory.now ends.now scope.now slots.old frame.old depth at }
-    ensures { RunsStmt nums.now directory.now ends.now scope.now slots.old slots.new frame.old frame.new depth at result }
+    requires { In AsksStmt source.now scope.now slots.old frame.old depth at }
+    ensures { In RunsStmt source.now scope.now slots.old slots.new frame.old frame.new depth at result }
 {
-    let tag = nums[at];
+    let tag = source.nums[at];
     match tag {
-        ASSIGN => run_assign(nums, ends, directory, scope, depth, at, slots, frame),
-        IF => run_if(nums, ends, directory, scope, depth, at, slots, frame),
-        BLOCK => run_block(nums, ends, directory, scope, depth, at, slots, frame),
-        CALL => run_call_stmt(nums, ends, directory, scope, depth, at, slots, frame),
-        APPLY => run_apply(nums, ends, directory, scope, depth, at, slots, frame),
-        RETURN_VALUE => run_return(nums, ends, directory, scope, depth, at, slots, frame),
-        VERIFY => run_verify(nums, ends, directory, scope, depth, at, slots, frame),
-        _ => run_single(nums, ends, directory, scope, depth, at, slots, frame),
+        ASSIGN => run_assign(source, scope, depth, at, slots, frame),
+        IF => run_if(source, scope, depth, at, slots, frame),
+        BLOCK => run_block(source, scope, depth, at, slots, frame),
+        CALL => run_call_stmt(source, scope, depth, at, slots, frame),
+        APPLY => run_apply(source, scope, depth, at, slots, frame),
+        RETURN_VALUE => run_return(source, scope, depth, at, slots, frame),
+        VERIFY => run_verify(source, scope, depth, at, slots, frame),
+        _ => run_single(source, scope, depth, at, slots, frame),
     }
 }
 
 // One that runs no other construct.
 fn run_single(
-    nums: &[u64],
-    ends: &[u64],
-    directory: &[u64; shape::SLOTS],
-    scope: &[u64; program::SCOPE],
+    source: &Source,
+    scope: &Scope,
     depth: usize,
     at: usize,
     slots: &mut [u64; STORE],
     frame: &mut [u64],
 ) -> Ended
-    requires { AsksPlain nums.now directory.now ends.now scope.now slots.old frame.old depth at }
-    ensures { RunsStmt nums.now directory.now ends.now scope.now slots.old slots.new frame.old frame.new depth at result }
+    requires { In AsksPlain source.now scope.now slots.old frame.old depth at }
+    ensures { In RunsStmt source.now scope.now slots.old slots.new frame.old frame.new depth at result }
 {
     count_step(slots);
-    steps::singles::single(nums, ends, directory, at, slots)
+    steps::singles::single(source, at, slots)
 }
 
 // An assignment.
 #[cycle(constructs)]
 fn run_assign(
-    nums: &[u64],
-    ends: &[u64],
-    directory: &[u64; shape::SLOTS],
-    scope: &[u64; program::SCOPE],
+    source: &Source,
+    scope: &Scope,
     depth: usize,
     at: usize,
     slots: &mut [u64; STORE],
     frame: &mut [u64],
 ) -> Ended
-    requires { AsksTagged 1 nums.now directory.now ends.now scope.now slots.old frame.old depth at }
-    ensures { RunsStmt nums.now directory.now ends.now scope.now slots.old slots.new frame.old frame.new depth at result }
+    requires { In (AsksTagged 1) source.now scope.now slots.old frame.old depth at }
+    ensures { In RunsStmt source.now scope.now slots.old slots.new frame.old frame.new depth at result }
 {
     count_step(slots);
-    let value = ends[at + 1] as usize;
-    let a = run_expr(nums, ends, directory, scope, depth - 1, value, slots, frame);
-    write_place(nums, directory, scope, at + 1, a.number, slots, frame);
+    let value = source.ends[at + 1] as usize;
+    let a = run_expr(source, scope, depth - 1, value, slots, frame);
+    write_place(source, scope, at + 1, a.number, slots, frame);
     Ended::Onward
 }
 
 // An if: one of its branches.
 #[cycle(constructs)]
 fn run_if(
-    nums: &[u64],
-    ends: &[u64],
-    directory: &[u64; shape::SLOTS],
-    scope: &[u64; program::SCOPE],
+    source: &Source,
+    scope: &Scope,
     depth: usize,
     at: usize,
     slots: &mut [u64; STORE],
     frame: &mut [u64],
 ) -> Ended
-    requires { AsksTagged 2 nums.now directory.now ends.now scope.now slots.old frame.old depth at }
-    ensures { RunsStmt nums.now directory.now ends.now scope.now slots.old slots.new frame.old frame.new depth at result }
+    requires { In (AsksTagged 2) source.now scope.now slots.old frame.old depth at }
+    ensures { In RunsStmt source.now scope.now slots.old slots.new frame.old frame.new depth at result }
 {
     count_step(slots);
     let inner = depth - 1;
-    let c = run_expr(nums, ends, directory, scope, inner, at + 1, slots, frame);
-    let first = ends[at + 1] as usize;
+    let c = run_expr(source, scope, inner, at + 1, slots, frame);
+    let first = source.ends[at + 1] as usize;
     if c.number == 0 {
-        let second = ends[first] as usize;
-        run_stmt(nums, ends, directory, scope, inner, second, slots, frame)
+        let second = source.ends[first] as usize;
+        run_stmt(source, scope, inner, second, slots, frame)
     } else {
-        run_stmt(nums, ends, directory, scope, inner, first, slots, frame)
+        run_stmt(source, scope, inner, first, slots, frame)
     }
 }
 
 // A block.
 #[cycle(constructs)]
 fn run_block(
-    nums: &[u64],
-    ends: &[u64],
-    directory: &[u64; shape::SLOTS],
-    scope: &[u64; program::SCOPE],
+    source: &Source,
+    scope: &Scope,
     depth: usize,
     at: usize,
     slots: &mut [u64; STORE],
     frame: &mut [u64],
 ) -> Ended
-    requires { AsksTagged 3 nums.now directory.now ends.now scope.now slots.old frame.old depth at }
-    ensures { RunsStmt nums.now directory.now ends.now scope.now slots.old slots.new frame.old frame.new depth at result }
+    requires { In (AsksTagged 3) source.now scope.now slots.old frame.old depth at }
+    ensures { In RunsStmt source.now scope.now slots.old slots.new frame.old frame.new depth at result }
 {
     count_step(slots);
-    let count = nums[at + 1];
-    run_stmts(
-        nums,
-        ends,
-        directory,
-        scope,
-        depth - 1,
-        at + 2,
-        count,
-        slots,
-        frame,
-    )
+    let count = source.nums[at + 1];
+    run_stmts(source, scope, depth - 1, at + 2, count, slots, frame)
 }
 
 // So many members of a block, up to the first that does not go on.
 #[cycle(constructs)]
 fn run_stmts(
-    nums: &[u64],
-    ends: &[u64],
-    directory: &[u64; shape::SLOTS],
-    scope: &[u64; program::SCOPE],
+    source: &Source,
+    scope: &Scope,
     depth: usize,
     at: usize,
     count: u64,
     slots: &mut [u64; STORE],
     frame: &mut [u64],
 ) -> Ended
-    requires { AsksStmts nums.now directory.now ends.now scope.now slots.old frame.old depth at count }
-    ensures { RunsStmts nums.now directory.now ends.now scope.now slots.old slots.new frame.old frame.new depth at count result }
+    requires { In AsksStmts source.now scope.now slots.old frame.old depth at count }
+    ensures { In RunsStmts source.now scope.now slots.old slots.new frame.old frame.new depth at count result }
 {
     let mut next = at;
     let mut left = count;
     while left != 0 {
-        let ended = run_stmt(nums, ends, directory, scope, depth, next, slots, frame);
+        let ended = run_stmt(source, scope, depth, next, slots, frame);
         match ended {
             Ended::Onward => {
-                next = ends[next] as usize;
+                next = source.ends[next] as usize;
                 left -= 1;
             }
             Ended::Returned => return Ended::Returned,
@@ -450,49 +390,36 @@ fn run_stmts(
 // A call as a statement: its value, if it has one, is dropped.
 #[cycle(constructs)]
 fn run_call_stmt(
-    nums: &[u64],
-    ends: &[u64],
-    directory: &[u64; shape::SLOTS],
-    scope: &[u64; program::SCOPE],
+    source: &Source,
+    scope: &Scope,
     depth: usize,
     at: usize,
     slots: &mut [u64; STORE],
     frame: &mut [u64],
 ) -> Ended
-    requires { AsksTagged 4 nums.now directory.now ends.now scope.now slots.old frame.old depth at }
-    ensures { RunsStmt nums.now directory.now ends.now scope.now slots.old slots.new frame.old frame.new depth at result }
+    requires { In (AsksTagged 4) source.now scope.now slots.old frame.old depth at }
+    ensures { In RunsStmt source.now scope.now slots.old slots.new frame.old frame.new depth at result }
 {
     count_step(slots);
-    let ended = run_call(nums, ends, directory, scope, depth, at, slots, frame);
+    let ended = run_call(source, scope, depth, at, slots, frame);
     after_call(ended)
 }
 
 // A return with a value.
 #[cycle(constructs)]
 fn run_return(
-    nums: &[u64],
-    ends: &[u64],
-    directory: &[u64; shape::SLOTS],
-    scope: &[u64; program::SCOPE],
+    source: &Source,
+    scope: &Scope,
     depth: usize,
     at: usize,
     slots: &mut [u64; STORE],
     frame: &mut [u64],
 ) -> Ended
-    requires { AsksTagged 6 nums.now directory.now ends.now scope.now slots.old frame.old depth at }
-    ensures { RunsStmt nums.now directory.now ends.now scope.now slots.old slots.new frame.old frame.new depth at result }
+    requires { In (AsksTagged 6) source.now scope.now slots.old frame.old depth at }
+    ensures { In RunsStmt source.now scope.now slots.old slots.new frame.old frame.new depth at result }
 {
     count_step(slots);
-    let a = run_expr(
-        nums,
-        ends,
-        directory,
-        scope,
-        depth - 1,
-        at + 1,
-        slots,
-        frame,
-    );
+    let a = run_expr(source, scope, depth - 1, at + 1, slots, frame);
     Ended::ReturnedValue {
         ty: a.ty,
         number: a.number,
@@ -502,32 +429,21 @@ fn run_return(
 // A verify: where its condition is false it rejects with the error behind it.
 #[cycle(constructs)]
 fn run_verify(
-    nums: &[u64],
-    ends: &[u64],
-    directory: &[u64; shape::SLOTS],
-    scope: &[u64; program::SCOPE],
+    source: &Source,
+    scope: &Scope,
     depth: usize,
     at: usize,
     slots: &mut [u64; STORE],
     frame: &mut [u64],
 ) -> Ended
-    requires { AsksTagged 12 nums.now directory.now ends.now scope.now slots.old frame.old depth at }
-    ensures { RunsStmt nums.now directory.now ends.now scope.now slots.old slots.new frame.old frame.new depth at result }
+    requires { In (AsksTagged 12) source.now scope.now slots.old frame.old depth at }
+    ensures { In RunsStmt source.now scope.now slots.old slots.new frame.old frame.new depth at result }
 {
     count_step(slots);
-    let a = run_expr(
-        nums,
-        ends,
-        directory,
-        scope,
-        depth - 1,
-        at + 1,
-        slots,
-        frame,
-    );
+    let a = run_expr(source, scope, depth - 1, at + 1, slots, frame);
     if a.number == 0 {
-        let error = ends[at + 1] as usize;
-        Ended::Rejected(nums[error])
+        let error = source.ends[at + 1] as usize;
+        Ended::Rejected(source.nums[error])
     } else {
         Ended::Onward
     }
@@ -536,67 +452,59 @@ fn run_verify(
 // An apply.
 #[cycle(constructs)]
 fn run_apply(
-    nums: &[u64],
-    ends: &[u64],
-    directory: &[u64; shape::SLOTS],
-    scope: &[u64; program::SCOPE],
+    source: &Source,
+    scope: &Scope,
     depth: usize,
     at: usize,
     slots: &mut [u64; STORE],
     frame: &mut [u64],
 ) -> Ended
-    requires { AsksTagged 5 nums.now directory.now ends.now scope.now slots.old frame.old depth at }
-    ensures { RunsStmt nums.now directory.now ends.now scope.now slots.old slots.new frame.old frame.new depth at result }
+    requires { In (AsksTagged 5) source.now scope.now slots.old frame.old depth at }
+    ensures { In RunsStmt source.now scope.now slots.old slots.new frame.old frame.new depth at result }
 {
     count_step(slots);
-    let t = nums[at + 1];
-    run_table(nums, ends, directory, scope, t, slots, frame)
+    let t = source.nums[at + 1];
+    run_table(source, scope, t, slots, frame)
 }
 
 // Table t: its keys, then the action of the entry that is found, or the default.
 #[cycle(constructs)]
 fn run_table(
-    nums: &[u64],
-    ends: &[u64],
-    directory: &[u64; shape::SLOTS],
-    scope: &[u64; program::SCOPE],
+    source: &Source,
+    scope: &Scope,
     t: u64,
     slots: &mut [u64; STORE],
     frame: &mut [u64],
 ) -> Ended
-    requires { AsksTable nums.now directory.now ends.now scope.now slots.old frame.old t }
-    ensures { RunsTable nums.now directory.now ends.now scope.now slots.old slots.new frame.old frame.new t result }
+    requires { In AsksTable source.now scope.now slots.old frame.old t }
+    ensures { In RunsTable source.now scope.now slots.old slots.new frame.old frame.new t result }
 {
-    let parts = program::table_of(nums, ends, directory, t as usize);
+    let parts = source.table_of(t as usize);
     let table = parts.at;
     let actions = parts.actions;
     let default = parts.default;
     let mut keys = [0u64; program::MOST_KEYS];
     run_keys(
-        nums,
-        ends,
-        directory,
+        source,
         scope,
         0,
         table + 1,
-        nums[table],
+        source.nums[table],
         slots,
         frame,
         &mut keys,
     );
-    let Lookup::Found(entry) = lookup::look_up(nums, ends, directory, &keys, t, table) else {
-        return run_action(nums, ends, directory, actions, default, 2, slots, frame);
+    let Lookup::Found(entry) = lookup::look_up(source, &keys, t, table) else {
+        return run_action(source, actions, default, 2, slots, frame);
     };
-    run_action(nums, ends, directory, actions, entry, 1, slots, frame)
+    run_action(source, actions, entry, 1, slots, frame)
 }
 
 // So many keys, the first of which stands at `from`: their numbers, from number j on.
 #[cycle(constructs)]
 fn run_keys(
-    nums: &[u64],
-    ends: &[u64],
-    directory: &[u64; shape::SLOTS],
-    scope: &[u64; program::SCOPE],
+    source: &Source,
+    scope: &Scope,
     j: usize,
     from: usize,
     count: u64,
@@ -604,25 +512,14 @@ fn run_keys(
     frame: &mut [u64],
     keys: &mut [u64; program::MOST_KEYS],
 )
-    requires { AsksKeys nums.now directory.now ends.now scope.now slots.old frame.old keys.old j from count }
-    ensures { RunsKeys nums.now directory.now ends.now scope.now slots.old slots.new frame.old frame.new keys.old keys.new j from count }
+    requires { In AsksKeys source.now scope.now slots.old frame.old keys.old j from count }
+    ensures { In RunsKeys source.now scope.now slots.old slots.new frame.old frame.new keys.old keys.new j from count }
 {
     if count != 0 {
         let key = from + 1;
-        let a = run_expr(nums, ends, directory, scope, DEEPEST, key, slots, frame);
-        let next = ends[key] as usize;
-        run_keys(
-            nums,
-            ends,
-            directory,
-            scope,
-            j + 1,
-            next,
-            count - 1,
-            slots,
-            frame,
-            keys,
-        );
+        let a = run_expr(source, scope, DEEPEST, key, slots, frame);
+        let next = source.ends[key] as usize;
+        run_keys(source, scope, j + 1, next, count - 1, slots, frame, keys);
         keys[j] = a.number;
     }
 }
@@ -630,23 +527,21 @@ fn run_keys(
 // An action that a table lists: its position there stands at an index, and its arguments so many numbers behind.
 #[cycle(constructs)]
 fn run_action(
-    nums: &[u64],
-    ends: &[u64],
-    directory: &[u64; shape::SLOTS],
+    source: &Source,
     actions: usize,
     at: usize,
     behind: usize,
     slots: &mut [u64; STORE],
     frame: &mut [u64],
 ) -> Ended
-    requires { AsksAction nums.now directory.now ends.now slots.old frame.old actions at (at + behind) }
-    ensures { RunsAction nums.now directory.now ends.now slots.old slots.new frame.old frame.new actions at (at + behind) result }
+    requires { In AsksAction source.now slots.old frame.old actions at (at + behind) }
+    ensures { In RunsAction source.now slots.old slots.new frame.old frame.new actions at (at + behind) result }
 {
-    let position = nums[at] as usize;
-    let f = nums[actions + 1 + position] as usize;
-    let head = program::head_of(nums, ends, directory, f);
+    let position = source.nums[at] as usize;
+    let f = source.nums[actions + 1 + position] as usize;
+    let head = source.head_of(f);
     let count = head.count as usize;
-    copy(nums, at + behind, count, frame);
-    let ended = run_body(nums, ends, directory, f, slots, frame);
+    copy(source.nums, at + behind, count, frame);
+    let ended = run_body(source, f, slots, frame);
     after_call(ended)
 }

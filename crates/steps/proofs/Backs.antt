@@ -1,4 +1,5 @@
 -- What comes back from a call: one argument, then the others.
+use Rattle.program.specs.declared.Scope as coded
 use mathlib.Core.Bool.{Bool, true, false}
 use mathlib.Core.Option.{Option, none, some}
 use mathlib.Core.Path.{◌≡◌, refl, ◌∙◌, sym}
@@ -139,7 +140,7 @@ unfolding one_back pure
 none_is Γ p e n s d = rw (d, one_back) refl
 
 -- one argument
-module _ (nums directory scope slots frame : List ℕ) (at parameters slot : ℕ) where
+module _ (nums directory : List ℕ) (scope : coded.Scope) (slots frame : List ℕ) (at parameters slot : ℕ) where
   pub back-asks : AsksOneBack nums directory scope slots frame at parameters slot → 2 ≤ get_or nums parameters 0
       → AsksWrite nums directory scope slots frame at
   back-asks a h =

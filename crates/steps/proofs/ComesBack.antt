@@ -1,4 +1,5 @@
 -- What comes back from all arguments of a call, from left to right, and how a call statement then goes on.
+use Rattle.program.specs.declared.Scope as coded
 use mathlib.Core.Bool.{Bool, true, false}
 use mathlib.Core.Path.{◌≡◌, refl, ◌∙◌, sym}
 use mathlib.Core.List.{List, [], ◌∷◌}
@@ -88,7 +89,7 @@ fit-first : {p : Parameter} {ps : List Parameter} {n : ℕ} {ns : List ℕ} → 
     → FitParameter p n × All2 FitParameter ps ns
 fit-first (cons f fs) = (f, fs)
 
-module _ {nums directory ends scope slots frame : List ℕ} {at parameters count slot : ℕ} {Γ : Scope}
+module _ {nums directory ends : List ℕ} {scope : coded.Scope} {slots frame : List ℕ} {at parameters count slot : ℕ} {Γ : Scope}
     {s : State} {e : Expr} {xs : Args} {p : Parameter} {ps : List Parameter} {n : ℕ} {ns : List ℕ}
     (l : Left nums directory ends scope slots frame at parameters count slot Γ s (arg e xs) (p ∷ ps) (n ∷ ns))
   where
@@ -129,7 +130,7 @@ module _ {nums directory ends scope slots frame : List ℕ} {at parameters count
       };
     }
 
-module _ (nums directory ends scope slots frame : List ℕ) (at parameters count slot : ℕ) where
+module _ (nums directory ends : List ℕ) (scope : coded.Scope) (slots frame : List ℕ) (at parameters count slot : ℕ) where
   -- what is left of a call, with its first argument apart
   record Apart (Γ : Scope) (s : State) (xs : Args) (ps : List Parameter) (ns : List ℕ)
       (counted : ℕ) : Type 0 where
@@ -253,7 +254,7 @@ stays_on ended r e stays-onward by-reject = let z : ◌≡◌ {A = ℕ} 0 1 = cc
 stays_on ended r e stays-returned by-reject = let z : ◌≡◌ {A = ℕ} 0 1 = cc in omega arith
 stays_on ended r e stays-value by-reject = let z : ◌≡◌ {A = ℕ} 0 1 = cc in omega arith
 
-module _ (nums directory ends scope slots frame : List ℕ) (at parameters count : ℕ) where
+module _ (nums directory ends : List ℕ) (scope : coded.Scope) (slots frame : List ℕ) (at parameters count : ℕ) where
   after-goes : (Γ : Scope) (s : State) (ended : Ended) (ending : Ending) (m : M State (Unit {0})) (counted : ℕ)
       → Ends ended ending → (EndsRun ended → ⊥) → Goes counted (after_body ending m s) → Goes counted (m s)
   unfolding after_body

@@ -1,4 +1,5 @@
 -- Runs that go on: what is known of the parts of one, and what the parts come to, one after the other.
+use Rattle.program.specs.declared.Scope as coded
 use mathlib.Core.Bool.{Bool, true, false}
 use mathlib.Core.Option.{Option, none, some}
 use mathlib.Core.Path.{◌≡◌, refl, ◌∙◌, sym, ap}
@@ -195,7 +196,7 @@ pub counter-ticked : (slots : List ℕ) → length slots ≡ store_slots → cou
 counter-ticked slots n = get_or-set_same slots counter_slot (counter_of slots + 1) 0 (omega (arith, n))
 
 -- and stand in the slots
-module _ {nums directory ends scope : List ℕ} {Γ : Scope} where
+module _ {nums directory ends : List ℕ} {scope : coded.Scope} {Γ : Scope} where
   pub ran-here : {A : Type 0} {Answers : A → Type 0} {slots frame : List ℕ} (s : State) (a : A) {o : Out State A}
       → Scene nums directory ends scope slots frame Γ s → o ≡ done a s [] → Answers a
       → Ran nums directory ends scope slots slots frame frame Γ o Answers

@@ -1,4 +1,5 @@
 -- Expressions without operands: what their numbers are, and the value that they have by the rules.
+use Rattle.program.specs.declared.Scope as coded
 use mathlib.Core.Bool.{Bool, true, false}
 use mathlib.Core.Option.{Option, some}
 use mathlib.Core.Path.{◌≡◌, refl, ◌∙◌}
@@ -78,7 +79,7 @@ valid-gave Γ g s widths mark e m = record {
   is_value = record { most = omega arith; fit = rw m.told (mark-fits m.valid) };
 }
 
-module _ (nums directory ends scope slots frame : List ℕ) (at : ℕ)
+module _ (nums directory ends : List ℕ) (scope : coded.Scope) (slots frame : List ℕ) (at : ℕ)
     (asks : AsksLeaf nums directory ends scope slots frame at) where
   pub leaf-inside : at < length nums
   leaf-inside = (expr-begins asks.stands).inside
@@ -155,7 +156,7 @@ place_of Γ s counted (on-slice t h l a) g x y z = not-nowhere s g
 place_of Γ s counted (on-concatenation t a b) g x y z = not-nowhere s g
 place_of Γ s counted (on_call t f n xs) g x y z = not-nowhere s g
 
-module _ (nums directory ends scope slots frame : List ℕ) (at : ℕ) where
+module _ (nums directory ends : List ℕ) (scope : coded.Scope) (slots frame : List ℕ) (at : ℕ) where
   pub place-asks : AsksLeaf nums directory ends scope slots frame at → (get_or nums at 0 ≡ 0 → ⊥)
       → (get_or nums at 0 ≡ 1 → ⊥) → (get_or nums at 0 ≡ 6 → ⊥)
       → AsksPlace nums directory ends scope slots frame at

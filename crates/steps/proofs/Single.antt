@@ -1,4 +1,5 @@
 -- Statements that run no other construct, by their tags.
+use Rattle.program.specs.declared.Scope as coded
 use mathlib.Core.Bool.{Bool, true, false}
 use mathlib.Core.Option.{Option, some}
 use mathlib.Core.Path.{◌≡◌, refl, ◌∙◌}
@@ -139,7 +140,7 @@ extracting Γ g counted s h =
           ∙ some-then-is (and_look (shape_for Γ g) whole_header) (λ widths. extract_into g widths) s w.is;
     }
 
-module _ {nums directory ends scope slots frame : List ℕ} {Γ : Scope} where
+module _ {nums directory ends : List ℕ} {scope : coded.Scope} {slots frame : List ℕ} {Γ : Scope} where
   changes-ran : (g counted : ℕ) (f : Cell → Option Cell) (s : State) (slots' : List ℕ)
       → Scene nums directory ends scope slots frame Γ s → ChangesHeader f directory slots slots' g
       → Goes counted ((change_header Γ g f >>= λ _. pure onward) s)
@@ -236,7 +237,7 @@ module _ (nums directory ends slots : List ℕ) (at : ℕ) where
   unfolding single_in
   exit-ran Γ s st counted e g = rw e (outside Γ.body exited counted s (rw e at g))
 
-  header-ran : (scope frame : List ℕ) (Γ : Scope) (s : State) (st : Stmt) (g counted : ℕ)
+  header-ran : (scope : coded.Scope) (frame : List ℕ) (Γ : Scope) (s : State) (st : Stmt) (g counted : ℕ)
       (make : ℕ → Stmt) (f : Cell → Option Cell) (slots' : List ℕ)
       → single_in Γ (make g) ≡ (change_header Γ g f >>= λ _. pure onward) → st ≡ make g
       → Scene nums directory ends scope slots frame Γ s → ChangesHeader f directory slots slots' g
@@ -284,7 +285,7 @@ module _ (nums directory ends slots : List ℕ) (at : ℕ) where
         (invalid-is nums at (single_of Γ s counted w g) q).is h c g;
   }
 
-  extract-ran : (scope frame : List ℕ) (Γ : Scope) (s : State) (st : Stmt) (counted : ℕ) (slots' : List ℕ) (r : Bool)
+  extract-ran : (scope : coded.Scope) (frame : List ℕ) (Γ : Scope) (s : State) (st : Stmt) (counted : ℕ) (slots' : List ℕ) (r : Bool)
       (ended : Ended) → Ends ended (extract_ends r) → st ≡ extract at (get_or nums (at + 1) 0)
       → Scene nums directory ends scope slots frame Γ s
       → Extracts nums directory ends slots slots' (get_or nums (at + 1) 0) r → Goes counted (single_in Γ st s)

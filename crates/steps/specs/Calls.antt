@@ -1,4 +1,5 @@
 -- What is asked and promised around a call: where its arguments go, and what comes back.
+use Rattle.program.specs.declared.Scope as coded
 use Rattle.std.specs.Prelude.{Bool, true, false, ◌≡◌, List, ℕ, ◌+◌, ◌≤◌, ◌<◌, length, get_or, set}
 use Rattle.rules.specs.Syntax.{Value, value, Expr, Args, Parameter, place_in}
 use Rattle.rules.specs.Reading.{most_parameters, most_locals}
@@ -21,7 +22,7 @@ own_of Γ = length Γ.parameters + length Γ.locals
 abbrev pub most_own : ℕ
 most_own = most_parameters + most_locals
 
-pub record AsksOwn (scope : List ℕ) : Type 0 where
+pub record AsksOwn (scope : coded.Scope) : Type 0 where
   pub nums : List ℕ
   pub directory : List ℕ
   pub ends : List ℕ
@@ -29,7 +30,7 @@ pub record AsksOwn (scope : List ℕ) : Type 0 where
   pub stands : StandsScope nums directory ends scope scope_of
   pub few : own_of scope_of ≤ most_own
 
-pub record Owns (scope : List ℕ) (r : ℕ) : Type 0 where
+pub record Owns (scope : coded.Scope) (r : ℕ) : Type 0 where
   pub is : (nums directory ends : List ℕ) (Γ : Scope) → StandsScope nums directory ends scope Γ → r ≡ own_of Γ
 
 -- a number in a slot
@@ -46,7 +47,7 @@ one_back Γ p e n = elim (comes_back p.direction) [
   | false ↦ pure tt
 ]
 
-pub record LeftOne (nums directory ends scope slots frame : List ℕ) (at parameters slot : ℕ) (Γ : Scope)
+pub record LeftOne (nums directory ends : List ℕ) (scope : coded.Scope) (slots frame : List ℕ) (at parameters slot : ℕ) (Γ : Scope)
     (s : State) (e : Expr) (p : Parameter) (n : ℕ) : Type 0 where
   pub depth : ℕ
   pub scene : Scene nums directory ends scope slots frame Γ s
@@ -57,7 +58,7 @@ pub record LeftOne (nums directory ends scope slots frame : List ℕ) (at parame
   pub is : get_or frame slot 0 ≡ n
   pub fit : FitParameter p n
 
-pub record AsksOneBack (nums directory scope slots frame : List ℕ) (at parameters slot : ℕ) : Type 0 where
+pub record AsksOneBack (nums directory : List ℕ) (scope : coded.Scope) (slots frame : List ℕ) (at parameters slot : ℕ) : Type 0 where
   pub ends : List ℕ
   pub scope_of : Scope
   pub state : State
@@ -68,19 +69,19 @@ pub record AsksOneBack (nums directory scope slots frame : List ℕ) (at paramet
   pub counted : ℕ
   pub going : Goes counted (one_back scope_of parameter expr number state)
 
-pub record RanBack (nums directory ends scope slots slots' frame frame' : List ℕ) (Γ : Scope)
+pub record RanBack (nums directory ends : List ℕ) (scope : coded.Scope) (slots slots' frame frame' : List ℕ) (Γ : Scope)
     (o : Out State (Unit {0})) : Type 0 where
   pub ran : Ran nums directory ends scope slots slots' frame frame' Γ o (λ _. Unit {0})
   pub keeps : KeepsFree frame frame' (own_of Γ)
 
-pub record BacksOne (nums directory scope slots slots' frame frame' : List ℕ) (at parameters slot : ℕ) : Type 0 where
+pub record BacksOne (nums directory : List ℕ) (scope : coded.Scope) (slots slots' frame frame' : List ℕ) (at parameters slot : ℕ) : Type 0 where
   pub backs : (ends : List ℕ) (Γ : Scope) (s : State) (e : Expr) (p : Parameter) (n counted : ℕ)
       → LeftOne nums directory ends scope slots frame at parameters slot Γ s e p n
       → Goes counted (one_back Γ p e n s)
       → RanBack nums directory ends scope slots slots' frame frame' Γ (one_back Γ p e n s)
 
 -- the arguments of a call that is over, and the numbers that the callee left in free slots one after the other
-pub record Left (nums directory ends scope slots frame : List ℕ) (at parameters count slot : ℕ) (Γ : Scope)
+pub record Left (nums directory ends : List ℕ) (scope : coded.Scope) (slots frame : List ℕ) (at parameters count slot : ℕ) (Γ : Scope)
     (s : State) (xs : Args) (ps : List Parameter) (ns : List ℕ) : Type 0 where
   pub depth : ℕ
   pub scene : Scene nums directory ends scope slots frame Γ s
@@ -92,7 +93,7 @@ pub record Left (nums directory ends scope slots frame : List ℕ) (at parameter
   pub fit : All2 FitParameter ps ns
   pub laid : Laid frame slot ns
 
-pub record AsksBack (nums directory ends scope slots frame : List ℕ) (at parameters count slot : ℕ) : Type 0 where
+pub record AsksBack (nums directory ends : List ℕ) (scope : coded.Scope) (slots frame : List ℕ) (at parameters count slot : ℕ) : Type 0 where
   pub scope_of : Scope
   pub state : State
   pub args : Args
@@ -102,7 +103,7 @@ pub record AsksBack (nums directory ends scope slots frame : List ℕ) (at param
   pub counted : ℕ
   pub going : Goes counted (come_back scope_of args list numbers state)
 
-pub record Backs (nums directory ends scope slots slots' frame frame' : List ℕ) (at parameters count slot : ℕ)
+pub record Backs (nums directory ends : List ℕ) (scope : coded.Scope) (slots slots' frame frame' : List ℕ) (at parameters count slot : ℕ)
     : Type 0 where
   pub backs : (Γ : Scope) (s : State) (xs : Args) (ps : List Parameter) (ns : List ℕ)
       (counted : ℕ)
@@ -116,7 +117,7 @@ pub record TellsBack (ended : Ended) (r : Bool) : Type 0 where
   pub none : r ≡ false → EndsRun ended
 
 -- the same behind the callee's body, which ended in some way: the call's tag is given, and the slots are the first free ones
-pub record AsksFinish (nums directory ends scope slots frame : List ℕ) (at parameters count : ℕ) (ended : Ended)
+pub record AsksFinish (nums directory ends : List ℕ) (scope : coded.Scope) (slots frame : List ℕ) (at parameters count : ℕ) (ended : Ended)
     : Type 0 where
   pub scope_of : Scope
   pub state : State
@@ -132,7 +133,7 @@ pub record AsksFinish (nums directory ends scope slots frame : List ℕ) (at par
   pub counted : ℕ
   pub going : Goes counted (after_body ending (come_back scope_of args list numbers) state)
 
-pub record Finishes (nums directory ends scope slots slots' frame frame' : List ℕ) (at parameters count : ℕ)
+pub record Finishes (nums directory ends : List ℕ) (scope : coded.Scope) (slots slots' frame frame' : List ℕ) (at parameters count : ℕ)
     (ended : Ended) : Type 0 where
   pub finishes : (Γ : Scope) (s : State) (xs : Args) (ps : List Parameter) (ns : List ℕ) (ending : Ending) (counted : ℕ)
       → Left nums directory ends scope slots frame (at + 3) parameters count (own_of Γ) Γ s xs ps ns → Ends ended ending

@@ -1,4 +1,5 @@
 -- What is asked and promised where an expression has its operands' values, or needs none.
+use Rattle.program.specs.declared.Scope as coded
 use Rattle.std.specs.Prelude.{Bool, true, false, ◌≡◌, List, [], ℕ, zero, suc, ◌≤◌, length}
 use Rattle.std.proofs.Math.Option.{Option, none, some}
 use Rattle.rules.specs.Numbers.{most_bytes}
@@ -88,7 +89,7 @@ on_two (concatenation at a b) v u = concatenation_on v u
 on_two (call_expr at f xs) v u = none
 
 -- an expression without operands, from which the rules go on
-pub record AsksLeaf (nums directory ends scope slots frame : List ℕ) (at : ℕ) : Type 0 where
+pub record AsksLeaf (nums directory ends : List ℕ) (scope : coded.Scope) (slots frame : List ℕ) (at : ℕ) : Type 0 where
   pub scope_of : Scope
   pub state : State
   pub expr : Expr
@@ -103,7 +104,7 @@ pub record LeafGave (s : State) (o : Out State Value) (ty number : ℕ) : Type 0
   pub is : o ≡ done (value_of ty number) s []
   pub is_value : IsValue ty number
 
-pub record GivesLeaf (nums directory ends scope slots frame : List ℕ) (at ty number : ℕ) : Type 0 where
+pub record GivesLeaf (nums directory ends : List ℕ) (scope : coded.Scope) (slots frame : List ℕ) (at ty number : ℕ) : Type 0 where
   pub gives : (Γ : Scope) (s : State) (e : Expr) (depth counted : ℕ)
       → Scene nums directory ends scope slots frame Γ s → StandsExpr nums ends depth at e
       → Goes counted (leaf_in Γ e s) → LeafGave s (leaf_in Γ e s) ty number

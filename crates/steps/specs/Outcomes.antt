@@ -1,5 +1,6 @@
 -- A run of the rules beside the slots of the runner: that the rules go on from here to an end, and that the slots hold
 -- what they come to.
+use Rattle.program.specs.declared.Scope as coded
 use Rattle.std.specs.Prelude.{◌≡◌, List, ℕ, ◌+◌, ◌≤◌, ◌<◌, length, get_or, set}
 use Rattle.rules.specs.Syntax.{Value}
 use Rattle.rules.specs.Form.{Scope}
@@ -18,7 +19,7 @@ abbrev pub counter_of : List ℕ → ℕ
 counter_of slots = get_or slots counter_slot 0
 
 -- what the rules come to, as it stands in the slots afterwards; and what their answer is in the runner's terms
-pub record Ran {A : Type 0} (nums directory ends scope slots slots' frame frame' : List ℕ) (Γ : Scope)
+pub record Ran {A : Type 0} (nums directory ends : List ℕ) (scope : coded.Scope) (slots slots' frame frame' : List ℕ) (Γ : Scope)
     (o : Out State A) (Answers : A → Type 0) : Type 0 where
   pub answer : A
   pub state : State

@@ -1,4 +1,5 @@
 -- What is asked and promised where a statement runs no other construct.
+use Rattle.program.specs.declared.Scope as coded
 use Rattle.std.specs.Prelude.{List, ℕ}
 use Rattle.rules.specs.Syntax.{Stmt, empty, assign, if_else, block, call_stmt, apply, return_value, return, exit, set_valid, set_invalid, extract, verify}
 use Rattle.rules.specs.Form.{is_state, Scope}
@@ -26,7 +27,7 @@ single_in Γ (extract at g) = rules.◌>>=◌ (must (is_state Γ.body)) λ _. ex
 single_in Γ (verify at c e) = nowhere
 
 pub record AsksSingle (nums directory ends slots : List ℕ) (at : ℕ) : Type 0 where
-  pub scope : List ℕ
+  pub scope : coded.Scope
   pub frame : List ℕ
   pub scope_of : Scope
   pub state : State
@@ -38,7 +39,7 @@ pub record AsksSingle (nums directory ends slots : List ℕ) (at : ℕ) : Type 0
   pub going : Goes counted (single_in scope_of stmt state)
 
 pub record RunsSingle (nums directory ends slots slots' : List ℕ) (at : ℕ) (r : Ended) : Type 0 where
-  pub runs : (scope frame : List ℕ) (Γ : Scope) (s : State) (st : Stmt) (depth counted : ℕ)
+  pub runs : (scope : coded.Scope) (frame : List ℕ) (Γ : Scope) (s : State) (st : Stmt) (depth counted : ℕ)
       → Scene nums directory ends scope slots frame Γ s → StandsStmt nums ends depth at st
       → Goes counted (single_in Γ st s)
       → Ran nums directory ends scope slots slots' frame frame Γ (single_in Γ st s) (Ends r)

@@ -1,8 +1,9 @@
 // Around a call: where its arguments go, and what comes back.
 ghost use Rattle.steps.specs.Calls.{AsksOwn, Owns, AsksKeep, Keeps, AsksOneBack, BacksOne, AsksBack, Backs, TellsBack, AsksFinish, Finishes, AfterCall, Returns};
+ghost use Rattle.program.specs.In.{In};
 
 use crate::Ended;
-use program::Head;
+use program::{Head, Scope, Source};
 use store::{STORE, write_place};
 use values::Value;
 
@@ -10,11 +11,11 @@ use values::Value;
 pub const OUT: u64 = 2;
 
 // How many slots a body's parameters and locals take: those behind them are free.
-pub fn own_slots(scope: &[u64; program::SCOPE]) -> usize
+pub fn own_slots(scope: &Scope) -> usize
     requires { AsksOwn scope.now }
     ensures { Owns scope.now result }
 {
-    scope[program::PARAMETER_COUNT] as usize + scope[program::LOCAL_COUNT] as usize
+    scope.parameter_count as usize + scope.local_count as usize
 }
 
 // A number is kept in a free slot.
@@ -27,31 +28,28 @@ pub fn keep(slot: usize, number: u64, frame: &mut [u64])
 
 // What comes back of one argument: the number that the callee left in a slot, where the direction is out or inout.
 fn write_back(
-    nums: &[u64],
-    directory: &[u64; shape::SLOTS],
-    scope: &[u64; program::SCOPE],
+    source: &Source,
+    scope: &Scope,
     at: usize,
     parameters: usize,
     slot: usize,
     slots: &mut [u64; STORE],
     frame: &mut [u64],
 )
-    requires { AsksOneBack nums.now directory.now scope.now slots.old frame.old at parameters slot }
-    ensures { BacksOne nums.now directory.now scope.now slots.old slots.new frame.old frame.new at parameters slot }
+    requires { AsksOneBack source.now.nums.now source.now.directory.now scope.now slots.old frame.old at parameters slot }
+    ensures { BacksOne source.now.nums.now source.now.directory.now scope.now slots.old slots.new frame.old frame.new at parameters slot }
 {
-    if OUT <= nums[parameters] {
+    if OUT <= source.nums[parameters] {
         let number = frame[slot];
-        write_place(nums, directory, scope, at, number, slots, frame);
+        write_place(source, scope, at, number, slots, frame);
     }
 }
 
 // What comes back from so many arguments, from left to right: the numbers of out and inout parameters, which the callee
 // left in slots one after the other.
 fn come_back(
-    nums: &[u64],
-    ends: &[u64],
-    directory: &[u64; shape::SLOTS],
-    scope: &[u64; program::SCOPE],
+    source: &Source,
+    scope: &Scope,
     at: usize,
     parameters: usize,
     count: usize,
@@ -59,17 +57,15 @@ fn come_back(
     slots: &mut [u64; STORE],
     frame: &mut [u64],
 )
-    requires { AsksBack nums.now directory.now ends.now scope.now slots.old frame.old at parameters count slot }
-    ensures { Backs nums.now directory.now ends.now scope.now slots.old slots.new frame.old frame.new at parameters count slot }
+    requires { In AsksBack source.now scope.now slots.old frame.old at parameters count slot }
+    ensures { In Backs source.now scope.now slots.old slots.new frame.old frame.new at parameters count slot }
 {
     if count != 0 {
-        write_back(nums, directory, scope, at, parameters, slot, slots, frame);
+        write_back(source, scope, at, parameters, slot, slots, frame);
         come_back(
-            nums,
-            ends,
-            directory,
+            source,
             scope,
-            ends[at] as usize,
+            source.ends[at] as usize,
             parameters + 2,
             count - 1,
             slot + 1,
@@ -94,25 +90,21 @@ fn comes_back(ended: Ended) -> bool
 
 // What comes back of a call, by its callable's head and by how the body ended.
 pub fn finish_call(
-    nums: &[u64],
-    ends: &[u64],
-    directory: &[u64; shape::SLOTS],
-    scope: &[u64; program::SCOPE],
+    source: &Source,
+    scope: &Scope,
     at: usize,
     head: Head,
     ended: Ended,
     slots: &mut [u64; STORE],
     frame: &mut [u64],
 )
-    requires { AsksFinish nums.now directory.now ends.now scope.now slots.old frame.old at head.parameters head.count ended }
-    ensures { Finishes nums.now directory.now ends.now scope.now slots.old slots.new frame.old frame.new at head.parameters head.count ended }
+    requires { In AsksFinish source.now scope.now slots.old frame.old at head.parameters head.count ended }
+    ensures { In Finishes source.now scope.now slots.old slots.new frame.old frame.new at head.parameters head.count ended }
 {
     if comes_back(ended) {
         let own = own_slots(scope);
         come_back(
-            nums,
-            ends,
-            directory,
+            source,
             scope,
             at + 3,
             head.parameters,

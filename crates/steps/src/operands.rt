@@ -1,7 +1,9 @@
 // What an expression does with the values of its operands, and expressions that have none.
 ghost use Rattle.steps.specs.Outcomes.{AsksCount, Counts};
 ghost use Rattle.steps.specs.Operands.{AsksLeaf, GivesLeaf, AsksOneOn, GivesOne, AsksStop, TellsStop, AsksTwoOn, GivesTwo};
+ghost use Rattle.program.specs.In.{In};
 
+use program::{Scope, Source};
 use store::headers::valid_mark;
 use store::{COUNTER, STORE, read_place};
 use values::Value;
@@ -41,33 +43,25 @@ pub fn count_step(slots: &mut [u64; STORE])
 }
 
 // A literal, a place, or whether a header is valid.
-pub fn leaf(
-    nums: &[u64],
-    ends: &[u64],
-    directory: &[u64; shape::SLOTS],
-    scope: &[u64; program::SCOPE],
-    at: usize,
-    slots: &[u64; STORE],
-    frame: &[u64],
-) -> Value
-    requires { AsksLeaf nums.now directory.now ends.now scope.now slots.now frame.now at }
-    ensures { GivesLeaf nums.now directory.now ends.now scope.now slots.now frame.now at result.ty result.number }
+pub fn leaf(source: &Source, scope: &Scope, at: usize, slots: &[u64; STORE], frame: &[u64]) -> Value
+    requires { In AsksLeaf source.now scope.now slots.now frame.now at }
+    ensures { In GivesLeaf source.now scope.now slots.now frame.now at result.ty result.number }
 {
-    let tag = nums[at];
+    let tag = source.nums[at];
     match tag {
         BOOL_LITERAL => Value {
             ty: 0,
-            number: nums[at + 1],
+            number: source.nums[at + 1],
         },
         BITS_LITERAL => Value {
-            ty: nums[at + 1],
-            number: nums[at + 2],
+            ty: source.nums[at + 1],
+            number: source.nums[at + 2],
         },
         VALID => Value {
             ty: 0,
-            number: valid_mark(directory, slots, nums[at + 1] as usize),
+            number: valid_mark(source.directory, slots, source.nums[at + 1] as usize),
         },
-        _ => read_place(nums, ends, directory, scope, slots, frame, at),
+        _ => read_place(source, scope, slots, frame, at),
     }
 }
 

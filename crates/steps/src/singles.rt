@@ -1,7 +1,9 @@
 // Statements that run no other construct.
 ghost use Rattle.steps.specs.Singles.{AsksSingle, RunsSingle};
+ghost use Rattle.program.specs.In.{In};
 
 use crate::Ended;
+use program::Source;
 use store::STORE;
 use store::headers::{set_invalid, set_valid};
 use store::packet::extract;
@@ -22,34 +24,28 @@ const SHORT_PACKET: u64 = 1;
 
 // An empty statement, a return without a value, an exit, or a header that is made valid or invalid or is filled from the
 // packet.
-pub fn single(
-    nums: &[u64],
-    ends: &[u64],
-    directory: &[u64; shape::SLOTS],
-    at: usize,
-    slots: &mut [u64; STORE],
-) -> Ended
-    requires { AsksSingle nums.now directory.now ends.now slots.old at }
-    ensures { RunsSingle nums.now directory.now ends.now slots.old slots.new at result }
+pub fn single(source: &Source, at: usize, slots: &mut [u64; STORE]) -> Ended
+    requires { In AsksSingle source.now slots.old at }
+    ensures { In RunsSingle source.now slots.old slots.new at result }
 {
-    let tag = nums[at];
+    let tag = source.nums[at];
     match tag {
         EMPTY => Ended::Onward,
         RETURN => Ended::Returned,
         EXIT => Ended::Exited,
         SET_VALID => {
-            let header = nums[at + 1] as usize;
-            set_valid(directory, header, slots);
+            let header = source.nums[at + 1] as usize;
+            set_valid(source.directory, header, slots);
             Ended::Onward
         }
         SET_INVALID => {
-            let header = nums[at + 1] as usize;
-            set_invalid(directory, header, slots);
+            let header = source.nums[at + 1] as usize;
+            set_invalid(source.directory, header, slots);
             Ended::Onward
         }
         _ => {
-            let header = nums[at + 1] as usize;
-            if extract(nums, ends, directory, header, slots) {
+            let header = source.nums[at + 1] as usize;
+            if extract(source, header, slots) {
                 Ended::Onward
             } else {
                 Ended::Rejected(SHORT_PACKET)

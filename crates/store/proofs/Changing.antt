@@ -1,4 +1,5 @@
 -- What a change of one cell makes of a state, and of the slots that mirror it.
+use Rattle.program.specs.declared.Scope as coded
 use mathlib.Core.Option.{Option, some}
 use mathlib.Core.Path.{◌≡◌, refl, sym, ◌∙◌}
 use mathlib.Core.List.{List}
@@ -65,7 +66,7 @@ pub record Made (f : Cell → Option Cell) (slots slots' : List ℕ) (start : �
   pub size : length (slots_of_cell cell) ≡ length (slots_of_cell c)
   pub replaced : Replaced slots slots' start (slots_of_cell cell)
 
-module _ (nums directory ends scope slots frame : List ℕ) (Γ : Scope) (s : State)
+module _ (nums directory ends : List ℕ) (scope : coded.Scope) (slots frame : List ℕ) (Γ : Scope) (s : State)
     (h : Scene nums directory ends scope slots frame Γ s) (g : ℕ) (shape : Shape)
     (c : CellOf directory s.store g shape) where
   pub store-becomes : (f : Cell → Option Cell) (slots' : List ℕ) → Made f slots slots' (start_of s.store g) c.cell
@@ -99,7 +100,7 @@ pub put-fits : (Γ : Scope) (p : Place) (s : State) (t : Ty) (n : ℕ) → State
 put-fits Γ p s t n f d h = from_some (rw d at (put-at Γ p s f)) n h
 
 -- a place of a tag is written
-pub spot-writes : (nums directory ends scope slots slots' frame frame' : List ℕ) (at number tag last : ℕ)
+pub spot-writes : (nums directory ends : List ℕ) (scope : coded.Scope) (slots slots' frame frame' : List ℕ) (at number tag last : ℕ)
     (q : Place)
     → Names nums at tag last q → get_or nums at 0 ≡ tag
     → ((Γ : Scope) (s : State) (t : Ty) → Scene nums directory ends scope slots frame Γ s

@@ -1,4 +1,5 @@
 -- A header filled from the packet: where its widths and its slots stand, and what becomes of the state.
+use Rattle.program.specs.declared.Scope as coded
 use mathlib.Core.Bool.{true, false}
 use mathlib.Core.Option.{some}
 use mathlib.Core.Path.{◌≡◌, refl, sym, ap, ◌∙◌}
@@ -93,7 +94,7 @@ module _ (nums directory ends slots : List ℕ) (g : ℕ) where
   position = get_or slots position_slot 0
 
   -- in whatever state stands there
-  module _ (scope frame : List ℕ) (Γ : Scope) (s : State) (widths : List ℕ)
+  module _ (scope : coded.Scope) (frame : List ℕ) (Γ : Scope) (s : State) (widths : List ℕ)
       (h : Scene nums directory ends scope slots frame Γ s) (parsing : is_state Γ.body ≡ true)
       (is : and_look (shape_for Γ g) whole_header ≡ some widths) where
     whole : WholeHeader Γ g widths

@@ -1,4 +1,5 @@
 -- The places of a frame: parameters, and locals behind them.
+use Rattle.program.specs.declared.Scope as coded
 use mathlib.Core.Option.{some}
 use mathlib.Core.Path.{◌≡◌, sym, ap, ◌∙◌}
 use mathlib.Core.List.{List}
@@ -25,25 +26,25 @@ pub record FrameRoom (nums frame : List ℕ) (at ty_at slot : ℕ) : Type 0 wher
   pub typed : ty_at < length nums
   pub inside : slot < length frame
 
-module _ (nums scope frame : List ℕ) (at : ℕ) where
+module _ (nums : List ℕ) (scope : coded.Scope) (frame : List ℕ) (at : ℕ) where
   abbrev i : ℕ
   i = first_number nums at
 
   abbrev local_ty_at : ℕ
-  local_ty_at = get_or scope 3 0 + i
+  local_ty_at = scope.locals + i
 
   abbrev local_slot : ℕ
-  local_slot = get_or scope 2 0 + i
+  local_slot = scope.parameter_count + i
 
   abbrev parameter_ty_at : ℕ
-  parameter_ty_at = get_or scope 1 0 + 2 * i + 1
+  parameter_ty_at = scope.parameters + 2 * i + 1
 
   -- in whatever state stands there
   module _ (directory ends slots : List ℕ) (Γ : Scope) (s : State) (t : Ty)
       (h : Scene nums directory ends scope slots frame Γ s) where
     local_typed : declared Γ (local i) ≡ some t → HoldsTy nums local_ty_at t
     unfolding declared
-    local_typed d = type_at nums (get_or scope 3 0) Γ.locals h.scopes.locals i t d
+    local_typed d = type_at nums (scope.locals) Γ.locals h.scopes.locals i t d
 
     local_spot : declared Γ (local i) ≡ some t → Spot frame (local i) s t (get_or nums local_ty_at 0) local_slot
     unfolding declared held
@@ -66,7 +67,7 @@ module _ (nums scope frame : List ℕ) (at : ℕ) where
         let m : Behind (get_elem? Γ.parameters i) (λ p. some p.ty) t
         = behind (get_elem? Γ.parameters i) (λ p. some p.ty) t d in
         let e : m.found.ty ≡ t = cc in
-        rw (← e) (parameter-at nums (get_or scope 1 0) Γ.parameters h.scopes.parameters i m.found m.is).ty
+        rw (← e) (parameter-at nums (scope.parameters) Γ.parameters h.scopes.parameters i m.found m.is).ty
 
     parameter-spot : declared Γ (parameter i) ≡ some t → Spot frame (parameter i) s t (get_or nums parameter_ty_at 0) i
     unfolding declared held

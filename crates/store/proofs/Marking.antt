@@ -1,4 +1,5 @@
 -- Headers: the valid mark read, and what setting it makes of the cell and its slots.
+use Rattle.program.specs.declared.Scope as coded
 use mathlib.Core.Bool.{Bool, true, false}
 use mathlib.Core.Option.{Option, some}
 use mathlib.Core.Path.{◌≡◌, refl, sym, ap, ◌∙◌}
@@ -84,7 +85,7 @@ invalidated (invalid_fits {ns = ns} h) = record {
 }
 
 -- in whatever state stands there
-module _ (nums directory ends scope slots frame : List ℕ) (g : ℕ) (Γ : Scope) (s : State) (widths : List ℕ)
+module _ (nums directory ends : List ℕ) (scope : coded.Scope) (slots frame : List ℕ) (g : ℕ) (Γ : Scope) (s : State) (widths : List ℕ)
     (h : Scene nums directory ends scope slots frame Γ s)
     (is : and_look (shape_for Γ g) header_only ≡ some widths) where
   pub header_at : CellOf directory s.store g (a_header widths)

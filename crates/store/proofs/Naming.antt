@@ -1,4 +1,5 @@
 -- A place by its tag: it stands in the frame or in the store.
+use Rattle.program.specs.declared.Scope as coded
 use mathlib.Core.Path.{◌≡◌, refl, ◌∙◌}
 use mathlib.Core.List.{List}
 use Prim.Native.Nat.{ℕ, ◌<◌}
@@ -16,7 +17,7 @@ last-tag (parameter i) x y z = absurd (y refl)
 last-tag (global g) x y z = absurd (z refl)
 last-tag (field g f) x y z = refl
 
-module _ (nums directory ends scope slots frame : List ℕ) (at : ℕ)
+module _ (nums directory ends : List ℕ) (scope : coded.Scope) (slots frame : List ℕ) (at : ℕ)
     (asks : AsksPlace nums directory ends scope slots frame at) where
   pub tag-inside : at < length nums
   tag-inside = asks.names.tag.inside
@@ -39,7 +40,7 @@ module _ (nums directory ends scope slots frame : List ℕ) (at : ℕ)
       let e : get_or nums at 0 ≡ place_tag asks.place = asks.names.tag.is in
       asks-stored field_tag (e ∙ last-tag asks.place (λ q. x (e ∙ q)) (λ q. y (e ∙ q)) (λ q. z (e ∙ q)))
 
-module _ (nums directory ends scope slots frame : List ℕ) (at : ℕ) (r : Value) where
+module _ (nums directory ends : List ℕ) (scope : coded.Scope) (slots frame : List ℕ) (at : ℕ) (r : Value) where
   pub reads-framed : ReadsFramed nums scope frame at r → ReadsPlace nums directory ends scope slots frame at r
   reads-framed h = h.framed directory ends slots
 
@@ -50,7 +51,7 @@ module _ (nums directory ends scope slots frame : List ℕ) (at : ℕ) (r : Valu
 pub ruleset readings = (tag-inside, asks-framed, asks-stored, asks-field, reads-framed, reads-stored)
 
 -- the same where it is written
-module _ (nums directory scope slots frame : List ℕ) (at : ℕ) (asks : AsksWrite nums directory scope slots frame at)
+module _ (nums directory : List ℕ) (scope : coded.Scope) (slots frame : List ℕ) (at : ℕ) (asks : AsksWrite nums directory scope slots frame at)
   where
     pub target-inside : at < length nums
     target-inside = asks.asks.names.tag.inside
@@ -72,7 +73,7 @@ module _ (nums directory scope slots frame : List ℕ) (at : ℕ) (asks : AsksWr
       asks = asks-field nums directory asks.ends scope slots frame at asks.asks x y z;
     }
 
-module _ (nums directory scope slots frame : List ℕ) (at number : ℕ) where
+module _ (nums directory : List ℕ) (scope : coded.Scope) (slots frame : List ℕ) (at number : ℕ) where
   pub writes-framed : (frame' : List ℕ) → WritesFramed nums scope frame frame' at number
       → Writes nums directory scope slots slots frame frame' at number
   writes-framed frame' h = record { written = λ ends. h.framed directory ends slots }

@@ -1,5 +1,6 @@
 -- Scenes around what the places do: a run begins, the counter is set, a call begins, a call has ended, the apply body
 -- follows a state.
+use Rattle.program.specs.declared.Scope as coded
 use mathlib.Core.Bool.{Bool, true, false, false≢true}
 use mathlib.Core.Option.{Option, none, some}
 use mathlib.Core.Path.{◌≡◌, refl, sym, ◌∙◌}
@@ -45,7 +46,7 @@ pub packet-set : (nums slots : List ℕ) (at : ℕ) (packet : List ℕ) → leng
 packet-set nums slots at packet n u = rw (get_or-set_same slots position_slot at 0 (omega (arith, n))) u
 
 -- the counter is no part of a state
-pub scene-counted : (nums directory ends scope slots frame : List ℕ) (Γ : Scope) (s : State) (n : ℕ)
+pub scene-counted : (nums directory ends : List ℕ) (scope : coded.Scope) (slots frame : List ℕ) (Γ : Scope) (s : State) (n : ℕ)
     → Scene nums directory ends scope slots frame Γ s
     → Scene nums directory ends scope (set slots counter_slot n) frame Γ s
 scene-counted nums directory ends scope slots frame Γ s n h = record {
@@ -62,7 +63,7 @@ not-state : {A : Type 0} {b : Bool} → b ≡ false → b ≡ true → A
 not-state e p = absurd (false≢true (sym e ∙ p))
 
 -- a call has ended, which was made in no state: the store has changed, and of the frame only what was free
-pub scene-entered : (nums directory ends scope slots slots' frame frame' : List ℕ) (Γ : Scope) (s : State)
+pub scene-entered : (nums directory ends : List ℕ) (scope : coded.Scope) (slots slots' frame frame' : List ℕ) (Γ : Scope) (s : State)
     (cells : List Cell)
     → Scene nums directory ends scope slots frame Γ s → is_state Γ.body ≡ false → StoreFits Γ.program cells
     → MirrorsStore slots' cells
@@ -93,7 +94,7 @@ unfolding body_of is_state
 callee-outside none = refl
 callee-outside (some t) = refl
 
-pub scene-fresh : (nums directory ends scope slots frame frame' : List ℕ) (P : Program) (n : ℕ) (c : Callable)
+pub scene-fresh : (nums directory ends : List ℕ) (scope : coded.Scope) (slots frame frame' : List ℕ) (P : Program) (n : ℕ) (c : Callable)
     (ns : List ℕ) (cells : List Cell)
     → StandsScope nums directory ends scope (scope_of P n c) → OffsetsOf P directory offsets_slot → StoreFits P cells
     → All2 FitParameter c.parameters ns → MirrorsStore slots cells → length ns + length c.locals ≤ length frame
@@ -118,7 +119,7 @@ module _ (nums directory ends : List ℕ) (P : Program) (end store size : ℕ) (
   start-copies slots n = copy-asks nums slots store size (slots_of cells) s.numbers h e
       (omega (arith, n, e, store-most nums directory ends P end s cells f))
 
-  pub scene-start : (scope slots slots' frame : List ℕ) (n : ℕ) → StandsScope nums directory ends scope (apply_scope P)
+  pub scene-start : (scope : coded.Scope) (slots slots' frame : List ℕ) (n : ℕ) → StandsScope nums directory ends scope (apply_scope P)
       → OffsetsOf P directory offsets_slot → length slots ≡ store_slots → Copies nums slots slots' store size
       → Scene nums directory ends scope (set slots' counter_slot n) frame (apply_scope P) (started cells packet)
   unfolding apply_scope started is_state
@@ -140,7 +141,7 @@ module _ (nums directory ends : List ℕ) (P : Program) (end store size : ℕ) (
   }
 
 -- the packet is read on
-pub scene-moved : (nums directory ends scope slots frame : List ℕ) (Γ : Scope) (s : State) (at : ℕ) (packet : List ℕ)
+pub scene-moved : (nums directory ends : List ℕ) (scope : coded.Scope) (slots frame : List ℕ) (Γ : Scope) (s : State) (at : ℕ) (packet : List ℕ)
     → Scene nums directory ends scope slots frame Γ s → Unread nums at packet
     → Scene nums directory ends scope (set slots position_slot at) frame Γ (with_packet s packet)
 unfolding with_packet
@@ -154,7 +155,7 @@ scene-moved nums directory ends scope slots frame Γ s at packet h u = record {
 }
 
 -- the apply body and the states see the same, but for the packet, whose index is set for them
-pub scene-state : (nums directory ends scope scope' slots frame : List ℕ) (P : Program) (s : State) (at : ℕ)
+pub scene-state : (nums directory ends : List ℕ) (scope scope' : coded.Scope) (slots frame : List ℕ) (P : Program) (s : State) (at : ℕ)
     → Scene nums directory ends scope slots frame (apply_scope P) s
     → StandsScope nums directory ends scope' (state_scope P) → Unread nums at s.packet
     → Scene nums directory ends scope' (set slots position_slot at) frame (state_scope P) s
@@ -172,7 +173,7 @@ scene-state nums directory ends scope scope' slots frame P s at h k u = record {
   packet = λ _. packet-set nums slots at s.packet h.store.count u;
 }
 
-pub scene-apply : (nums directory ends scope scope' slots frame : List ℕ) (P : Program) (s : State)
+pub scene-apply : (nums directory ends : List ℕ) (scope scope' : coded.Scope) (slots frame : List ℕ) (P : Program) (s : State)
     → Scene nums directory ends scope' slots frame (state_scope P) s
     → StandsScope nums directory ends scope (apply_scope P)
     → Scene nums directory ends scope slots frame (apply_scope P) s

@@ -1,4 +1,5 @@
 -- What a place names, where it stands, and what is read there: its type and the number that it holds.
+use Rattle.program.specs.declared.Scope as coded
 use mathlib.Core.Option.{Option, some}
 use mathlib.Core.Path.{◌≡◌, sym, ap, ◌∙◌}
 use mathlib.Core.List.{List}
@@ -85,7 +86,7 @@ spot-read slots Γ p s t ty slot f d h = record {
 }
 
 -- a place of a tag, of which something is known in whatever state there is
-module _ (nums directory ends scope slots frame : List ℕ) (at tag last : ℕ) (q : Place)
+module _ (nums directory ends : List ℕ) (scope : coded.Scope) (slots frame : List ℕ) (at tag last : ℕ) (q : Place)
     (names : Names nums at tag last q) (is : get_or nums at 0 ≡ tag) where
   pub record Asked : Type 0 where
     pub ty : Ty

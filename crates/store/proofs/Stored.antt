@@ -1,4 +1,5 @@
 -- The places of the store: a global's cell, and the slots of its numbers.
+use Rattle.program.specs.declared.Scope as coded
 use mathlib.Core.Option.{Option, some}
 use mathlib.Core.Path.{◌≡◌, refl, sym, ap, ◌∙◌}
 use mathlib.Core.List.{List}
@@ -48,7 +49,7 @@ fitting : {shape : Shape} {o : Option Cell} (cells : List Cell) (g : ℕ) → ge
     → Fitting cells g shape
 fitting cells g e (is_some {a = c} h) = record { cell = c; found = e; fits = h }
 
-pub cell-of : (nums directory ends scope slots frame : List ℕ) (Γ : Scope) (s : State)
+pub cell-of : (nums directory ends : List ℕ) (scope : coded.Scope) (slots frame : List ℕ) (Γ : Scope) (s : State)
     → Scene nums directory ends scope slots frame Γ s → (g : ℕ) (shape : Shape)
     → global_at Γ.program g ≡ some shape → CellOf directory s.store g shape
 unfolding global_at
@@ -108,7 +109,7 @@ module _ (nums directory ends slots : List ℕ) (at : ℕ) where
   field_slot = get_or directory (offsets_slot + g) 0 + 1 + f
 
   -- in whatever state stands there
-  module _ (scope frame : List ℕ) (Γ : Scope) (s : State) (t : Ty)
+  module _ (scope : coded.Scope) (frame : List ℕ) (Γ : Scope) (s : State) (t : Ty)
       (h : Scene nums directory ends scope slots frame Γ s) where
     abbrev cell_of : (shape : Shape) → global_at Γ.program g ≡ some shape → CellOf directory s.store g shape
     cell_of = cell-of nums directory ends scope slots frame Γ s h g

@@ -1,4 +1,5 @@
 -- What a write makes of a state: of the frame, and of a global's cell.
+use Rattle.program.specs.declared.Scope as coded
 use mathlib.Core.Bool.{true}
 use mathlib.Core.Option.{Option, some}
 use mathlib.Core.Path.{◌≡◌, refl, sym, ap, ◌∙◌}
@@ -28,7 +29,7 @@ put_in : (n : ℕ) (ns : List ℕ) (i : ℕ) → i < length ns → change (λ _.
 put_in n ns i h = change-is (λ _. some n) ns i (get_or ns i 0) n (look_at ns i h) refl
 
 -- the frame
-module _ (nums scope frame : List ℕ) (at number : ℕ) where
+module _ (nums : List ℕ) (scope : coded.Scope) (frame : List ℕ) (at number : ℕ) where
   abbrev i : ℕ
   i = first_number nums at
 
@@ -41,12 +42,12 @@ module _ (nums scope frame : List ℕ) (at number : ℕ) where
     ls = s.locals
 
     local-becomes : declared Γ (local i) ≡ some t → Fit t number
-        → Becomes nums directory ends scope slots slots frame (set frame (get_or scope 2 0 + i) number) Γ s
+        → Becomes nums directory ends scope slots slots frame (set frame (scope.parameter_count + i) number) Γ s
         (put (local i) number s)
     unfolding declared put with_locals and_look
     local-becomes d fit =
         let k : i < length ls = omega (arith, all2-length h.fits.locals-fit, member-in Γ.locals i t d) in
-        let e : get_or scope 2 0 + i ≡ length ps + i
+        let e : scope.parameter_count + i ≡ length ps + i
         = omega (arith, all2-length h.fits.parameters-fit, h.scopes.parameter_count) in
         let made : put (local i) number s ≡ some (with_locals s (set ls i number)) = rw (put_in number ls i k) in
         let r : Replaced frame (set frame (length ps + i) number) (length ps) (set ls i number)
@@ -105,10 +106,10 @@ module _ (nums scope frame : List ℕ) (at number : ℕ) where
         }
 
   pub local-writes : AsksFramed local_tag nums scope frame at
-      → WritesFramed nums scope frame (set frame (get_or scope 2 0 + i) number) at number
+      → WritesFramed nums scope frame (set frame (scope.parameter_count + i) number) at number
   local-writes asks = record {
     framed = λ directory ends slots. spot-writes nums directory ends scope slots slots frame
-        (set frame (get_or scope 2 0 + i) number) at number local_tag (at + 1) (local i) (named-local nums at) asks.is
+        (set frame (scope.parameter_count + i) number) at number local_tag (at + 1) (local i) (named-local nums at) asks.is
         (local-becomes directory ends slots);
   }
 
@@ -154,7 +155,7 @@ module _ (nums directory slots : List ℕ) (at number : ℕ) where
   abbrev f : ℕ
   f = second_number nums at
 
-  module _ (ends scope frame : List ℕ) (Γ : Scope) (s : State) (t : Ty)
+  module _ (ends : List ℕ) (scope : coded.Scope) (frame : List ℕ) (Γ : Scope) (s : State) (t : Ty)
       (h : Scene nums directory ends scope slots frame Γ s) where
     abbrev cell_of : (shape : Shape) → global_at Γ.program g ≡ some shape → CellOf directory s.store g shape
     cell_of = cell-of nums directory ends scope slots frame Γ s h g

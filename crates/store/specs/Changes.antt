@@ -1,5 +1,6 @@
 -- What is asked and promised where a state changes: a place is written, a header is set valid or invalid. The step
 -- counter and the free slots of the frame stay.
+use Rattle.program.specs.declared.Scope as coded
 use Rattle.std.specs.Prelude.{Bool, ◌≡◌, List, ℕ, ◌+◌, ◌≤◌, length, get_or}
 use Rattle.std.proofs.Math.Option.{Option, some}
 use Rattle.std.proofs.Math.ListN.{get_elem?}
@@ -17,7 +18,7 @@ pub record KeepsFree (frame frame' : List ℕ) (own : ℕ) : Type 0 where
   pub free : (i : ℕ) → own ≤ i → get_or frame' i 0 ≡ get_or frame i 0
 
 -- what the rules make of a state stands in the slots afterwards
-pub record Becomes (nums directory ends scope slots slots' frame frame' : List ℕ) (Γ : Scope) (s : State)
+pub record Becomes (nums directory ends : List ℕ) (scope : coded.Scope) (slots slots' frame frame' : List ℕ) (Γ : Scope) (s : State)
     (made : Option State) : Type 0 where
   pub state : State
   pub is : made ≡ some state
@@ -29,7 +30,7 @@ pub record Becomes (nums directory ends scope slots slots' frame frame' : List �
 pub record AsksHeader (directory slots : List ℕ) (g : ℕ) : Type 0 where
   pub nums : List ℕ
   pub ends : List ℕ
-  pub scope : List ℕ
+  pub scope : coded.Scope
   pub frame : List ℕ
   pub scope_of : Scope
   pub state : State
@@ -44,25 +45,25 @@ pub record Marked (s : State) (g mark : ℕ) : Type 0 where
   pub told : mark ≡ mark_of valid
 
 pub record ReadsMark (directory slots : List ℕ) (g r : ℕ) : Type 0 where
-  pub reads : (nums ends scope frame : List ℕ) (Γ : Scope) (s : State) (widths : List ℕ)
+  pub reads : (nums ends : List ℕ) (scope : coded.Scope) (frame : List ℕ) (Γ : Scope) (s : State) (widths : List ℕ)
       → Scene nums directory ends scope slots frame Γ s → and_look (shape_for Γ g) header_only ≡ some widths
       → Marked s g r
 
 -- its change
 pub record ChangesHeader (change : Cell → Option Cell) (directory slots slots' : List ℕ) (g : ℕ) : Type 0 where
-  pub changes : (nums ends scope frame : List ℕ) (Γ : Scope) (s : State) (widths : List ℕ)
+  pub changes : (nums ends : List ℕ) (scope : coded.Scope) (frame : List ℕ) (Γ : Scope) (s : State) (widths : List ℕ)
       → Scene nums directory ends scope slots frame Γ s → and_look (shape_for Γ g) header_only ≡ some widths
       → Becomes nums directory ends scope slots slots' frame frame Γ s (change_store change g s)
 
 -- a place is written
-pub record WritesPlace (nums directory ends scope slots slots' frame frame' : List ℕ) (at number : ℕ)
+pub record WritesPlace (nums directory ends : List ℕ) (scope : coded.Scope) (slots slots' frame frame' : List ℕ) (at number : ℕ)
     : Type 0 where
   pub writes : (Γ : Scope) (s : State) (p : Place) (t : Ty) → Scene nums directory ends scope slots frame Γ s
       → NamesPlace nums at p → declared Γ p ≡ some t → Fit t number
       → Becomes nums directory ends scope slots slots' frame frame' Γ s (put p number s)
 
 -- one of a tag that stands in the frame; and one that stands in the store
-pub record WritesFramed (nums scope frame frame' : List ℕ) (at number : ℕ) : Type 0 where
+pub record WritesFramed (nums : List ℕ) (scope : coded.Scope) (frame frame' : List ℕ) (at number : ℕ) : Type 0 where
   pub framed : (directory ends slots : List ℕ)
       → WritesPlace nums directory ends scope slots slots frame frame' at number
 
@@ -71,14 +72,14 @@ pub record AsksCell (tag : ℕ) (nums directory slots : List ℕ) (at : ℕ) : T
   pub asks : AsksStored tag nums directory ends slots at
 
 pub record WritesCell (nums directory slots slots' : List ℕ) (at number : ℕ) : Type 0 where
-  pub stored : (ends scope frame : List ℕ)
+  pub stored : (ends : List ℕ) (scope : coded.Scope) (frame : List ℕ)
       → WritesPlace nums directory ends scope slots slots' frame frame at number
 
 -- one of any tag
-pub record AsksWrite (nums directory scope slots frame : List ℕ) (at : ℕ) : Type 0 where
+pub record AsksWrite (nums directory : List ℕ) (scope : coded.Scope) (slots frame : List ℕ) (at : ℕ) : Type 0 where
   pub ends : List ℕ
   pub asks : AsksPlace nums directory ends scope slots frame at
 
-pub record Writes (nums directory scope slots slots' frame frame' : List ℕ) (at number : ℕ) : Type 0 where
+pub record Writes (nums directory : List ℕ) (scope : coded.Scope) (slots slots' frame frame' : List ℕ) (at number : ℕ) : Type 0 where
   pub written : (ends : List ℕ)
       → WritesPlace nums directory ends scope slots slots' frame frame' at number

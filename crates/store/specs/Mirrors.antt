@@ -1,5 +1,6 @@
 -- How a state of the rules stands in slots: the store's numbers in file order, one a slot; a body's parameters and then
 -- its locals in the first slots of its frame; in a parser's state the index of the packet's unread bytes.
+use Rattle.program.specs.declared.Scope as coded
 use Rattle.std.specs.Prelude.{true, ◌≡◌, List, ℕ, ◌+◌, ◌*◌, ◌≤◌, ◌<◌, length, get_or, drop}
 use Rattle.rules.specs.Syntax.{Program}
 use Rattle.rules.specs.Reading.{most_globals, most_fields}
@@ -49,7 +50,7 @@ pub record OffsetsOf (P : Program) (slots : List ℕ) (first : ℕ) : Type 0 whe
   pub is : (g : ℕ) → g ≤ length P.globals → get_or slots (first + g) 0 ≡ get_or (offsets_from P 0 P.globals) g 0
 
 -- a body's scope and a state that fits it; only a parser's state looks at the packet
-pub record Scene (nums directory ends scope slots frame : List ℕ) (Γ : Scope) (s : State) : Type 0 where
+pub record Scene (nums directory ends : List ℕ) (scope : coded.Scope) (slots frame : List ℕ) (Γ : Scope) (s : State) : Type 0 where
   pub scopes : StandsScope nums directory ends scope Γ
   pub offset : OffsetsOf Γ.program directory offsets_slot
   pub fits : StateFits Γ s

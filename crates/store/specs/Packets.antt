@@ -1,5 +1,6 @@
 -- What is asked and promised where a header is filled from the packet: its fields take the next unread bits, highest
 -- first.
+use Rattle.program.specs.declared.Scope as coded
 use Rattle.std.specs.Prelude.{Bool, true, false, ◌≡◌, List, [], ℕ, ◌+◌, ◌*◌, ◌≤◌, ◌<◌, length, get_or, take, drop}
 use Rattle.std.proofs.Math.Option.{some}
 use Rattle.rules.specs.Numbers.{most_bytes}
@@ -50,7 +51,7 @@ pub record FillsFields (nums slots slots' : List ℕ) (at count from slot : ℕ)
 
 -- a header of whole bytes, in a state: it is filled, or the packet is too short
 pub record AsksExtract (nums directory ends slots : List ℕ) (g : ℕ) : Type 0 where
-  pub scope : List ℕ
+  pub scope : coded.Scope
   pub frame : List ℕ
   pub scope_of : Scope
   pub state : State
@@ -63,7 +64,7 @@ unfoldable pub extract_ends : Bool → Ending
 extract_ends true = onward
 extract_ends false = rejected short_packet
 
-pub record Extracted (nums directory ends scope slots slots' frame : List ℕ) (g : ℕ) (Γ : Scope) (s : State)
+pub record Extracted (nums directory ends : List ℕ) (scope : coded.Scope) (slots slots' frame : List ℕ) (g : ℕ) (Γ : Scope) (s : State)
     (widths : List ℕ) (r : Bool) : Type 0 where
   pub state : State
   pub is : extract_into g widths s ≡ done (extract_ends r) state []
@@ -71,7 +72,7 @@ pub record Extracted (nums directory ends scope slots slots' frame : List ℕ) (
   pub counter : get_or slots' counter_slot 0 ≡ get_or slots counter_slot 0
 
 pub record Extracts (nums directory ends slots slots' : List ℕ) (g : ℕ) (r : Bool) : Type 0 where
-  pub extracts : (scope frame : List ℕ) (Γ : Scope) (s : State) (widths : List ℕ)
+  pub extracts : (scope : coded.Scope) (frame : List ℕ) (Γ : Scope) (s : State) (widths : List ℕ)
       → Scene nums directory ends scope slots frame Γ s → is_state Γ.body ≡ true
       → and_look (shape_for Γ g) whole_header ≡ some widths
       → Extracted nums directory ends scope slots slots' frame g Γ s widths r

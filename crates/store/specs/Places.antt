@@ -1,5 +1,6 @@
 -- What is asked and promised where a place is read. What is asked is that some state stands in the slots; what is
 -- promised holds of whatever state stands there.
+use Rattle.program.specs.declared.Scope as coded
 use Rattle.std.proofs.Math.Option.{some}
 use Rattle.std.specs.Prelude.{◌≡◌, List, ℕ, ◌+◌, ◌≤◌, length, get_or}
 use Rattle.rules.specs.Words.{widest}
@@ -19,7 +20,7 @@ pub record NamesPlace (nums : List ℕ) (at : ℕ) (p : Place) : Type 0 where
   pub stands : StandsPlace nums at p
 
 -- one that is declared
-pub record AsksPlace (nums directory ends scope slots frame : List ℕ) (at : ℕ) : Type 0 where
+pub record AsksPlace (nums directory ends : List ℕ) (scope : coded.Scope) (slots frame : List ℕ) (at : ℕ) : Type 0 where
   pub scope_of : Scope
   pub state : State
   pub place : Place
@@ -35,7 +36,7 @@ pub record HeldAs (Γ : Scope) (p : Place) (s : State) (ty number : ℕ) : Type 
   pub most : ty ≤ widest
   pub fit : Fit (ty_of ty) number
 
-pub record ReadsPlace (nums directory ends scope slots frame : List ℕ) (at : ℕ) (r : Value) : Type 0 where
+pub record ReadsPlace (nums directory ends : List ℕ) (scope : coded.Scope) (slots frame : List ℕ) (at : ℕ) (r : Value) : Type 0 where
   pub reads : (Γ : Scope) (s : State) (p : Place) (t : Ty) → Scene nums directory ends scope slots frame Γ s
       → NamesPlace nums at p → declared Γ p ≡ some t → HeldAs Γ p s r.ty r.number
 
@@ -53,24 +54,24 @@ abbrev pub field_tag : ℕ
 field_tag = 5
 
 -- a place of a tag that stands in the frame; and one that stands in the store
-pub record AsksFramed (tag : ℕ) (nums scope frame : List ℕ) (at : ℕ) : Type 0 where
+pub record AsksFramed (tag : ℕ) (nums : List ℕ) (scope : coded.Scope) (frame : List ℕ) (at : ℕ) : Type 0 where
   pub directory : List ℕ
   pub ends : List ℕ
   pub slots : List ℕ
   pub asks : AsksPlace nums directory ends scope slots frame at
   pub is : get_or nums at 0 ≡ tag
 
-pub record ReadsFramed (nums scope frame : List ℕ) (at : ℕ) (r : Value) : Type 0 where
+pub record ReadsFramed (nums : List ℕ) (scope : coded.Scope) (frame : List ℕ) (at : ℕ) (r : Value) : Type 0 where
   pub framed : (directory ends slots : List ℕ) → ReadsPlace nums directory ends scope slots frame at r
 
 pub record AsksStored (tag : ℕ) (nums directory ends slots : List ℕ) (at : ℕ) : Type 0 where
-  pub scope : List ℕ
+  pub scope : coded.Scope
   pub frame : List ℕ
   pub asks : AsksPlace nums directory ends scope slots frame at
   pub is : get_or nums at 0 ≡ tag
 
 pub record ReadsStored (nums directory ends slots : List ℕ) (at : ℕ) (r : Value) : Type 0 where
-  pub stored : (scope frame : List ℕ) → ReadsPlace nums directory ends scope slots frame at r
+  pub stored : (scope : coded.Scope) (frame : List ℕ) → ReadsPlace nums directory ends scope slots frame at r
 
 -- where the type of a global that is a header stands: how many fields it has, and their widths behind
 pub record AsksHeaderTy (nums directory ends : List ℕ) (g : ℕ) : Type 0 where

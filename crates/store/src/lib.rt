@@ -4,6 +4,7 @@
 
 ghost use Rattle.store.specs.Places.{AsksPlace, ReadsPlace};
 ghost use Rattle.store.specs.Changes.{AsksWrite, Writes};
+ghost use Rattle.program.specs.In.{In};
 
 pub mod fill;
 mod frames;
@@ -13,6 +14,7 @@ pub mod packet;
 
 use frames::{held_local, held_parameter, put_local, put_parameter};
 use globals::{held_field, held_variable, put_field, put_variable};
+use program::{Scope, Source};
 use values::Value;
 
 // The slot that counts steps, behind those of the numbers that a store may have.
@@ -24,44 +26,41 @@ pub const STORE: usize = 546;
 
 // What the place holds whose tag stands at an index: 2 a local, 3 a parameter, 4 a variable, 5 a field.
 pub fn read_place(
-    nums: &[u64],
-    ends: &[u64],
-    directory: &[u64; shape::SLOTS],
-    scope: &[u64; program::SCOPE],
+    source: &Source,
+    scope: &Scope,
     slots: &[u64; STORE],
     frame: &[u64],
     at: usize,
 ) -> Value
-    requires { AsksPlace nums.now directory.now ends.now scope.now slots.now frame.now at }
-    ensures { ReadsPlace nums.now directory.now ends.now scope.now slots.now frame.now at result }
+    requires { In AsksPlace source.now scope.now slots.now frame.now at }
+    ensures { In ReadsPlace source.now scope.now slots.now frame.now at result }
 {
-    let tag = nums[at];
+    let tag = source.nums[at];
     match tag {
-        2 => held_local(nums, scope, frame, at),
-        3 => held_parameter(nums, scope, frame, at),
-        4 => held_variable(nums, ends, directory, slots, at),
-        _ => held_field(nums, ends, directory, slots, at),
+        2 => held_local(source.nums, scope, frame, at),
+        3 => held_parameter(source.nums, scope, frame, at),
+        4 => held_variable(source, slots, at),
+        _ => held_field(source, slots, at),
     }
 }
 
 // A number is put into the place whose tag stands at an index; a field of an invalid header stays as it is.
 pub fn write_place(
-    nums: &[u64],
-    directory: &[u64; shape::SLOTS],
-    scope: &[u64; program::SCOPE],
+    source: &Source,
+    scope: &Scope,
     at: usize,
     number: u64,
     slots: &mut [u64; STORE],
     frame: &mut [u64],
 )
-    requires { AsksWrite nums.now directory.now scope.now slots.old frame.old at }
-    ensures { Writes nums.now directory.now scope.now slots.old slots.new frame.old frame.new at number }
+    requires { AsksWrite source.now.nums.now source.now.directory.now scope.now slots.old frame.old at }
+    ensures { Writes source.now.nums.now source.now.directory.now scope.now slots.old slots.new frame.old frame.new at number }
 {
-    let tag = nums[at];
+    let tag = source.nums[at];
     match tag {
-        2 => put_local(nums, scope, at, number, frame),
-        3 => put_parameter(nums, scope, at, number, frame),
-        4 => put_variable(nums, directory, at, number, slots),
-        _ => put_field(nums, directory, at, number, slots),
+        2 => put_local(source.nums, scope, at, number, frame),
+        3 => put_parameter(source.nums, scope, at, number, frame),
+        4 => put_variable(source, at, number, slots),
+        _ => put_field(source, at, number, slots),
     }
 }

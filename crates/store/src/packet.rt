@@ -1,10 +1,12 @@
 // The packet: a header filled from its unread bytes. They are the last numbers of the file, from the index on that the
 // slot POSITION holds.
 ghost use Rattle.store.specs.Packets.{AsksBits, ReadsBits, AsksWidths, CountsBits, AsksFields, FillsFields, AsksExtract, Extracts};
+ghost use Rattle.program.specs.In.{In};
 
 use super::globals::header_type;
 use super::headers::VALID;
 use super::{POSITION, STORE};
+use program::Source;
 use shape::OFFSETS;
 
 // The number that so many bits stand for, highest first: `first` is their place among the bits of the bytes from `from`
@@ -62,27 +64,21 @@ fn fill_fields(
 }
 
 // A header is filled from the unread bytes and made valid, if there are enough of them; if not, nothing changes.
-pub fn extract(
-    nums: &[u64],
-    ends: &[u64],
-    directory: &[u64; shape::SLOTS],
-    g: usize,
-    slots: &mut [u64; STORE],
-) -> bool
-    requires { AsksExtract nums.now directory.now ends.now slots.old g }
-    ensures { Extracts nums.now directory.now ends.now slots.old slots.new g result }
+pub fn extract(source: &Source, g: usize, slots: &mut [u64; STORE]) -> bool
+    requires { In AsksExtract source.now slots.old g }
+    ensures { In Extracts source.now slots.old slots.new g result }
 {
-    let header = header_type(nums, ends, directory, g);
+    let header = header_type(source, g);
     let widths = header + 1;
-    let count = nums[header] as usize;
-    let bytes = count_bits(nums, widths, count) / 8;
-    let mark = directory[OFFSETS + g] as usize;
+    let count = source.nums[header] as usize;
+    let bytes = count_bits(source.nums, widths, count) / 8;
+    let mark = source.directory[OFFSETS + g] as usize;
     let position = slots[POSITION] as usize;
-    if nums.len() - position < bytes {
+    if source.nums.len() - position < bytes {
         false
     } else {
         slots[mark] = VALID;
-        fill_fields(nums, widths, count, position, mark + 1, slots);
+        fill_fields(source.nums, widths, count, position, mark + 1, slots);
         slots[POSITION] = (position + bytes) as u64;
         true
     }
