@@ -5,11 +5,12 @@ ghost use Rattle.bodies.specs.Leaves.{TellsIn, value_ty};
 ghost use Rattle.bodies.specs.Calls.{AsksWanted, IsWanted, Weighs, Settles};
 
 use super::types::{both, either};
-use super::{Called, Passed, Typed, Wanted};
+use super::{Agreed, Callee, Typed, Wanted};
 use program::{STATE, Scope};
+use rules::{Fault, Reason};
 
 // The type of a call that is an expression: it calls functions only, and stands in no state.
-pub fn value_type(scope: &Scope, at: usize, kind: u64, returns: u64) -> Result<u64, Fault>
+pub fn value_type(scope: &Scope, at: usize, kind: u64, returns: u64) -> Typed
     requires { returns ≤ widest }
     ensures { TellsIn scope.now (value_ty at kind returns) result }
 {
@@ -24,67 +25,48 @@ pub fn value_type(scope: &Scope, at: usize, kind: u64, returns: u64) -> Result<u
 }
 
 // The parameter that comes next, if one is left.
-pub fn wanted_at(nums: &[u64], parameters: usize, left: u64) -> Wanted
+pub fn wanted_at(nums: &[u64], parameters: usize, left: u64) -> Option<Wanted>
     requires { AsksWanted nums.now parameters left }
     ensures { IsWanted nums.now parameters left result }
 {
     if left == 0 {
-        Wanted {
-            present: false,
-            direction: 0,
-            ty: 0,
-            next: parameters,
-            left: 0,
-        }
+        None
     } else {
-        Wanted {
-            present: true,
+        Some(Wanted {
             direction: nums[parameters],
             ty: nums[parameters + 1],
             next: parameters + 2,
             left: left - 1,
-        }
+        })
     }
 }
 
 // An argument of a type against its parameter, before those behind it.
-pub fn weigh(
-    wanted: Wanted,
-    t: u64,
-    writable: bool,
-    types: bool,
-    places: bool,
-) -> Result<Agreed, Fault>
-    ensures { Weighs wanted t writable types places result }
+pub fn weigh(wanted: Option<Wanted>, t: u64, writable: bool, behind: Agreed) -> Agreed
+    ensures { Weighs wanted t writable behind result }
 {
-    let present = wanted.present;
-    if present {
-        let place = either(wanted.direction < 2, writable);
-        Ok(Agreed {
-            types: both(wanted.ty == t, types),
-            places: both(place, places),
-        })
-    } else {
-        Ok(Agreed {
+    match wanted {
+        Some(parameter) => {
+            let place = either(parameter.direction < 2, writable);
+            Agreed {
+                types: both(parameter.ty == t, behind.types),
+                places: both(place, behind.places),
+            }
+        }
+        None => Agreed {
             types: false,
             places: true,
-        })
+        },
     }
 }
 
 // A call whose arguments are judged.
-pub fn settle(
-    at: usize,
-    kind: u64,
-    returns: u64,
-    types: bool,
-    places: bool,
-) -> Result<Callee, Fault>
+pub fn settle(at: usize, kind: u64, returns: u64, agreed: Agreed) -> Result<Callee, Fault>
     requires { returns ≤ widest }
-    ensures { Settles at kind returns types places result }
+    ensures { Settles at kind returns agreed.types agreed.places result }
 {
-    if types {
-        if places {
+    if agreed.types {
+        if agreed.places {
             Ok(Callee { kind, returns })
         } else {
             Err(Fault {

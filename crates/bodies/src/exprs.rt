@@ -7,8 +7,9 @@ ghost use Rattle.program.specs.In.{In};
 use super::calls::{settle, value_type, wanted_at, weigh};
 use super::places::{judge_leaf, writable_at};
 use super::types::{one_type, two_type};
-use super::{Called, Operands, Passed, Typed};
+use super::{Agreed, Callee, Operands, Typed};
 use program::{Scope, Source};
+use rules::{Fault, Reason};
 
 // Where the first operand of an expression stands, by its tag, and whether it has a second.
 fn operands_at(nums: &[u64], at: usize) -> Operands
@@ -62,18 +63,21 @@ fn judge_args(
     } else {
         let t = judge_expr(source, scope, depth, at)?;
         let wanted = wanted_at(source.nums, parameters, left);
-        let behind = source.ends[at] as usize;
-        let Agreed { types, places } = judge_args(
-            source,
-            scope,
-            depth,
-            behind,
-            count - 1,
-            wanted.next,
-            wanted.left,
-        )?;
+        let next = source.ends[at] as usize;
+        let behind = match wanted {
+            Some(parameter) => judge_args(
+                source,
+                scope,
+                depth,
+                next,
+                count - 1,
+                parameter.next,
+                parameter.left,
+            )?,
+            None => judge_args(source, scope, depth, next, count - 1, parameters, 0)?,
+        };
         let writable = writable_at(source.nums, scope, at);
-        weigh(wanted, t, writable, types, places)
+        Ok(weigh(wanted, t, writable, behind))
     }
 }
 
@@ -87,7 +91,7 @@ pub fn judge_call(source: &Source, scope: &Scope, depth: usize, at: usize) -> Re
     if f < scope.reach {
         let head = source.head_of(f as usize);
         let count = source.nums[at + 2];
-        let Agreed { types, places } = judge_args(
+        let agreed = judge_args(
             source,
             scope,
             depth - 1,
@@ -96,7 +100,7 @@ pub fn judge_call(source: &Source, scope: &Scope, depth: usize, at: usize) -> Re
             head.parameters,
             head.count,
         )?;
-        settle(at, head.kind, head.returns, types, places)
+        settle(at, head.kind, head.returns, agreed)
     } else {
         Err(Fault {
             reason: Reason::Unnamed,
@@ -107,7 +111,7 @@ pub fn judge_call(source: &Source, scope: &Scope, depth: usize, at: usize) -> Re
 
 // An expression with one or two operands that is no call.
 #[cycle(expressions)]
-fn judge_operands(source: &Source, scope: &Scope, depth: usize, at: usize) -> Result<u64, Fault>
+fn judge_operands(source: &Source, scope: &Scope, depth: usize, at: usize) -> Typed
     requires { In AsksOperands source.now scope.now depth at }
     ensures { In JudgesExpr source.now scope.now depth at result }
 {
@@ -125,7 +129,7 @@ fn judge_operands(source: &Source, scope: &Scope, depth: usize, at: usize) -> Re
 
 // The expression at an index, with so many levels left: its type, or its first fault.
 #[cycle(expressions)]
-pub fn judge_expr(source: &Source, scope: &Scope, depth: usize, at: usize) -> Result<u64, Fault>
+pub fn judge_expr(source: &Source, scope: &Scope, depth: usize, at: usize) -> Typed
     requires { In AsksExpr source.now scope.now depth at }
     ensures { In JudgesExpr source.now scope.now depth at result }
 {

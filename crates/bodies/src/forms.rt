@@ -1,14 +1,16 @@
 // What a statement asks once its parts are judged: 7 before 8.
+ghost use Rattle.rules.specs.Answers.{number_of};
 ghost use Rattle.bodies.specs.Claims.{told_stmt};
 ghost use Rattle.bodies.specs.Forms.{Forms, ruled, ruled_both, chosen_as, FormsIn, called_in, returned_in, applied_in, left_in, parsed_in};
 
 use super::Formed;
 use super::types::{both, either};
 use program::{APPLY, FUNCTION, STATE, Scope};
+use rules::{Fault, Reason};
 
 // Fine where a rule holds, and its refusal where it does not.
-fn rule(number: u64, at: usize, holds: bool, returns: bool) -> Result<bool, Fault>
-    ensures { Forms result (ruled number at holds returns) }
+fn rule(reason: Reason, at: usize, holds: bool, returns: bool) -> Formed
+    ensures { Forms result (ruled (number_of reason) at holds returns) }
 {
     if holds {
         Ok(returns)
@@ -18,11 +20,11 @@ fn rule(number: u64, at: usize, holds: bool, returns: bool) -> Result<bool, Faul
 }
 
 // Two rules of a statement that returns nothing: 7 where the first does not hold, then 8 where the second does not.
-pub fn rules(at: usize, first: bool, second: bool) -> Result<bool, Fault>
+pub fn rules(at: usize, first: bool, second: bool) -> Formed
     ensures { Forms result (ruled_both at first second) }
 {
     if first {
-        rule(8, at, second, false)
+        rule(Reason::Form, at, second, false)
     } else {
         Err(Fault {
             reason: Reason::Type,
@@ -32,20 +34,20 @@ pub fn rules(at: usize, first: bool, second: bool) -> Result<bool, Fault>
 }
 
 // A call that is a statement: a function calls functions only, and a state calls nothing.
-pub fn called(scope: &Scope, at: usize, kind: u64, returns: u64) -> Result<bool, Fault>
+pub fn called(scope: &Scope, at: usize, kind: u64, returns: u64) -> Formed
     ensures { FormsIn scope.now (called_in at kind returns) result }
 {
     let some = either(kind != 0, scope.kind != FUNCTION);
     let may = both(scope.kind < STATE, some);
-    rule(8, at, may, false)
+    rule(Reason::Form, at, may, false)
 }
 
 // A value of a type that is returned: in functions only.
-pub fn returned(scope: &Scope, at: usize, t: u64) -> Result<bool, Fault>
+pub fn returned(scope: &Scope, at: usize, t: u64) -> Formed
     ensures { FormsIn scope.now (returned_in at t) result }
 {
     if scope.kind == FUNCTION {
-        rule(7, at, scope.returns == t, true)
+        rule(Reason::Type, at, scope.returns == t, true)
     } else {
         Err(Fault {
             reason: Reason::Form,
@@ -55,33 +57,31 @@ pub fn returned(scope: &Scope, at: usize, t: u64) -> Result<bool, Fault>
 }
 
 // An apply: in the apply body only.
-pub fn applied(scope: &Scope, at: usize) -> Result<bool, Fault>
+pub fn applied(scope: &Scope, at: usize) -> Formed
     ensures { FormsIn scope.now (applied_in at) result }
 {
-    rule(8, at, scope.kind == APPLY, false)
+    rule(Reason::Form, at, scope.kind == APPLY, false)
 }
 
 // A return without a value, or an exit: in actions and the apply body only.
-pub fn left(scope: &Scope, at: usize) -> Result<bool, Fault>
+pub fn left(scope: &Scope, at: usize) -> Formed
     ensures { FormsIn scope.now (left_in at) result }
 {
     let may = both(scope.kind != FUNCTION, scope.kind < STATE);
-    rule(8, at, may, false)
+    rule(Reason::Form, at, may, false)
 }
 
 // A verify or an extract, whose own rule holds or not: in states only.
-pub fn parsed(scope: &Scope, at: usize, holds: bool) -> Result<bool, Fault>
+pub fn parsed(scope: &Scope, at: usize, holds: bool) -> Formed
     ensures { FormsIn scope.now (parsed_in at holds) result }
 {
     rules(at, holds, STATE <= scope.kind)
 }
 
 // An if with a condition of a type: a fault of its branches comes before its own.
-pub fn chosen(at: usize, t: u64, branches: Result<bool, Fault>) -> Result<bool, Fault>
+pub fn chosen(at: usize, t: u64, branches: Formed) -> Formed
     ensures { Forms result (chosen_as at t (told_stmt branches)) }
 {
-    match branches {
-        Ok(returns) => rule(7, at, t == 0, returns),
-        Err(fault) => Err(fault),
-    }
+    let returns = branches?;
+    rule(Reason::Type, at, t == 0, returns)
 }

@@ -10,40 +10,33 @@ pub mod singles;
 pub mod stmts;
 pub mod types;
 
-// The type of an expression as it is written (0 bool, 1 to 64 bits), or the first fault and its index.
+use rules::Fault;
+
+// The type of an expression as it is written (0 bool, 1 to 64 bits), or the first fault.
+pub type Typed = Result<u64, Fault>;
+
+// Whether a statement that is fine returns a value on each path, or the first fault.
+pub type Formed = Result<bool, Fault>;
+
+// What a call calls: its kind and the type that it returns.
 #[derive(Clone, Copy)]
-pub enum Typed {
-    Ty(u64),
-    Fault { number: u64, index: usize },
+pub struct Callee {
+    pub kind: u64,
+    pub returns: u64,
 }
 
-// A statement is fine, and whether it returns a value on each path; or the first fault and its index.
+// Whether arguments agree with parameters in number and type, and in place.
 #[derive(Clone, Copy)]
-pub enum Formed {
-    Fine(bool),
-    Faulty { number: u64, index: usize },
+pub struct Agreed {
+    pub types: bool,
+    pub places: bool,
 }
 
-// What a call that is fine calls: its kind and the type that it returns; or the first fault and its index.
-#[derive(Clone, Copy)]
-pub enum Called {
-    Returns { kind: u64, returns: u64 },
-    Uncalled { number: u64, index: usize },
-}
-
-// Whether arguments agree with parameters in number and type, and in place; or the first fault and its index.
-#[derive(Clone, Copy)]
-pub enum Passed {
-    Agree { types: bool, places: bool },
-    Unpassed { number: u64, index: usize },
-}
-
-// What a global is: a variable of a type, a header whose type stands at an index, or nothing.
+// What a global is: a variable of a type, or a header whose type stands at an index.
 #[derive(Clone, Copy)]
 pub enum Found {
     Variable(u64),
     Header(usize),
-    Nothing,
 }
 
 // Where the first operand stands, and whether there is a second.
@@ -53,10 +46,9 @@ pub struct Operands {
     pub two: bool,
 }
 
-// The parameter that an argument is for, if one is left; where those behind it begin, and how many they are.
+// The parameter that an argument is for; where those behind it begin, and how many they are.
 #[derive(Clone, Copy)]
 pub struct Wanted {
-    pub present: bool,
     pub direction: u64,
     pub ty: u64,
     pub next: usize,

@@ -7,11 +7,12 @@ ghost use Rattle.program.specs.In.{In};
 use super::types::{bits_type, bool_type};
 use super::{Found, Typed};
 use program::{FUNCTION, Scope, Source};
+use rules::{Fault, Reason};
 use shape::limits::FIRST_HEADER_TYPE;
 use words::widths::WIDEST;
 
 // The type of the local whose number stands behind the tag.
-fn local_type(nums: &[u64], scope: &Scope, at: usize) -> Result<u64, Fault>
+fn local_type(nums: &[u64], scope: &Scope, at: usize) -> Typed
     requires { AsksSlot nums.now scope.now at }
     ensures { SlotTyped nums.now scope.now (local_ty nums.now at) result }
 {
@@ -27,7 +28,7 @@ fn local_type(nums: &[u64], scope: &Scope, at: usize) -> Result<u64, Fault>
 }
 
 // The type of the parameter whose number stands behind the tag.
-fn parameter_type(nums: &[u64], scope: &Scope, at: usize) -> Result<u64, Fault>
+fn parameter_type(nums: &[u64], scope: &Scope, at: usize) -> Typed
     requires { AsksSlot nums.now scope.now at }
     ensures { SlotTyped nums.now scope.now (parameter_ty nums.now at) result }
 {
@@ -43,36 +44,36 @@ fn parameter_type(nums: &[u64], scope: &Scope, at: usize) -> Result<u64, Fault>
 }
 
 // A header type, if there is one of that number.
-fn header_at(source: &Source, h: usize) -> Found
+fn header_at(source: &Source, h: usize) -> Option<Found>
     requires { In AsksProgram source.now }
     ensures { In FindsHeader source.now h result }
 {
     if h < source.directory[shape::HEADERS] as usize {
-        Found::Header(source.header_of(h))
+        Some(Found::Header(source.header_of(h)))
     } else {
-        Found::Nothing
+        None
     }
 }
 
 // What the global of a number is.
-pub fn global_at(source: &Source, g: usize) -> Found
+pub fn global_at(source: &Source, g: usize) -> Option<Found>
     requires { In AsksProgram source.now }
     ensures { In FindsGlobal source.now g result }
 {
     if g < source.directory[shape::GLOBALS] as usize {
         let ty = source.global_of(g);
         if ty <= WIDEST {
-            Found::Variable(ty)
+            Some(Found::Variable(ty))
         } else {
             header_at(source, (ty - FIRST_HEADER_TYPE) as usize)
         }
     } else {
-        Found::Nothing
+        None
     }
 }
 
 // A type behind a global, where globals are seen.
-fn seen_type(scope: &Scope, at: usize, t: u64) -> Result<u64, Fault>
+fn seen_type(scope: &Scope, at: usize, t: u64) -> Typed
     requires { t ≤ widest }
     ensures { SeenTyped scope.now at t result }
 {
@@ -87,18 +88,17 @@ fn seen_type(scope: &Scope, at: usize, t: u64) -> Result<u64, Fault>
 }
 
 // The type of the global whose number stands behind the tag.
-fn variable_type(source: &Source, scope: &Scope, at: usize) -> Result<u64, Fault>
+fn variable_type(source: &Source, scope: &Scope, at: usize) -> Typed
     requires { In AsksName source.now scope.now at }
     ensures { TypedIn source.now.nums.now source.now.directory.now source.now.ends.now scope.now (variable_ty source.now.nums.now at) result }
 {
-    let found = global_at(source, source.nums[at + 1] as usize);
-    match found {
-        Found::Variable(t) => seen_type(scope, at, t),
-        Found::Header(_) => Err(Fault {
+    match global_at(source, source.nums[at + 1] as usize) {
+        Some(Found::Variable(t)) => seen_type(scope, at, t),
+        Some(Found::Header(_)) => Err(Fault {
             reason: Reason::Type,
             index: at,
         }),
-        Found::Nothing => Err(Fault {
+        None => Err(Fault {
             reason: Reason::Unnamed,
             index: at + 1,
         }),
@@ -106,7 +106,7 @@ fn variable_type(source: &Source, scope: &Scope, at: usize) -> Result<u64, Fault
 }
 
 // The type of a field of the header type that stands at an index; the field's number is the second behind the tag.
-fn width_type(nums: &[u64], scope: &Scope, at: usize, header: usize) -> Result<u64, Fault>
+fn width_type(nums: &[u64], scope: &Scope, at: usize, header: usize) -> Typed
     requires { AsksField nums.now at header }
     ensures { FieldTyped nums.now scope.now at header result }
 {
@@ -138,18 +138,17 @@ pub fn whole_bytes(nums: &[u64], header: usize) -> bool
 }
 
 // The type of the field whose global and number stand behind the tag.
-fn field_type(source: &Source, scope: &Scope, at: usize) -> Result<u64, Fault>
+fn field_type(source: &Source, scope: &Scope, at: usize) -> Typed
     requires { In AsksFieldName source.now scope.now at }
     ensures { TypedIn source.now.nums.now source.now.directory.now source.now.ends.now scope.now (field_ty source.now.nums.now at) result }
 {
-    let found = global_at(source, source.nums[at + 1] as usize);
-    match found {
-        Found::Variable(_) => Err(Fault {
+    match global_at(source, source.nums[at + 1] as usize) {
+        Some(Found::Variable(_)) => Err(Fault {
             reason: Reason::Type,
             index: at,
         }),
-        Found::Header(header) => width_type(source.nums, scope, at, header),
-        Found::Nothing => Err(Fault {
+        Some(Found::Header(header)) => width_type(source.nums, scope, at, header),
+        None => Err(Fault {
             reason: Reason::Unnamed,
             index: at + 1,
         }),
@@ -157,18 +156,17 @@ fn field_type(source: &Source, scope: &Scope, at: usize) -> Result<u64, Fault>
 }
 
 // The header whose global stands behind the tag: a bool where it is one.
-pub fn header_type(source: &Source, scope: &Scope, at: usize) -> Result<u64, Fault>
+pub fn header_type(source: &Source, scope: &Scope, at: usize) -> Typed
     requires { In AsksName source.now scope.now at }
     ensures { TypedIn source.now.nums.now source.now.directory.now source.now.ends.now scope.now (header_ty source.now.nums.now at) result }
 {
-    let found = global_at(source, source.nums[at + 1] as usize);
-    match found {
-        Found::Variable(_) => Err(Fault {
+    match global_at(source, source.nums[at + 1] as usize) {
+        Some(Found::Variable(_)) => Err(Fault {
             reason: Reason::Type,
             index: at,
         }),
-        Found::Header(_) => seen_type(scope, at, 0),
-        Found::Nothing => Err(Fault {
+        Some(Found::Header(_)) => seen_type(scope, at, 0),
+        None => Err(Fault {
             reason: Reason::Unnamed,
             index: at + 1,
         }),
@@ -176,7 +174,7 @@ pub fn header_type(source: &Source, scope: &Scope, at: usize) -> Result<u64, Fau
 }
 
 // An expression with no operands: a literal, a place, or the valid mark of a header.
-pub fn judge_leaf(source: &Source, scope: &Scope, at: usize) -> Result<u64, Fault>
+pub fn judge_leaf(source: &Source, scope: &Scope, at: usize) -> Typed
     requires { In AsksLeaf source.now scope.now at }
     ensures { In JudgesLeaf source.now scope.now at result }
 {

@@ -8,11 +8,12 @@ ghost use Rattle.program.specs.In.{In};
 use super::exprs::{judge_call, judge_expr};
 use super::forms::{applied, called, left, parsed, returned, rules};
 use super::places::{global_at, header_type, judge_leaf, whole_bytes, writable_at};
-use super::{Called, Formed, Found, Typed};
+use super::{Callee, Formed, Found};
 use program::{Scope, Source};
+use rules::{Fault, Reason};
 
 // An assignment: its target, its value, then itself.
-fn judge_assign(source: &Source, scope: &Scope, depth: usize, at: usize) -> Result<bool, Fault>
+fn judge_assign(source: &Source, scope: &Scope, depth: usize, at: usize) -> Formed
     requires { In (AsksTagged 1) source.now scope.now depth at }
     ensures { In JudgesStmt source.now scope.now depth at result }
 {
@@ -24,7 +25,7 @@ fn judge_assign(source: &Source, scope: &Scope, depth: usize, at: usize) -> Resu
 }
 
 // A call that is a statement.
-fn judge_call_stmt(source: &Source, scope: &Scope, depth: usize, at: usize) -> Result<bool, Fault>
+fn judge_call_stmt(source: &Source, scope: &Scope, depth: usize, at: usize) -> Formed
     requires { In (AsksTagged 4) source.now scope.now depth at }
     ensures { In JudgesStmt source.now scope.now depth at result }
 {
@@ -33,7 +34,7 @@ fn judge_call_stmt(source: &Source, scope: &Scope, depth: usize, at: usize) -> R
 }
 
 // An apply: its table, then itself.
-fn judge_apply(source: &Source, scope: &Scope, at: usize) -> Result<bool, Fault>
+fn judge_apply(source: &Source, scope: &Scope, at: usize) -> Formed
     requires { at + 1 < length source.now.nums.now }
     ensures { Applies source.now.nums.now source.now.directory.now scope.now at result }
 {
@@ -48,7 +49,7 @@ fn judge_apply(source: &Source, scope: &Scope, at: usize) -> Result<bool, Fault>
 }
 
 // A return with a value.
-fn judge_return(source: &Source, scope: &Scope, depth: usize, at: usize) -> Result<bool, Fault>
+fn judge_return(source: &Source, scope: &Scope, depth: usize, at: usize) -> Formed
     requires { In (AsksTagged 6) source.now scope.now depth at }
     ensures { In JudgesStmt source.now scope.now depth at result }
 {
@@ -57,30 +58,29 @@ fn judge_return(source: &Source, scope: &Scope, depth: usize, at: usize) -> Resu
 }
 
 // A header set valid or invalid.
-fn judge_mark(source: &Source, scope: &Scope, at: usize) -> Result<bool, Fault>
+fn judge_mark(source: &Source, scope: &Scope, at: usize) -> Formed
     requires { In AsksName source.now scope.now at }
     ensures { In MarksIn source.now scope.now at result }
 {
-    let _ = header_type(source, scope, at)?;
+    header_type(source, scope, at)?;
     Ok(false)
 }
 
 // An extract: its header, that this has whole bytes, then itself.
-fn judge_extract(source: &Source, scope: &Scope, at: usize) -> Result<bool, Fault>
+fn judge_extract(source: &Source, scope: &Scope, at: usize) -> Formed
     requires { In AsksName source.now scope.now at }
     ensures { In ExtractsIn source.now scope.now at result }
 {
-    let found = global_at(source, source.nums[at + 1] as usize);
-    match found {
-        Found::Variable(_) => Err(Fault {
+    match global_at(source, source.nums[at + 1] as usize) {
+        Some(Found::Variable(_)) => Err(Fault {
             reason: Reason::Type,
             index: at,
         }),
-        Found::Header(header) => {
+        Some(Found::Header(header)) => {
             let whole = whole_bytes(source.nums, header);
             parsed(scope, at, whole)
         }
-        Found::Nothing => Err(Fault {
+        None => Err(Fault {
             reason: Reason::Unnamed,
             index: at + 1,
         }),
@@ -88,7 +88,7 @@ fn judge_extract(source: &Source, scope: &Scope, at: usize) -> Result<bool, Faul
 }
 
 // A verify: its condition, that this is a bool, then itself.
-fn judge_verify(source: &Source, scope: &Scope, depth: usize, at: usize) -> Result<bool, Fault>
+fn judge_verify(source: &Source, scope: &Scope, depth: usize, at: usize) -> Formed
     requires { In (AsksTagged 12) source.now scope.now depth at }
     ensures { In JudgesStmt source.now scope.now depth at result }
 {
@@ -97,7 +97,7 @@ fn judge_verify(source: &Source, scope: &Scope, depth: usize, at: usize) -> Resu
 }
 
 // A statement that is no if and no block.
-pub fn judge_single(source: &Source, scope: &Scope, depth: usize, at: usize) -> Result<bool, Fault>
+pub fn judge_single(source: &Source, scope: &Scope, depth: usize, at: usize) -> Formed
     requires { In AsksSingle source.now scope.now depth at }
     ensures { In JudgesStmt source.now scope.now depth at result }
 {

@@ -4,22 +4,16 @@ ghost use Rattle.bodies.specs.Claims.{AsksStmt, JudgesStmt};
 ghost use Rattle.bodies.specs.Forms.{AsksTagged, AsksBranches, JudgesBranches, AsksStmts, JudgesStmts};
 ghost use Rattle.program.specs.In.{In};
 
+use super::Formed;
 use super::exprs::judge_expr;
 use super::forms::chosen;
 use super::singles::judge_single;
 use super::types::{both, either};
-use super::{Formed, Typed};
 use program::{Scope, Source};
 
 // The members of a block, one after the other.
 #[cycle(statements)]
-fn judge_stmts(
-    source: &Source,
-    scope: &Scope,
-    depth: usize,
-    at: usize,
-    count: u64,
-) -> Result<bool, Fault>
+fn judge_stmts(source: &Source, scope: &Scope, depth: usize, at: usize, count: u64) -> Formed
     requires { In AsksStmts source.now scope.now depth at count }
     ensures { In JudgesStmts source.now scope.now depth at count result }
 {
@@ -37,7 +31,7 @@ fn judge_stmts(
 
 // The two branches of an if.
 #[cycle(statements)]
-fn judge_branches(source: &Source, scope: &Scope, depth: usize, at: usize) -> Result<bool, Fault>
+fn judge_branches(source: &Source, scope: &Scope, depth: usize, at: usize) -> Formed
     requires { In AsksBranches source.now scope.now depth at }
     ensures { In JudgesBranches source.now scope.now depth at result }
 {
@@ -49,7 +43,7 @@ fn judge_branches(source: &Source, scope: &Scope, depth: usize, at: usize) -> Re
 
 // An if: its condition, its branches, then that the condition is a bool.
 #[cycle(statements)]
-fn judge_if(source: &Source, scope: &Scope, depth: usize, at: usize) -> Result<bool, Fault>
+fn judge_if(source: &Source, scope: &Scope, depth: usize, at: usize) -> Formed
     requires { In (AsksTagged 2) source.now scope.now depth at }
     ensures { In JudgesStmt source.now scope.now depth at result }
 {
@@ -62,7 +56,7 @@ fn judge_if(source: &Source, scope: &Scope, depth: usize, at: usize) -> Result<b
 // The statement at an index, with so many levels left: fine, and whether it returns a value on each path; or its first
 // fault.
 #[cycle(statements)]
-pub fn judge_stmt(source: &Source, scope: &Scope, depth: usize, at: usize) -> Result<bool, Fault>
+pub fn judge_stmt(source: &Source, scope: &Scope, depth: usize, at: usize) -> Formed
     requires { In AsksStmt source.now scope.now depth at }
     ensures { In JudgesStmt source.now scope.now depth at result }
 {

@@ -4,6 +4,7 @@ ghost use Rattle.program.specs.Codes.{ty_of};
 ghost use Rattle.bodies.specs.Leaves.{Tells, checked_ty, MostIf, IsWidth, bool_ty, bits_ty, SliceMost, slice_ty, AsksOne, OneTyped, join_ty, TwoMost, OperatorTyped, AsksTwo, TwoTyped};
 
 use super::Typed;
+use rules::{Fault, Reason};
 use words::widths::{WIDEST, fits};
 
 pub fn both(a: bool, b: bool) -> bool
@@ -19,7 +20,7 @@ pub fn either(a: bool, b: bool) -> bool
 }
 
 // A type where a rule holds, and 7 where it does not.
-fn checked(at: usize, holds: bool, then: u64) -> Result<u64, Fault>
+fn checked(at: usize, holds: bool, then: u64) -> Typed
     requires { MostIf holds then }
     ensures { Tells result (checked_ty at holds (ty_of then)) }
 {
@@ -34,14 +35,14 @@ fn checked(at: usize, holds: bool, then: u64) -> Result<u64, Fault>
 }
 
 // A bool literal.
-pub fn bool_type(at: usize, n: u64) -> Result<u64, Fault>
+pub fn bool_type(at: usize, n: u64) -> Typed
     ensures { Tells result (bool_ty at n) }
 {
     checked(at, n < 2, 0)
 }
 
 // A bits literal.
-pub fn bits_type(at: usize, width: u64, n: u64) -> Result<u64, Fault>
+pub fn bits_type(at: usize, width: u64, n: u64) -> Typed
     requires { IsWidth width }
     ensures { Tells result (bits_ty at width n) }
 {
@@ -49,7 +50,7 @@ pub fn bits_type(at: usize, width: u64, n: u64) -> Result<u64, Fault>
 }
 
 // A slice of an operand.
-fn slice_type(at: usize, high: u64, low: u64, t: u64) -> Result<u64, Fault>
+fn slice_type(at: usize, high: u64, low: u64, t: u64) -> Typed
     requires { SliceMost high t }
     ensures { Tells result (slice_ty at high low (ty_of t)) }
 {
@@ -64,7 +65,7 @@ fn slice_type(at: usize, high: u64, low: u64, t: u64) -> Result<u64, Fault>
 }
 
 // An expression of one operand: not takes a bool; complement, cast and slice take bits.
-pub fn one_type(nums: &[u64], at: usize, t: u64) -> Result<u64, Fault>
+pub fn one_type(nums: &[u64], at: usize, t: u64) -> Typed
     requires { AsksOne nums.now at t }
     ensures { OneTyped nums.now at t result }
 {
@@ -78,7 +79,7 @@ pub fn one_type(nums: &[u64], at: usize, t: u64) -> Result<u64, Fault>
 }
 
 // An operator, by its number, of two operands.
-fn operator_type(at: usize, operator: u64, t: u64, u: u64) -> Result<u64, Fault>
+fn operator_type(at: usize, operator: u64, t: u64, u: u64) -> Typed
     requires { TwoMost t u }
     ensures { OperatorTyped at operator t u result }
 {
@@ -96,7 +97,7 @@ fn operator_type(at: usize, operator: u64, t: u64, u: u64) -> Result<u64, Fault>
 }
 
 // A concatenation of two operands.
-fn join_type(at: usize, t: u64, u: u64) -> Result<u64, Fault>
+fn join_type(at: usize, t: u64, u: u64) -> Typed
     requires { TwoMost t u }
     ensures { Tells result (join_ty at (ty_of t) (ty_of u)) }
 {
@@ -105,7 +106,7 @@ fn join_type(at: usize, t: u64, u: u64) -> Result<u64, Fault>
 }
 
 // An expression of two operands.
-pub fn two_type(nums: &[u64], at: usize, t: u64, u: u64) -> Result<u64, Fault>
+pub fn two_type(nums: &[u64], at: usize, t: u64, u: u64) -> Typed
     requires { AsksTwo nums.now at t u }
     ensures { TwoTyped nums.now at t u result }
 {

@@ -94,8 +94,8 @@ fn held(depth: usize, first: usize, count: usize) -> Operands
 {
     Operands {
         lower: depth - 1,
-        first: first,
-        count: count,
+        first,
+        count,
         calls: false,
         callable: 0,
     }
@@ -134,32 +134,32 @@ pub(crate) fn of_stmt(source: &Source, depth: usize, at: usize) -> StmtOperands
     let lower = depth - 1;
     match tag {
         ASSIGN => StmtOperands {
-            lower: lower,
+            lower,
             first: source.ends[at + 1] as usize,
             count: 1,
         },
         IF => StmtOperands {
-            lower: lower,
+            lower,
             first: at + 1,
             count: 1,
         },
         CALL_STMT => StmtOperands {
-            lower: lower,
+            lower,
             first: at + 3,
             count: source.nums[at + 2] as usize,
         },
         RETURN_VALUE => StmtOperands {
-            lower: lower,
+            lower,
             first: at + 1,
             count: 1,
         },
         VERIFY => StmtOperands {
-            lower: lower,
+            lower,
             first: at + 1,
             count: 1,
         },
         _ => StmtOperands {
-            lower: lower,
+            lower,
             first: at,
             count: 0,
         },
@@ -177,13 +177,13 @@ pub(crate) fn runs_of(source: &Source, depth: usize, at: usize) -> Runs
         IF => {
             let first = source.ends[at + 1] as usize;
             Runs::Branches {
-                lower: lower,
-                first: first,
+                lower,
+                first,
                 second: source.ends[first] as usize,
             }
         }
         BLOCK => Runs::Members {
-            lower: lower,
+            lower,
             first: at + 2,
             count: source.nums[at + 1] as usize,
         },

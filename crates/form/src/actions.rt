@@ -10,12 +10,13 @@ ghost use Rattle.program.specs.In.{In};
 use super::Formal;
 use bodies::types::both;
 use program::{ACTION, Source};
+use rules::{Fault, Reason};
 
 // The direction of a parameter that a table gives.
 const NO_DIRECTION: u64 = 0;
 
 // So many numbers each name a callable.
-pub fn actions_exist(source: &Source, at: usize, count: u64) -> Result<(), Fault>
+pub fn actions_exist(source: &Source, at: usize, count: u64) -> Formal
     requires { AsksExist source.now.nums.now at count }
     ensures { JudgesExist source.now.nums.now source.now.directory.now at count result }
 {
@@ -47,7 +48,7 @@ fn gives_all(nums: &[u64], at: usize, count: u64) -> bool
 }
 
 // So many numbers each name an action that a table may list.
-pub fn judge_listed(source: &Source, at: usize, count: u64) -> Result<(), Fault>
+pub fn judge_listed(source: &Source, at: usize, count: u64) -> Formal
     requires { In AsksListed source.now at count }
     ensures { In JudgesListed source.now at count result }
 {
@@ -81,7 +82,7 @@ fn fits_type(ty: u64, n: u64) -> bool
 }
 
 // So many literals each fit their parameter.
-pub fn literals_fit(nums: &[u64], parameter: usize, at: usize, count: u64) -> Result<(), Fault>
+pub fn literals_fit(nums: &[u64], parameter: usize, at: usize, count: u64) -> Formal
     requires { AsksLiterals nums.now parameter at count }
     ensures { JudgesLiterals nums.now parameter at count result }
 {

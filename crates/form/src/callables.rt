@@ -6,35 +6,35 @@ ghost use Rattle.form.specs.Parts.{JudgesPart, JudgesParts};
 ghost use Rattle.program.specs.In.{In};
 
 use super::{Formal, rule};
-use bodies::Formed;
 use bodies::stmts::judge_stmt;
 use bodies::types::either;
-use program::{ACTION, Source};
+use program::{ACTION, Scope, Source};
+use rules::Reason;
 use shape::limits::DEEPEST;
 
 // Callable number n, which sees those below it.
-fn judge_callable(source: &Source, n: usize) -> Result<(), Fault>
+fn judge_callable(source: &Source, n: usize) -> Formal
     requires { In (Has callables_of) source.now n }
     ensures { In (JudgesPart callables_of judge_callable) source.now n result }
 {
     let head = source.head_of(n);
     let frame = source.frame_of(n);
-    let scope = [
-        n as u64,
-        head.parameters as u64,
-        head.count,
-        frame.locals as u64,
-        frame.count,
-        head.kind,
-        head.returns,
-    ];
+    let scope = Scope {
+        reach: n as u64,
+        parameters: head.parameters,
+        parameter_count: head.count,
+        locals: frame.locals,
+        local_count: frame.count,
+        kind: head.kind,
+        returns: head.returns,
+    };
     let returns = judge_stmt(source, &scope, DEEPEST, frame.body)?;
     let at = source.directory[shape::CALLABLES + 1 + n] as usize;
-    rule(8, at, either(head.kind == ACTION, returns))
+    rule(Reason::Form, at, either(head.kind == ACTION, returns))
 }
 
 // The callables from number n on.
-pub fn judge_callables(source: &Source, n: usize) -> Result<(), Fault>
+pub fn judge_callables(source: &Source, n: usize) -> Formal
     requires { In SomeProgram source.now }
     ensures { In (JudgesParts callables_of judge_callables) source.now n result }
 {

@@ -6,24 +6,25 @@ ghost use Rattle.program.specs.In.{In};
 
 use super::{Formal, rule};
 use program::Source;
+use rules::Reason;
 use shape::limits::FIRST_HEADER_TYPE;
 
 // A global.
-fn judge_global(source: &Source, g: usize) -> Result<(), Fault>
+fn judge_global(source: &Source, g: usize) -> Formal
     requires { In (Has globals_of) source.now g }
     ensures { In (JudgesPart globals_of global_is) source.now g result }
 {
     let ty = source.global_of(g);
     let at = source.directory[shape::GLOBALS + 1 + g] as usize;
     rule(
-        6,
+        Reason::Unnamed,
         at,
         ty < FIRST_HEADER_TYPE + source.directory[shape::HEADERS],
     )
 }
 
 // The globals from a number on.
-pub fn judge_globals(source: &Source, g: usize) -> Result<(), Fault>
+pub fn judge_globals(source: &Source, g: usize) -> Formal
     requires { In SomeProgram source.now }
     ensures { In (JudgesParts globals_of globals_are) source.now g result }
 {

@@ -6,31 +6,19 @@ use super::Formal;
 use bodies::Typed;
 use bodies::exprs::judge_expr;
 use bodies::types::{both, either};
-use program::{LPM, Source, WIDTHS};
+use program::{LPM, Scope, Source, WIDTHS};
+use rules::{Fault, Reason};
 use shape::limits::DEEPEST;
 
-// The keys are all bits; or the first that is a bool; or, before that, the first fault and its index.
-#[derive(Clone, Copy)]
-pub enum Keyed {
-    AllBits,
-    Boolean(usize),
-    Unkeyed { number: u64, index: usize },
-}
+// Where the first key stands that is a bool, where the keys are not all bits; or the first fault.
+pub type Keyed = Result<Option<usize>, Fault>;
 
 // The type of a key's expression.
-fn key_type(source: &Source, at: usize) -> Result<u64, Fault>
+fn key_type(source: &Source, at: usize) -> Typed
     requires { In AsksKey source.now at }
     ensures { In JudgesKey source.now at result }
 {
-    let scope = [
-        source.directory[shape::CALLABLES],
-        0,
-        0,
-        0,
-        0,
-        program::APPLY,
-        0,
-    ];
+    let scope = Scope::without_frame(source.directory[shape::CALLABLES], program::APPLY);
     judge_expr(source, &scope, DEEPEST, at)
 }
 
@@ -38,23 +26,8 @@ fn key_type(source: &Source, at: usize) -> Result<u64, Fault>
 fn with_first(at: usize, t: u64, rest: Keyed) -> Keyed
     ensures { WithFirst at t rest result }
 {
-    match rest {
-        Keyed::AllBits => {
-            if t == 0 {
-                Keyed::Boolean(at)
-            } else {
-                Keyed::AllBits
-            }
-        }
-        Keyed::Boolean(index) => {
-            if t == 0 {
-                Keyed::Boolean(at)
-            } else {
-                Keyed::Boolean(index)
-            }
-        }
-        Keyed::Unkeyed { number, index } => Keyed::Unkeyed { number, index },
-    }
+    let boolean = rest?;
+    if t == 0 { Ok(Some(at)) } else { Ok(boolean) }
 }
 
 // So many keys. Their widths go into the slots from `slot` on.
@@ -69,23 +42,18 @@ pub fn judge_keys(
     ensures { In JudgesKeys source.now at count slot widths.old widths.new result }
 {
     if count == 0 {
-        Keyed::AllBits
+        Ok(None)
     } else {
-        let first = key_type(source, at + 1);
-        match first {
-            Ok(t) => {
-                widths[slot] = t;
-                let next = source.ends[at + 1] as usize;
-                let rest = judge_keys(source, next, count - 1, slot + 1, widths);
-                with_first(at + 1, t, rest)
-            }
-            Err(fault) => Keyed::Unkeyed { number, index },
-        }
+        let t = key_type(source, at + 1)?;
+        widths[slot] = t;
+        let next = source.ends[at + 1] as usize;
+        let rest = judge_keys(source, next, count - 1, slot + 1, widths);
+        with_first(at + 1, t, rest)
     }
 }
 
 // At most one of so many keys is lpm; `seen`: one stands before them.
-pub fn one_lpm(source: &Source, at: usize, count: u64, seen: bool) -> Result<(), Fault>
+pub fn one_lpm(source: &Source, at: usize, count: u64, seen: bool) -> Formal
     requires { AsksKinds source.now.nums.now source.now.ends.now at count }
     ensures { JudgesKinds source.now.nums.now source.now.ends.now at count seen result }
 {

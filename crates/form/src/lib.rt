@@ -2,6 +2,7 @@
 // globals, its callables, its tables, its states and its apply body. Each number is looked at a bounded number of times.
 #![tactic(auto)]
 
+ghost use Rattle.rules.specs.Answers.{number_of};
 ghost use Rattle.rules.specs.Form.{need};
 ghost use Rattle.program.specs.Stands.{SomeProgram};
 ghost use Rattle.form.specs.Claims.{JudgesForm};
@@ -15,25 +16,21 @@ mod keys;
 mod states;
 mod tables;
 
-use bodies::Formed;
 use bodies::stmts::judge_stmt;
 use callables::judge_callables;
 use globals::judge_globals;
-use program::{Source, WIDTHS};
+use program::{Scope, Source, WIDTHS};
+use rules::{Fault, Reason};
 use shape::limits::DEEPEST;
 use states::judge_states;
 use tables::judge_tables;
 
 // A program is well formed, or has a fault, 6, 7 or 8, at an index.
-#[derive(Clone, Copy)]
-pub enum Formal {
-    Well,
-    Ill { number: u64, index: usize },
-}
+pub type Formal = Result<(), Fault>;
 
 // Fine where a rule holds, and its refusal where it does not.
-fn rule(number: u64, at: usize, holds: bool) -> Result<(), Fault>
-    ensures { Says result (need number at holds) }
+fn rule(reason: Reason, at: usize, holds: bool) -> Formal
+    ensures { Says result (need (number_of reason) at holds) }
 {
     if holds {
         Ok(())
@@ -43,26 +40,18 @@ fn rule(number: u64, at: usize, holds: bool) -> Result<(), Fault>
 }
 
 // The apply body.
-fn judge_apply(source: &Source) -> Result<(), Fault>
+fn judge_apply(source: &Source) -> Formal
     requires { In SomeProgram source.now }
     ensures { In JudgesApply source.now result }
 {
-    let scope = [
-        source.directory[shape::CALLABLES],
-        0,
-        0,
-        0,
-        0,
-        program::APPLY,
-        0,
-    ];
+    let scope = Scope::without_frame(source.directory[shape::CALLABLES], program::APPLY);
     let body = source.directory[shape::BODY] as usize;
-    let _ = judge_stmt(source, &scope, DEEPEST, body)?;
+    judge_stmt(source, &scope, DEEPEST, body)?;
     Ok(())
 }
 
 // A program behind its tables: its states, then its apply body.
-fn judge_behind_tables(source: &Source) -> Result<(), Fault>
+fn judge_behind_tables(source: &Source) -> Formal
     requires { In SomeProgram source.now }
     ensures { In JudgesBehind source.now result }
 {
@@ -71,7 +60,7 @@ fn judge_behind_tables(source: &Source) -> Result<(), Fault>
 }
 
 // A program behind its callables: its tables, then what stands behind them.
-fn judge_rest(source: &Source, widths: &mut [u64; WIDTHS]) -> Result<(), Fault>
+fn judge_rest(source: &Source, widths: &mut [u64; WIDTHS]) -> Formal
     requires { In SomeProgram source.now }
     ensures { In LaysRest source.now widths.old widths.new result }
 {
@@ -84,7 +73,7 @@ fn judge_rest(source: &Source, widths: &mut [u64; WIDTHS]) -> Result<(), Fault>
 
 // The first fault of a program, if it has one. Where it has none, the widths of each table's keys go into its slots; a
 // fault leaves them as found.
-pub fn judge_form(source: &Source, widths: &mut [u64; WIDTHS]) -> Result<(), Fault>
+pub fn judge_form(source: &Source, widths: &mut [u64; WIDTHS]) -> Formal
     requires { In SomeProgram source.now }
     ensures { In JudgesForm source.now widths.old widths.new result }
 {

@@ -12,22 +12,22 @@ use super::{Formal, rule};
 use bodies::exprs::judge_expr;
 use bodies::stmts::judge_stmt;
 use bodies::types::both;
-use bodies::{Formed, Typed};
-use program::{STATE, Source};
+use program::{STATE, Scope, Source};
+use rules::{Fault, Reason};
 use shape::limits::DEEPEST;
 
 // The number at an index names a state behind state n.
-fn judge_later(source: &Source, n: usize, at: usize) -> Result<(), Fault>
+fn judge_later(source: &Source, n: usize, at: usize) -> Formal
     requires { at < length source.now.nums.now }
     ensures { JudgesLater source.now.nums.now source.now.directory.now n at result }
 {
     let state = source.nums[at];
     let later = both((n as u64) < state, state < source.directory[shape::STATES]);
-    rule(6, at, later)
+    rule(Reason::Unnamed, at, later)
 }
 
 // So many pairs each name a state behind state n.
-fn judge_pairs(source: &Source, n: usize, at: usize, count: u64) -> Result<(), Fault>
+fn judge_pairs(source: &Source, n: usize, at: usize, count: u64) -> Formal
     requires { AsksPairs source.now.nums.now at count }
     ensures { JudgesPairs source.now.nums.now source.now.directory.now n at count result }
 {
@@ -41,7 +41,7 @@ fn judge_pairs(source: &Source, n: usize, at: usize, count: u64) -> Result<(), F
 }
 
 // So many pairs each have a value that fits a width.
-fn values_fit(nums: &[u64], width: u64, at: usize, count: u64) -> Result<(), Fault>
+fn values_fit(nums: &[u64], width: u64, at: usize, count: u64) -> Formal
     requires { AsksValues nums.now width at count }
     ensures { JudgesValues nums.now width at count result }
 {
@@ -59,11 +59,11 @@ fn values_fit(nums: &[u64], width: u64, at: usize, count: u64) -> Result<(), Fau
 }
 
 // The select at an index behind its names: its expression is bits, and its values fit.
-fn judge_cases(source: &Source, at: usize) -> Result<(), Fault>
+fn judge_cases(source: &Source, at: usize) -> Formal
     requires { In AsksSelect source.now at }
     ensures { In JudgesCases source.now at result }
 {
-    let scope = [source.directory[shape::CALLABLES], 0, 0, 0, 0, STATE, 0];
+    let scope = Scope::without_frame(source.directory[shape::CALLABLES], STATE);
     let t = judge_expr(source, &scope, DEEPEST, at + 1)?;
     if t == 0 {
         Err(Fault {
@@ -77,7 +77,7 @@ fn judge_cases(source: &Source, at: usize) -> Result<(), Fault>
 }
 
 // The select at an index, of state n.
-fn judge_select(source: &Source, n: usize, at: usize) -> Result<(), Fault>
+fn judge_select(source: &Source, n: usize, at: usize) -> Formal
     requires { In AsksSelect source.now at }
     ensures { In JudgesSelect source.now n at result }
 {
@@ -87,7 +87,7 @@ fn judge_select(source: &Source, n: usize, at: usize) -> Result<(), Fault>
 }
 
 // The transition at an index, of state n.
-fn judge_transition(source: &Source, n: usize, at: usize) -> Result<(), Fault>
+fn judge_transition(source: &Source, n: usize, at: usize) -> Formal
     requires { In AsksTransition source.now at }
     ensures { In JudgesTransition source.now n at result }
 {
@@ -100,19 +100,19 @@ fn judge_transition(source: &Source, n: usize, at: usize) -> Result<(), Fault>
 }
 
 // State number n.
-fn judge_state(source: &Source, n: usize) -> Result<(), Fault>
+fn judge_state(source: &Source, n: usize) -> Formal
     requires { In (Has states_of) source.now n }
     ensures { In (JudgesPart states_of judge_state) source.now n result }
 {
     let at = source.state_of(n);
-    let scope = [source.directory[shape::CALLABLES], 0, 0, 0, 0, STATE, 0];
-    let _ = judge_stmt(source, &scope, DEEPEST, at)?;
+    let scope = Scope::without_frame(source.directory[shape::CALLABLES], STATE);
+    judge_stmt(source, &scope, DEEPEST, at)?;
     let transition = source.ends[at] as usize;
     judge_transition(source, n, transition)
 }
 
 // The states from number n on.
-pub fn judge_states(source: &Source, n: usize) -> Result<(), Fault>
+pub fn judge_states(source: &Source, n: usize) -> Formal
     requires { In SomeProgram source.now }
     ensures { In (JudgesParts states_of judge_states) source.now n result }
 {

@@ -5,23 +5,28 @@ ghost use Rattle.form.specs.Parts.{AsksNames, JudgesNames, AsksNamed, JudgesName
 ghost use Rattle.program.specs.In.{In};
 
 use super::actions::{actions_exist, judge_listed, literals_fit};
-use super::keys::{Keyed, judge_keys, one_lpm};
+use super::keys::{judge_keys, one_lpm};
 use super::{Formal, rule};
 use program::{MOST_KEYS, Parts, Source, WIDTHS};
+use rules::{Fault, Reason};
 
 // The listed actions, then the default's position among them.
-fn judge_names(source: &Source, parts: Parts) -> Result<(), Fault>
+fn judge_names(source: &Source, parts: Parts) -> Formal
     requires { AsksNames source.now.nums.now source.now.directory.now parts.at parts.actions parts.default }
     ensures { JudgesNames source.now.nums.now source.now.directory.now parts.at parts.actions parts.default result }
 {
     let actions = parts.actions;
     let default = parts.default;
     actions_exist(source, actions + 1, source.nums[actions])?;
-    rule(6, default, source.nums[default] < source.nums[actions])
+    rule(
+        Reason::Unnamed,
+        default,
+        source.nums[default] < source.nums[actions],
+    )
 }
 
 // The default has as many arguments as parameters, and they fit.
-fn judge_default(source: &Source, parts: Parts) -> Result<(), Fault>
+fn judge_default(source: &Source, parts: Parts) -> Formal
     requires { In AsksNamed source.now parts.at parts.actions parts.default }
     ensures { In (JudgesNamed default_is) source.now parts.at parts.actions parts.default result }
 {
@@ -39,7 +44,7 @@ fn judge_default(source: &Source, parts: Parts) -> Result<(), Fault>
 }
 
 // At most one key is lpm, then the listed actions are such that a table may list them.
-fn judge_kinds(source: &Source, parts: Parts) -> Result<(), Fault>
+fn judge_kinds(source: &Source, parts: Parts) -> Formal
     requires { In AsksNamed source.now parts.at parts.actions parts.default }
     ensures { In (JudgesNamed kinds_are) source.now parts.at parts.actions parts.default result }
 {
@@ -50,7 +55,7 @@ fn judge_kinds(source: &Source, parts: Parts) -> Result<(), Fault>
 }
 
 // A table behind its keys.
-fn judge_behind_keys(source: &Source, parts: Parts) -> Result<(), Fault>
+fn judge_behind_keys(source: &Source, parts: Parts) -> Formal
     requires { In AsksNamed source.now parts.at parts.actions parts.default }
     ensures { In (JudgesNamed behind_keys) source.now parts.at parts.actions parts.default result }
 {
@@ -59,26 +64,22 @@ fn judge_behind_keys(source: &Source, parts: Parts) -> Result<(), Fault>
 }
 
 // Table t behind its names. The widths of its keys go into its slots.
-fn judge_behind_names(
-    source: &Source,
-    parts: Parts,
-    t: usize,
-    widths: &mut [u64; WIDTHS],
-) -> Result<(), Fault>
+fn judge_behind_names(source: &Source, parts: Parts, t: usize, widths: &mut [u64; WIDTHS]) -> Formal
     requires { In AsksLays source.now parts.at parts.actions parts.default t }
     ensures { In LaysNamed source.now parts.at parts.actions parts.default t widths.old widths.new result }
 {
     let at = parts.at;
-    let keys = judge_keys(source, at + 1, source.nums[at], MOST_KEYS * t, widths);
-    match keys {
-        Keyed::AllBits => judge_behind_keys(source, parts),
-        Keyed::Boolean(index) => Formal::Ill { number: 7, index },
-        Keyed::Unkeyed { number, index } => Err(fault),
+    match judge_keys(source, at + 1, source.nums[at], MOST_KEYS * t, widths)? {
+        None => judge_behind_keys(source, parts),
+        Some(index) => Err(Fault {
+            reason: Reason::Type,
+            index,
+        }),
     }
 }
 
 // Table t.
-fn judge_table(source: &Source, t: usize, widths: &mut [u64; WIDTHS]) -> Result<(), Fault>
+fn judge_table(source: &Source, t: usize, widths: &mut [u64; WIDTHS]) -> Formal
     requires { In (Has tables_of) source.now t }
     ensures { In LaysTable source.now t widths.old widths.new result }
 {
@@ -88,7 +89,7 @@ fn judge_table(source: &Source, t: usize, widths: &mut [u64; WIDTHS]) -> Result<
 }
 
 // The tables from number t on.
-pub fn judge_tables(source: &Source, t: usize, widths: &mut [u64; WIDTHS]) -> Result<(), Fault>
+pub fn judge_tables(source: &Source, t: usize, widths: &mut [u64; WIDTHS]) -> Formal
     requires { In SomeProgram source.now }
     ensures { In LaysTables source.now t widths.old widths.new result }
 {

@@ -8,24 +8,16 @@ ghost use Rattle.judge.specs.Verdicts.{AsksJudge, JudgesNumbers};
 ghost use Rattle.judge.specs.Passes.{AsksBounded, JudgesBounded, AsksProgram, JudgesProgram};
 ghost use Rattle.program.specs.In.{In};
 
-use form::Formal;
-use lists::Listed;
+use lists::Lists;
 use program::Source;
-use shape::Scan;
+use rules::{Fault, Reason};
 
-// Accepted: the ceiling, where the store begins, and how many numbers it has. Refused: the number of the refusal, and
-// the index of the number at fault, which is the count of numbers where one is missing.
+// What is accepted: the ceiling, where the store begins, and how many numbers it has.
 #[derive(Clone, Copy)]
-pub enum Verdict {
-    Accepted {
-        ceiling: u64,
-        store: usize,
-        length: usize,
-    },
-    Refused {
-        number: u64,
-        index: usize,
-    },
+pub struct Verdict {
+    pub ceiling: u64,
+    pub store: usize,
+    pub length: usize,
 }
 
 // The ceiling, then entries, store and packet, of a program whose form is fine.
@@ -56,16 +48,23 @@ fn judge_bounded(
 
 // Form, then what follows it.
 fn judge_program(
-    source: &Source,
+    nums: &[u64],
+    ends: &[u64],
+    directory: &[u64; shape::SLOTS],
     widths: &mut [u64; program::WIDTHS],
     entries: &mut [u64; lists::ENTRIES],
     offsets: &mut [u64; lists::OFFSETS],
 ) -> Result<Verdict, Fault>
-    requires { In AsksProgram source.now widths.old }
-    ensures { In JudgesProgram source.now widths.old widths.new entries.old entries.new offsets.old offsets.new result }
+    requires { AsksProgram nums.now directory.now ends.now widths.old }
+    ensures { JudgesProgram nums.now directory.now ends.now widths.old widths.new entries.old entries.new offsets.old offsets.new result }
 {
-    form::judge_form(source, widths)?;
-    judge_bounded(source, widths, entries, offsets)
+    let source = Source {
+        nums,
+        ends,
+        directory,
+    };
+    form::judge_form(&source, widths)?;
+    judge_bounded(&source, widths, entries, offsets)
 }
 
 // The verdict on a list of numbers. It leaves the directory and the ends of the program (crate shape), the widths of its
@@ -81,6 +80,6 @@ pub fn judge(
     requires { AsksJudge nums.now directory.old ends.old widths.old }
     ensures { JudgesNumbers nums.now directory.old directory.new ends.old ends.new widths.old widths.new entries.old entries.new offsets.old offsets.new result }
 {
-    let _ = shape::scan_program(nums, directory, ends)?;
+    shape::scan_program(nums, directory, ends)?;
     judge_program(nums, ends, directory, widths, entries, offsets)
 }

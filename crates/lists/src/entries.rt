@@ -5,51 +5,52 @@ ghost use Rattle.rules.specs.Lists.{most_entries};
 ghost use Rattle.lists.specs.Listing.{AsksLists};
 ghost use Rattle.lists.specs.Parts.{AsksArguments, JudgesArguments, AsksCalled, JudgesCalled, AsksAction, JudgesAction, AsksTable, JudgesOfTable, JudgesEntry, JudgesEntries, JudgesEntryList};
 ghost use Rattle.program.specs.In.{In};
+ghost use Rattle.shape.specs.Scans.{told};
 
 use super::patterns::patterns_at;
 use super::values::typed_at;
 use program::{MOST_KEYS, Source, WIDTHS};
-use shape::Scan;
+use rules::{Fault, Reason};
+use shape::Scanned;
 
 // The refusal of a bad or missing number of the entries.
-pub const ENTRY: u64 = 10;
 // The most entries.
 const MOST_ENTRIES: u64 = 64;
 
 // The arguments for so many parameters, the first of which stands at `parameter`.
-fn arguments_at(nums: &[u64], parameter: usize, count: u64, at: usize) -> Scan
+fn arguments_at(nums: &[u64], parameter: usize, count: u64, at: usize) -> Scanned
     requires { AsksArguments nums.now parameter count }
-    ensures { JudgesArguments nums.now parameter count at result }
+    ensures { JudgesArguments nums.now parameter count at (told result) }
 {
     if count == 0 {
         Ok(at)
     } else {
-        let next = typed_at(nums, ENTRY, nums[parameter + 1], at)?;
+        let next = typed_at(nums, Reason::Entries, nums[parameter + 1], at)?;
         let last = arguments_at(nums, parameter + 2, count - 1, next)?;
         Ok(last)
     }
 }
 
 // The arguments of the callable with a number, behind the position at `at`, which is at fault where there is none.
-fn called_at(source: &Source, f: u64, at: usize) -> Scan
+fn called_at(source: &Source, f: u64, at: usize) -> Scanned
     requires { In AsksCalled source.now at }
-    ensures { In JudgesCalled source.now f at result }
+    ensures { In JudgesCalled source.now f at (told result) }
 {
     if f < source.directory[shape::CALLABLES] {
         let head = source.head_of(f as usize);
         arguments_at(source.nums, head.parameters, head.count, at + 1)
     } else {
         Err(Fault {
-            reason: ENTRY,
+            reason: Reason::Entries,
             index: at,
         })
     }
 }
 
 // An action's position in the list whose count stands at `actions`, and its arguments.
-fn action_at(source: &Source, actions: usize, at: usize) -> Scan
+fn action_at(source: &Source, actions: usize, at: usize) -> Scanned
     requires { In AsksAction source.now actions }
-    ensures { In JudgesAction source.now actions at result }
+    ensures { In JudgesAction source.now actions at (told result) }
 {
     if at < source.nums.len() {
         let position = source.nums[at];
@@ -57,22 +58,22 @@ fn action_at(source: &Source, actions: usize, at: usize) -> Scan
             called_at(source, source.nums[actions + 1 + position as usize], at)
         } else {
             Err(Fault {
-                reason: ENTRY,
+                reason: Reason::Entries,
                 index: at,
             })
         }
     } else {
         Err(Fault {
-            reason: ENTRY,
+            reason: Reason::Entries,
             index: at,
         })
     }
 }
 
 // An entry of a table, behind the table's number.
-fn of_table_at(source: &Source, widths: &[u64; WIDTHS], t: usize, at: usize) -> Scan
+fn of_table_at(source: &Source, widths: &[u64; WIDTHS], t: usize, at: usize) -> Scanned
     requires { In AsksTable source.now widths.now t }
-    ensures { In JudgesOfTable source.now widths.now t at result }
+    ensures { In JudgesOfTable source.now widths.now t at (told result) }
 {
     let parts = source.table_of(t);
     let table = parts.at;
@@ -88,9 +89,9 @@ fn of_table_at(source: &Source, widths: &[u64; WIDTHS], t: usize, at: usize) -> 
 }
 
 // An entry.
-fn entry_at(source: &Source, widths: &[u64; WIDTHS], at: usize) -> Scan
+fn entry_at(source: &Source, widths: &[u64; WIDTHS], at: usize) -> Scanned
     requires { In AsksLists source.now widths.now }
-    ensures { In JudgesEntry source.now widths.now at result }
+    ensures { In JudgesEntry source.now widths.now at (told result) }
 {
     if at < source.nums.len() {
         let t = source.nums[at];
@@ -98,13 +99,13 @@ fn entry_at(source: &Source, widths: &[u64; WIDTHS], at: usize) -> Scan
             of_table_at(source, widths, t as usize, at + 1)
         } else {
             Err(Fault {
-                reason: ENTRY,
+                reason: Reason::Entries,
                 index: at,
             })
         }
     } else {
         Err(Fault {
-            reason: ENTRY,
+            reason: Reason::Entries,
             index: at,
         })
     }
@@ -118,10 +119,10 @@ fn entries_at(
     at: usize,
     slot: usize,
     entries: &mut [u64; super::ENTRIES],
-) -> Scan
+) -> Scanned
     requires asks_lists { In AsksLists source.now widths.now }
     requires count_bound { slot + count ≤ suc most_entries }
-    ensures { In JudgesEntries source.now widths.now count at slot entries.old entries.new result }
+    ensures { In JudgesEntries source.now widths.now count at slot entries.old entries.new (told result) }
 {
     if count == 0 {
         Ok(at)
@@ -139,9 +140,9 @@ pub fn entry_list_at(
     widths: &[u64; WIDTHS],
     at: usize,
     entries: &mut [u64; super::ENTRIES],
-) -> Scan
+) -> Scanned
     requires { In AsksLists source.now widths.now }
-    ensures { In JudgesEntryList source.now widths.now at entries.old entries.new result }
+    ensures { In JudgesEntryList source.now widths.now at entries.old entries.new (told result) }
 {
     if at < source.nums.len() {
         let count = source.nums[at];
@@ -150,13 +151,13 @@ pub fn entry_list_at(
             entries_at(source, widths, count, at + 1, 1, entries)
         } else {
             Err(Fault {
-                reason: ENTRY,
+                reason: Reason::Entries,
                 index: at,
             })
         }
     } else {
         Err(Fault {
-            reason: ENTRY,
+            reason: Reason::Entries,
             index: at,
         })
     }

@@ -15,7 +15,7 @@ mod values;
 use entries::entry_list_at;
 use packet::last_at;
 use program::{Source, WIDTHS};
-use shape::Scan;
+use rules::Fault;
 use store::cells_at;
 
 // How many slots the entries have: their count, and one for each entry that a file may have.
@@ -23,12 +23,11 @@ pub const ENTRIES: usize = 65;
 // How many slots the offsets have: one for each global that a program may have, and one for the store's length.
 pub const OFFSETS: usize = 33;
 
-// Where the store begins and how many numbers it has; or the fault, 10, 11, 16 or 12, and the index of the number at
-// fault, which is the count of numbers where they run out.
+// Where the store begins and how many numbers it has.
 #[derive(Clone, Copy)]
-pub enum Listed {
-    Fine { store: usize, length: usize },
-    Fault { number: u64, index: usize },
+pub struct Lists {
+    pub store: usize,
+    pub length: usize,
 }
 
 // The entries, the store and the packet behind the program, whose keys' widths are given. The count of entries and where
@@ -49,11 +48,11 @@ pub fn judge_lists(
     let mut slots = *offsets;
     let globals = source.directory[shape::GLOBALS];
     let next = cells_at(source, 0, globals, store, store, &mut slots)?;
-    let _ = last_at(source.nums, next)?;
+    last_at(source.nums, next)?;
     *entries = starts;
     *offsets = slots;
     Ok(Lists {
-        store: store,
+        store,
         length: next - store,
     })
 }

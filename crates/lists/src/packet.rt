@@ -2,30 +2,29 @@
 ghost use Rattle.std.specs.Prelude.{◌≡◌, ◌<◌, length};
 ghost use Rattle.rules.specs.Reading.{repeat};
 ghost use Rattle.rules.specs.Lists.{passing, is_byte, read_bytes};
-ghost use Rattle.shape.specs.Scans.{scan_of};
+ghost use Rattle.shape.specs.Scans.{told, scan_of};
 ghost use Rattle.lists.specs.Parts.{JudgesPacket, JudgesLast};
 
 use super::values::value_at;
-use shape::Scan;
+use rules::{Fault, Reason};
+use shape::Scanned;
 use shape::limits::has_parser;
 
 // The refusal of a bad or missing number of the packet.
-const PACKET: u64 = 16;
 // The refusal of numbers left over.
-const LEFT_OVER: u64 = 12;
 // The most bytes of a packet.
 const MOST_PACKET: u64 = 512;
 // A byte is a number of eight bits.
 const BYTE: u64 = 8;
 
 // So many bytes, one after the other.
-fn bytes_at(nums: &[u64], count: u64, at: usize) -> Scan
-    ensures { result ≡ scan_of (repeat count (passing 16 is_byte)) nums.now at }
+fn bytes_at(nums: &[u64], count: u64, at: usize) -> Scanned
+    ensures { told result ≡ scan_of (repeat count (passing 16 is_byte)) nums.now at }
 {
     let mut next = at;
     let mut left = count;
     while left != 0 {
-        let end = value_at(nums, PACKET, BYTE, next)?;
+        let end = value_at(nums, Reason::Packet, BYTE, next)?;
         next = end;
         left -= 1;
     }
@@ -33,8 +32,8 @@ fn bytes_at(nums: &[u64], count: u64, at: usize) -> Scan
 }
 
 // A list of bytes, its count first.
-fn byte_list_at(nums: &[u64], at: usize) -> Scan
-    ensures { result ≡ scan_of read_bytes nums.now at }
+fn byte_list_at(nums: &[u64], at: usize) -> Scanned
+    ensures { told result ≡ scan_of read_bytes nums.now at }
 {
     if at < nums.len() {
         let count = nums[at];
@@ -42,22 +41,22 @@ fn byte_list_at(nums: &[u64], at: usize) -> Scan
             bytes_at(nums, count, at + 1)
         } else {
             Err(Fault {
-                reason: PACKET,
+                reason: Reason::Packet,
                 index: at,
             })
         }
     } else {
         Err(Fault {
-            reason: PACKET,
+            reason: Reason::Packet,
             index: at,
         })
     }
 }
 
 // The packet, where the version has one.
-fn packet_at(nums: &[u64], at: usize) -> Scan
+fn packet_at(nums: &[u64], at: usize) -> Scanned
     requires { 0 < length nums.now }
-    ensures { JudgesPacket nums.now at result }
+    ensures { JudgesPacket nums.now at (told result) }
 {
     if has_parser(nums[0]) {
         byte_list_at(nums, at)
@@ -67,14 +66,14 @@ fn packet_at(nums: &[u64], at: usize) -> Scan
 }
 
 // What stands behind the store: the packet, and nothing more.
-pub fn last_at(nums: &[u64], at: usize) -> Scan
+pub fn last_at(nums: &[u64], at: usize) -> Scanned
     requires { 0 < length nums.now }
-    ensures { JudgesLast nums.now at result }
+    ensures { JudgesLast nums.now at (told result) }
 {
     let next = packet_at(nums, at)?;
     if next < nums.len() {
         Err(Fault {
-            reason: LEFT_OVER,
+            reason: Reason::LeftOver,
             index: next,
         })
     } else {

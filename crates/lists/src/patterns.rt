@@ -3,62 +3,62 @@
 ghost use Rattle.std.specs.Prelude.{◌≡◌, ◌≤◌};
 ghost use Rattle.rules.specs.Words.{widest, prefix_fits, mask_fits};
 ghost use Rattle.rules.specs.Lists.{passing};
-ghost use Rattle.shape.specs.Scans.{scan_of};
+ghost use Rattle.shape.specs.Scans.{told, scan_of};
 ghost use Rattle.lists.specs.Parts.{JudgesLimit, JudgesPattern, AsksPatterns, JudgesPatterns};
 
-use super::entries::ENTRY;
 use super::values::value_at;
 use program::{EXACT, LPM, Source, WIDTHS};
-use shape::Scan;
+use rules::{Fault, Reason};
+use shape::Scanned;
 
 // A prefix length within the width, outside which the value is 0.
-fn prefix_at(nums: &[u64], width: u64, value: u64, at: usize) -> Scan
+fn prefix_at(nums: &[u64], width: u64, value: u64, at: usize) -> Scanned
     requires { width ≤ widest }
-    ensures { result ≡ scan_of (passing 10 (prefix_fits width value)) nums.now at }
+    ensures { told result ≡ scan_of (passing 10 (prefix_fits width value)) nums.now at }
 {
     if at < nums.len() {
         if words::keys::prefix_fits(width, value, nums[at]) {
             Ok(at + 1)
         } else {
             Err(Fault {
-                reason: ENTRY,
+                reason: Reason::Entries,
                 index: at,
             })
         }
     } else {
         Err(Fault {
-            reason: ENTRY,
+            reason: Reason::Entries,
             index: at,
         })
     }
 }
 
 // A mask that fits the width, outside which the value is 0.
-fn mask_at(nums: &[u64], width: u64, value: u64, at: usize) -> Scan
+fn mask_at(nums: &[u64], width: u64, value: u64, at: usize) -> Scanned
     requires { width ≤ widest }
-    ensures { result ≡ scan_of (passing 10 (mask_fits width value)) nums.now at }
+    ensures { told result ≡ scan_of (passing 10 (mask_fits width value)) nums.now at }
 {
     if at < nums.len() {
         if words::keys::mask_fits(width, value, nums[at]) {
             Ok(at + 1)
         } else {
             Err(Fault {
-                reason: ENTRY,
+                reason: Reason::Entries,
                 index: at,
             })
         }
     } else {
         Err(Fault {
-            reason: ENTRY,
+            reason: Reason::Entries,
             index: at,
         })
     }
 }
 
 // What stands behind the value of a key of a kind: one that is neither exact nor lpm is ternary.
-fn limit_at(nums: &[u64], kind: u64, width: u64, value: u64, at: usize) -> Scan
+fn limit_at(nums: &[u64], kind: u64, width: u64, value: u64, at: usize) -> Scanned
     requires { width ≤ widest }
-    ensures { JudgesLimit nums.now kind width value at result }
+    ensures { JudgesLimit nums.now kind width value at (told result) }
 {
     if kind == EXACT {
         Ok(at)
@@ -70,11 +70,11 @@ fn limit_at(nums: &[u64], kind: u64, width: u64, value: u64, at: usize) -> Scan
 }
 
 // What an entry asks of a key of a kind and a width.
-fn pattern_at(nums: &[u64], kind: u64, width: u64, at: usize) -> Scan
+fn pattern_at(nums: &[u64], kind: u64, width: u64, at: usize) -> Scanned
     requires { width ≤ widest }
-    ensures { JudgesPattern nums.now kind width at result }
+    ensures { JudgesPattern nums.now kind width at (told result) }
 {
-    let next = value_at(nums, ENTRY, width, at)?;
+    let next = value_at(nums, Reason::Entries, width, at)?;
     limit_at(nums, kind, width, nums[at], next)
 }
 
@@ -86,9 +86,9 @@ pub fn patterns_at(
     count: u64,
     slot: usize,
     at: usize,
-) -> Scan
+) -> Scanned
     requires { AsksPatterns source.now.nums.now source.now.ends.now widths.now key count slot }
-    ensures { JudgesPatterns source.now.nums.now source.now.ends.now widths.now key count slot at result }
+    ensures { JudgesPatterns source.now.nums.now source.now.ends.now widths.now key count slot at (told result) }
 {
     if count == 0 {
         Ok(at)

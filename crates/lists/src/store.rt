@@ -3,15 +3,16 @@ ghost use Rattle.std.specs.Prelude.{◌≡◌};
 ghost use Rattle.program.specs.Looks.{Has, globals_of};
 ghost use Rattle.lists.specs.Parts.{AsksProgram, width_under, AsksFields, JudgesFields, JudgesHeader, JudgesCell, AsksCells, JudgesCells};
 ghost use Rattle.program.specs.In.{In};
+ghost use Rattle.shape.specs.Scans.{told};
 
 use super::values::{BOOL, typed_at, value_at};
 use program::Source;
-use shape::Scan;
+use rules::{Fault, Reason};
+use shape::Scanned;
 use shape::limits::FIRST_HEADER_TYPE;
 use words::widths::WIDEST;
 
 // The refusal of a bad or missing number of the store.
-const STORE: u64 = 11;
 
 // The width that a field of a header may fill: 0 is all that fits no bits.
 fn width_under(mark: u64, width: u64) -> u64
@@ -21,45 +22,45 @@ fn width_under(mark: u64, width: u64) -> u64
 }
 
 // So many fields of a header with a valid mark; the first one's width stands at `width`.
-fn fields_at(nums: &[u64], width: usize, mark: u64, count: u64, at: usize) -> Scan
+fn fields_at(nums: &[u64], width: usize, mark: u64, count: u64, at: usize) -> Scanned
     requires { AsksFields nums.now width count }
-    ensures { JudgesFields nums.now width mark count at result }
+    ensures { JudgesFields nums.now width mark count at (told result) }
 {
     if count == 0 {
         Ok(at)
     } else {
-        let next = value_at(nums, STORE, width_under(mark, nums[width]), at)?;
+        let next = value_at(nums, Reason::Store, width_under(mark, nums[width]), at)?;
         let last = fields_at(nums, width + 1, mark, count - 1, next)?;
         Ok(last)
     }
 }
 
 // A header of a type: its valid mark and its fields.
-fn header_at(source: &Source, h: u64, at: usize) -> Scan
+fn header_at(source: &Source, h: u64, at: usize) -> Scanned
     requires { In AsksProgram source.now }
-    ensures { In JudgesHeader source.now h at result }
+    ensures { In JudgesHeader source.now h at (told result) }
 {
     if h < source.directory[shape::HEADERS] {
         let header = source.header_of(h as usize);
         let count = source.nums[header];
-        let next = value_at(source.nums, STORE, BOOL, at)?;
+        let next = value_at(source.nums, Reason::Store, BOOL, at)?;
         fields_at(source.nums, header + 1, source.nums[at], count, next)
     } else {
         Err(Fault {
-            reason: STORE,
+            reason: Reason::Store,
             index: at,
         })
     }
 }
 
 // A global.
-fn cell_at(source: &Source, g: usize, at: usize) -> Scan
+fn cell_at(source: &Source, g: usize, at: usize) -> Scanned
     requires { In (Has globals_of) source.now g }
-    ensures { In JudgesCell source.now g at result }
+    ensures { In JudgesCell source.now g at (told result) }
 {
     let ty = source.global_of(g);
     if ty <= WIDEST {
-        typed_at(source.nums, STORE, ty, at)
+        typed_at(source.nums, Reason::Store, ty, at)
     } else {
         header_at(source, ty - FIRST_HEADER_TYPE, at)
     }
@@ -73,9 +74,9 @@ pub fn cells_at(
     store: usize,
     at: usize,
     offsets: &mut [u64; super::OFFSETS],
-) -> Scan
+) -> Scanned
     requires { In AsksCells source.now g count store at }
-    ensures { In JudgesCells source.now g count store at offsets.old offsets.new result }
+    ensures { In JudgesCells source.now g count store at offsets.old offsets.new (told result) }
 {
     offsets[g] = (at - store) as u64;
     if count == 0 {

@@ -41,7 +41,7 @@ fn match_one(
             matches: words::keys::prefix_matches(source.directory[slot], prefix, value, key),
             next: at + 2,
             lpm: true,
-            prefix: prefix,
+            prefix,
         }
     } else {
         One {

@@ -181,7 +181,7 @@ impl Source<'_> {
         let actions = self.behind_keys(at + 1, self.nums[at]);
         Parts {
             at,
-            actions: actions,
+            actions,
             default: actions + 1 + self.nums[actions] as usize,
         }
     }

@@ -7,7 +7,7 @@ ghost use Rattle.runner.specs.Prepares.{AsksLay, Lays, AsksPrepare, Prepares};
 ghost use Rattle.runner.specs.Whole.{AsksRun, RunsWhole, TellsSignal};
 ghost use Rattle.program.specs.In.{In};
 
-use program::Source;
+use program::{Scope, Source};
 use rules::Signal;
 use shape::limits::DEEPEST;
 use steps::Ended;
@@ -71,15 +71,7 @@ pub fn run(
     slots[COUNTER] = 0;
     let parsed = parser::run_parser(source, store, size, slots, frame);
     if parser::goes_on(parsed) {
-        let scope = [
-            source.directory[shape::CALLABLES],
-            0,
-            0,
-            0,
-            0,
-            program::APPLY,
-            0,
-        ];
+        let scope = Scope::without_frame(source.directory[shape::CALLABLES], program::APPLY);
         let body = source.directory[shape::BODY] as usize;
         let ended = running::run_stmt(source, &scope, DEEPEST, body, slots, frame);
         signal_of(ended)

@@ -52,15 +52,7 @@ pub(crate) fn run_parser(
         Ended::Onward
     } else {
         slots[POSITION] = (store + size + 1) as u64;
-        let scope = [
-            source.directory[shape::CALLABLES],
-            0,
-            0,
-            0,
-            0,
-            program::STATE,
-            0,
-        ];
+        let scope = Scope::without_frame(source.directory[shape::CALLABLES], program::STATE);
         run_state(source, &scope, 0, slots, frame)
     }
 }

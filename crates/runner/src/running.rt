@@ -237,15 +237,15 @@ fn run_body(source: &Source, f: usize, slots: &mut [u64; STORE], frame: &mut [u6
     let body = source.frame_of(f);
     let count = head.count as usize;
     let locals = body.count as usize;
-    let scope = [
-        f as u64,
-        head.parameters as u64,
-        head.count,
-        body.locals as u64,
-        body.count,
-        head.kind,
-        head.returns,
-    ];
+    let scope = Scope {
+        reach: f as u64,
+        parameters: head.parameters,
+        parameter_count: head.count,
+        locals: body.locals,
+        local_count: body.count,
+        kind: head.kind,
+        returns: head.returns,
+    };
     clear(count, count + locals, frame);
     run_stmt(source, &scope, DEEPEST, body.body, slots, frame)
 }

@@ -61,7 +61,7 @@ fn arguments_lead(nums: &[u64], at: usize) -> Result<Lead, Fault>
 {
     let Number { value, next } = value_in(nums, 0, MOST_ARGUMENTS, at)?;
     Ok(Lead {
-        next: next,
+        next,
         operands: value as usize,
         statements: 0,
     })

@@ -93,7 +93,7 @@ fn target_lead(
     let next = target_at(nums, version, depth, at)?;
     ends[at] = next as u64;
     Ok(Lead {
-        next: next,
+        next,
         operands: 1,
         statements: 0,
     })
@@ -105,7 +105,7 @@ fn block_lead(nums: &[u64], at: usize) -> Result<Lead, Fault>
 {
     let Number { value, next } = value_in(nums, 0, MOST_MEMBERS, at)?;
     Ok(Lead {
-        next: next,
+        next,
         operands: 0,
         statements: value as usize,
     })

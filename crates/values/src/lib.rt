@@ -49,8 +49,8 @@ fn typed(ty: u64, number: u64) -> Value
     ensures { Made ty number result.ty result.number }
 {
     Value {
-        ty: ty,
-        number: number,
+        ty,
+        number,
     }
 }
 
