@@ -360,59 +360,49 @@ module _ (version depth : ℕ) (nums : List ℕ) (at : ℕ) (found : List ℕ) w
   unfolding read_expr
   expr-deep r e q = rw e (lays-deep lay_expr nums at found found r q)
 
-  expr-tree-on : (lead : Lead) (next operands statements : ℕ) → (depth ≡ 0 → ⊥) → LeadsExpr version nums at lead
-      → lead ≡ On next operands statements
-      → Agree (Made (first_at expr_at) lay_expr lay_exprs at next found found) (read_expr version depth (drop at nums) at)
-      (repeat operands (read_expr version (depth - 1)) (drop next nums) next)
-  unfolding AgreeOn read_operands next_of
-  expr-tree-on lead next operands statements x l p = rw (one_less depth x, p) at (l.tree (depth - 1) found)
+  module _ (x : depth ≡ 0 → ⊥) where
+    pub expr-off : (f i : ℕ) → LeadsExpr version nums at (Off f i)
+        → Lays (read_expr version depth) lay_expr nums at found found (Fault f i)
+    unfolding on_lead
+    expr-off f i l =
+        lays-none (read_expr version depth) lay_expr nums at f i found found
+        (sym (rw (one_less depth x) at (l.expr (depth - 1))))
 
-  expr-scan-on : (lead : Lead) (next operands statements : ℕ) (r : Scan) → (depth ≡ 0 → ⊥)
-      → LeadsExpr version nums at lead
-      → lead ≡ On next operands statements → r ≡ scan_of (repeat operands (read_expr version (depth - 1))) nums next
-      → r ≡ scan_of (read_expr version depth) nums at
-  unfolding on_lead
-  expr-scan-on lead next operands statements r x l p q = q ∙ sym (rw (one_less depth x, p) at (l.expr (depth - 1)))
+    module _ (next operands statements : ℕ) (l : LeadsExpr version nums at (On next operands statements)) where
+      expr-tree-on : Agree (Made (first_at expr_at) lay_expr lay_exprs at next found found)
+          (read_expr version depth (drop at nums) at)
+          (repeat operands (read_expr version (depth - 1)) (drop next nums) next)
+      unfolding AgreeOn read_operands next_of
+      expr-tree-on = rw (one_less depth x) at (l.tree (depth - 1) found)
 
-  pub expr-on : (lead : Lead) (next operands statements end : ℕ) (mid : List ℕ) (a : Scan) → (depth ≡ 0 → ⊥)
-      → LeadsExpr version nums at lead
-      → lead ≡ On next operands statements
-      → Lays (repeat operands (read_expr version (depth - 1))) lay_exprs nums next found mid a → a ≡ Past end
-      → Lays (read_expr version depth) lay_expr nums at found (set mid at end) (Past end)
-  expr-on lead next operands statements end mid a x l p w q =
-      construct (keeps-repeat operands (keeps-expr version (depth - 1)))
-      (begins-repeat operands (starts-expr version (depth - 1)))
-      (expr-tree-on lead next operands statements x l p)
-      (sym q ∙ expr-scan-on lead next operands statements a x l p w.scan) w q
+      expr-scan-on : (r : Scan) → r ≡ scan_of (repeat operands (read_expr version (depth - 1))) nums next
+          → r ≡ scan_of (read_expr version depth) nums at
+      unfolding on_lead
+      expr-scan-on r q = q ∙ sym (rw (one_less depth x) at (l.expr (depth - 1)))
 
-  pub expr-inside : (lead : Lead) (next operands statements f i : ℕ) (mid : List ℕ) (a : Scan) → (depth ≡ 0 → ⊥)
-      → LeadsExpr version nums at lead
-      → lead ≡ On next operands statements
-      → Lays (repeat operands (read_expr version (depth - 1))) lay_exprs nums next found mid a → a ≡ Fault f i
-      → Lays (read_expr version depth) lay_expr nums at found mid (Fault f i)
-  expr-inside lead next operands statements f i mid a x l p w q =
-      lays-none (read_expr version depth) lay_expr nums at f i found mid
-      (sym q ∙ expr-scan-on lead next operands statements a x l p w.scan)
+      module _ (mid : List ℕ) (a : Scan)
+          (w : Lays (repeat operands (read_expr version (depth - 1))) lay_exprs nums next found mid a) where
+        pub expr-on : (end : ℕ) → a ≡ Past end
+            → Lays (read_expr version depth) lay_expr nums at found (set mid at end) (Past end)
+        expr-on end q =
+            construct (keeps-repeat operands (keeps-expr version (depth - 1)))
+            (begins-repeat operands (starts-expr version (depth - 1))) expr-tree-on
+            (sym q ∙ expr-scan-on a w.scan) w q
 
-  pub expr-off : (lead : Lead) (f i : ℕ) → (depth ≡ 0 → ⊥) → LeadsExpr version nums at lead → lead ≡ Off f i
-      → Lays (read_expr version depth) lay_expr nums at found found (Fault f i)
-  unfolding on_lead
-  expr-off lead f i x l p =
-      lays-none (read_expr version depth) lay_expr nums at f i found found
-      (sym (rw (one_less depth x, p) at (l.expr (depth - 1))))
+        pub expr-inside : (f i : ℕ) → a ≡ Fault f i
+            → Lays (read_expr version depth) lay_expr nums at found mid (Fault f i)
+        expr-inside f i q =
+            lays-none (read_expr version depth) lay_expr nums at f i found mid (sym q ∙ expr-scan-on a w.scan)
 
 -- a tag has a slot
-pub slot-in : (version : ℕ) (nums : List ℕ) (at next operands statements : ℕ) (lead : Lead)
-    → length nums ≤ most_numbers → LeadsExpr version nums at lead
-    → lead ≡ On next operands statements → at < most_numbers
-unfolding Tagged
-slot-in version nums at next operands statements lead h l p = omega (arith, rw p at l.tag)
+module _ (version : ℕ) (nums : List ℕ) (at next operands statements : ℕ) (h : length nums ≤ most_numbers)
+    (l : LeadsExpr version nums at (On next operands statements)) where
+  pub slot-in : at < most_numbers
+  unfolding Tagged
+  slot-in = omega (arith, l.tag)
 
-pub slot-fits : (version : ℕ) (nums : List ℕ) (at next operands statements : ℕ) (lead : Lead)
-    → length nums ≤ most_numbers → LeadsExpr version nums at lead
-    → lead ≡ On next operands statements → at * 8 < 2 ^ 64
-slot-fits version nums at next operands statements lead h l p =
-    omega (arith, slot-in version nums at next operands statements lead h l p)
+  pub slot-fits : at * 8 < 2 ^ 64
+  slot-fits = omega (arith, slot-in)
 
 pub ruleset expr_steps = (expr-deep, expr-on, expr-inside, expr-off, slot-in, slot-fits)
 

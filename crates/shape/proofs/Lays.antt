@@ -2,7 +2,8 @@
 use mathlib.Core.Option.{Option, none, some}
 use mathlib.Core.Path.{◌≡◌, refl, sym, ◌∙◌}
 use mathlib.Core.List.{List, [], ◌∷◌}
-use Prim.Native.Nat.{ℕ, zero, suc, ◌-◌}
+use Prim.Native.Nat.{ℕ, zero, suc, ◌+◌, ◌-◌, ◌≤◌, ◌<◌}
+use native.Mathlib.Nat.{sub-zero}
 use native.Mathlib.Omega.{arith}
 use native.Mathlib.Numerals.{sub-one}
 use lib.ListN.{drop}
@@ -195,33 +196,37 @@ module _ {A : Type 0} (start : A → ℕ) (lay : A → ℕ → List ℕ → List
         go zero y = absurd (y refl)
         go (suc k) y = lays-fault (λ a. repeat k one >>= λ rest. pure (a ∷ rest)) (lay_all start lay) found w p
 
--- a list of which some are left: what the rest lays, all lay
+-- a list of which some are done: what the rest lays, all lay
 pub record Pending {A : Type 0} (one : Reader A) (lays : List A → ℕ → List ℕ → List ℕ) (count : ℕ) (nums : List ℕ)
     (at : ℕ)
-    (found : List ℕ) (left next : ℕ) (now : List ℕ) : Type 0 where
-  pub rest : (last : List ℕ) (r : Scan) → Lays (repeat left one) lays nums next now last r
+    (found : List ℕ) (done next : ℕ) (now : List ℕ) : Type 0 where
+  pub rest : (last : List ℕ) (r : Scan) → Lays (repeat (count - done) one) lays nums next now last r
       → Lays (repeat count one) lays nums at found last r
 
 module _ {A : Type 0} (one : Reader A) (count : ℕ) (nums : List ℕ) (at : ℕ) (found : List ℕ) where
-  pub pending-first : (lays : List A → ℕ → List ℕ → List ℕ) → Pending one lays count nums at found count at found
-  pending-first lays = record { rest = λ last r w. w }
+  pub pending-first : (lays : List A → ℕ → List ℕ → List ℕ) → Pending one lays count nums at found 0 at found
+  pending-first lays = record { rest = λ last r w. rw sub-zero at w }
 
-  module _ (start : A → ℕ) (lay : A → ℕ → List ℕ → List ℕ) (left next : ℕ) (now : List ℕ)
-      (w : Pending one (lay_all start lay) count nums at found left next now) where
-    pub pending-none : left ≡ 0 → Lays (repeat count one) (lay_all start lay) nums at found now (Past next)
-    pending-none e = w.rest now (Past next) (all_none start lay one nums next left now e)
+  module _ (start : A → ℕ) (lay : A → ℕ → List ℕ → List ℕ) (done next : ℕ) (now : List ℕ)
+      (w : Pending one (lay_all start lay) count nums at found done next now) where
+    pub pending-none : count ≤ done → Lays (repeat count one) (lay_all start lay) nums at found now (Past next)
+    pending-none h = w.rest now (Past next) (all_none start lay one nums next (count - done) now (omega arith))
 
-    module _ (mid : List ℕ) (a : Scan) (x : left ≡ 0 → ⊥) (v : Lays one lay nums next now mid a) where
+    module _ (mid : List ℕ) (a : Scan) (h : done < count) (v : Lays one lay nums next now mid a) where
       pub pending-past : (end : ℕ) → a ≡ Past end → Keeps one → Starts start one
-          → Pending one (lay_all start lay) count nums at found (left - 1) end mid
-      pending-past end p h s = record {
-        rest = λ last r u. w.rest last r
-            (all_past start lay one nums next left h s end now mid last a r r x v p u refl);
+          → Pending one (lay_all start lay) count nums at found (done + 1) end mid
+      pending-past end p k s = record {
+        rest = λ last r u.
+            let e : count - (done + 1) ≡ count - done - 1 = omega arith in
+            w.rest last r
+            (all_past start lay one nums next (count - done) k s end now mid last a r r (λ z. omega arith) v p
+            (rw e at u) refl);
       }
 
       pub pending-fault : (f i : ℕ) → a ≡ Fault f i
           → Lays (repeat count one) (lay_all start lay) nums at found mid (Fault f i)
-      pending-fault f i p = w.rest mid (Fault f i) (all-fault start lay one nums next left f i now mid a x v p)
+      pending-fault f i p =
+          w.rest mid (Fault f i) (all-fault start lay one nums next (count - done) f i now mid a (λ z. omega arith) v p)
 
 pub ruleset pendings = (pending-first, pending-none, pending-past, pending-fault)
 

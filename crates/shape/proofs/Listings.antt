@@ -4,6 +4,7 @@ use mathlib.Core.List.{List}
 use Prim.Native.Nat.{ℕ, zero, suc, ◌+◌, ◌-◌, ◌<◌, ◌≤◌}
 use native.Mathlib.Numerals.{sub-one}
 use native.Mathlib.Omega.{arith}
+use native.Mathlib.Nat.{sub-zero}
 use Rattle.rules.specs.Words.{widest}
 use Rattle.rules.specs.Reading.{between, stands_for}
 use Rattle.rules.specs.Reading.{type_of}
@@ -123,8 +124,10 @@ module _ (one : ℕ → Scan) (count at done next : ℕ) (w : Remaining one coun
       → Remaining one count at (done + 1) n
   remaining-past n a h q p =
       let e : count - done - 1 ≡ count - (done + 1) = omega arith in
-      record { rest = items-past one (count - done) next n a (repeat_scan one (count - (done + 1)) n) (λ z. omega arith) q p
-      (rw e refl) ∙ w.rest }
+      record {
+        rest = items-past one (count - done) next n a (repeat_scan one (count - (done + 1)) n) (λ z. omega arith) q p
+            (rw e refl) ∙ w.rest;
+      }
 
   pub remaining-fault : (f i : ℕ) (a : Scan) → done < count → a ≡ one next → a ≡ Fault f i
       → Fault f i ≡ repeat_scan one count at

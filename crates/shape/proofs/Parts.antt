@@ -256,33 +256,33 @@ module _ (version : ℕ) (nums : List ℕ) (at : ℕ) where
       ∙ sym (scans-global.scan at)
 
 -- the steps of the parts' functions: a first thing past and then a second, or the first's fault
-module _ (version : ℕ) (nums : List ℕ) (at n f i : ℕ) (a r : Scan) where
-  pub parameter-past : a ≡ scan_of (stands_for (get_elem? (directions version))) nums at → a ≡ Past n
+module _ (version : ℕ) (nums : List ℕ) (at : ℕ) (a : Scan) where
+  pub parameter-past : (n : ℕ) (r : Scan) → a ≡ scan_of (stands_for (get_elem? (directions version))) nums at → a ≡ Past n
       → r ≡ scan_of (stands_for (type_of version)) nums n
       → r ≡ scan_of (read_parameter version) nums at
-  parameter-past q p h = seq-past _ _ _ ((scans-parameter version nums).scan at) a q n r p h
+  parameter-past n r q p h = seq-past _ _ _ ((scans-parameter version nums).scan at) a q n r p h
 
-  pub parameter-fault : a ≡ scan_of (stands_for (get_elem? (directions version))) nums at → a ≡ Fault f i
+  pub parameter-fault : (f i : ℕ) → a ≡ scan_of (stands_for (get_elem? (directions version))) nums at → a ≡ Fault f i
       → Fault f i ≡ scan_of (read_parameter version) nums at
-  parameter-fault q p = seq-fault _ _ _ ((scans-parameter version nums).scan at) a q f i p
+  parameter-fault f i q p = seq-fault _ _ _ ((scans-parameter version nums).scan at) a q f i p
 
-  pub frame_past : a ≡ list_scan (item_scan version ParameterItem nums) 0 most_parameters nums at → a ≡ Past n
+  pub frame_past : (n : ℕ) (r : Scan) → a ≡ list_scan (item_scan version ParameterItem nums) 0 most_parameters nums at → a ≡ Past n
       → r ≡ list_scan (item_scan version TypeItem nums) 0 most_locals nums n
       → r ≡ scan_of (read_frame version) nums at
-  frame_past q p h = seq-past _ _ _ ((scans-frame version nums).scan at) a q n r p h
+  frame_past n r q p h = seq-past _ _ _ ((scans-frame version nums).scan at) a q n r p h
 
-  pub frame-fault : a ≡ list_scan (item_scan version ParameterItem nums) 0 most_parameters nums at → a ≡ Fault f i
+  pub frame-fault : (f i : ℕ) → a ≡ list_scan (item_scan version ParameterItem nums) 0 most_parameters nums at → a ≡ Fault f i
       → Fault f i ≡ scan_of (read_frame version) nums at
-  frame-fault q p = seq-fault _ _ _ ((scans-frame version nums).scan at) a q f i p
+  frame-fault f i q p = seq-fault _ _ _ ((scans-frame version nums).scan at) a q f i p
 
-  pub default-past : a ≡ scan_of (read_numeral version) nums at → a ≡ Past n
+  pub default-past : (n : ℕ) (r : Scan) → a ≡ scan_of (read_numeral version) nums at → a ≡ Past n
       → r ≡ list_scan (item_scan version NumeralItem nums) 0 most_arguments nums n
       → r ≡ scan_of (read_default version) nums at
-  default-past q p h = seq-past _ _ _ ((scans-default version nums).scan at) a q n r p h
+  default-past n r q p h = seq-past _ _ _ ((scans-default version nums).scan at) a q n r p h
 
-  pub default-fault : a ≡ scan_of (read_numeral version) nums at → a ≡ Fault f i
+  pub default-fault : (f i : ℕ) → a ≡ scan_of (read_numeral version) nums at → a ≡ Fault f i
       → Fault f i ≡ scan_of (read_default version) nums at
-  default-fault q p = seq-fault _ _ _ ((scans-default version nums).scan at) a q f i p
+  default-fault f i q p = seq-fault _ _ _ ((scans-default version nums).scan at) a q f i p
 
 pub ruleset parts = (
   numeral-is,

@@ -93,71 +93,77 @@ module _ (version : ℕ) where
       keeps_then (keeps-list 0 most_tables (keeps-table version))
       λ ts. keeps-pure _
 
-module _ (version : ℕ) (nums : List ℕ) (at n m f i : ℕ) (found mid third filled : List ℕ) (a b r : Scan) where
-  rest-lays : Lays (read_defined version) lay_defined nums n mid third b → b ≡ Past m
+module _ (version : ℕ) (nums : List ℕ) (n : ℕ) (mid third : List ℕ) (b : Scan) where
+  rest-lays : (m : ℕ) (filled : List ℕ) (r : Scan) → Lays (read_defined version) lay_defined nums n mid third b
+      → b ≡ Past m
       → Lays (read_blocks version) lay_blocks nums m third filled r
       → Lays (read_rest version) (lay_rest version) nums n mid filled r
   unfolding read_rest lay_rest lay_defined
-  rest-lays w p v = lays-then (λ d b. (d, b)) (lay_rest version) (λ d b k next slots. refl) (keeps-defined version) w p v
+  rest-lays m filled r w p v =
+      lays-then (λ d b. (d, b)) (lay_rest version) (λ d b k next slots. refl) (keeps-defined version) w p v
 
-  all-lays : Lays (read_declared version) lay_declared nums at found mid a → a ≡ Past n
+module _ (version : ℕ) (nums : List ℕ) (at : ℕ) (found mid : List ℕ) (a : Scan) where
+  all-lays : (n : ℕ) (filled : List ℕ) (r : Scan) → Lays (read_declared version) lay_declared nums at found mid a
+      → a ≡ Past n
       → Lays (read_rest version) (lay_rest version) nums n mid filled r
       → Lays (read_after_version version) directory_of nums at found filled r
   unfolding in_three lay_rest lay_declared lay_defined lay_blocks lay_states lay_body directory_of tree
-  all-lays w p v = lays-as (three version (drop at nums) at)
+  all-lays n filled r w p v = lays-as (three version (drop at nums) at)
       (lays-then (tree version) directory_of (λ d q k next slots. refl) (keeps-declared version) w p v)
 
-  -- and the ends
-  pub after-ends : Lays (read_declared version) no_ends nums at found mid a → a ≡ Past n
-      → Lays (read_defined version) ends_defined nums n mid third b
-      → b ≡ Past m → Lays (read_blocks version) ends_blocks nums m third filled r
-      → Lays (read_after_version version) ends_of nums at found filled r
-  unfolding in_three read_rest ends_rest ends_defined ends_blocks ends_of blocks_at tree no_ends
-  after-ends w p v q u = lays-as (three version (drop at nums) at)
-      (lays-then (tree version) ends_of (λ d q k next slots. refl) (keeps-declared version) w p
-      (lays-next (λ d b. (d, b)) (ends_rest version) (λ b end. states_at b.0 (stmt_at b.1))
-      (λ d b next slots. refl) (keeps-defined version) (begins-blocks version) v q u))
-
-  pub after-defined-ends : Lays (read_declared version) no_ends nums at found mid a → a ≡ Past n
-      → Lays (read_defined version) ends_defined nums n mid filled b
-      → b ≡ Fault f i → Lays (read_after_version version) ends_of nums at found filled (Fault f i)
-  unfolding in_three read_rest ends_rest ends_defined ends_blocks ends_of blocks_at tree no_ends
-  after-defined-ends w p v q = lays-as (three version (drop at nums) at)
-      (lays-then (tree version) ends_of (λ d q k next slots. refl) (keeps-declared version) w p
-      (lays-fault _ (ends_rest version) mid v q))
-
-  pub after-declared-ends : Lays (read_declared version) no_ends nums at found filled a → a ≡ Fault f i
-      → Lays (read_after_version version) ends_of nums at found filled (Fault f i)
+  pub after-declared : (f i : ℕ) → Lays (read_declared version) lay_declared nums at found mid a → a ≡ Fault f i
+      → Lays (read_after_version version) directory_of nums at found mid (Fault f i)
   unfolding in_three
-  after-declared-ends w p = lays-as (three version (drop at nums) at) (lays-fault _ ends_of found w p)
+  after-declared f i w p = lays-as (three version (drop at nums) at) (lays-fault _ directory_of found w p)
 
-  pub after-past : Lays (read_declared version) lay_declared nums at found mid a → a ≡ Past n
-      → Lays (read_defined version) lay_defined nums n mid third b
-      → b ≡ Past m → Lays (read_blocks version) lay_blocks nums m third filled r
-      → Lays (read_after_version version) directory_of nums at found filled r
-  after-past w p v q u = all-lays w p (rest-lays v q u)
-
-  pub after-defined : Lays (read_declared version) lay_declared nums at found mid a → a ≡ Past n
-      → Lays (read_defined version) lay_defined nums n mid filled b
-      → b ≡ Fault f i → Lays (read_after_version version) directory_of nums at found filled (Fault f i)
-  unfolding in_three read_rest lay_rest lay_declared lay_defined lay_blocks lay_states lay_body directory_of tree
-  after-defined w p v q = lays-as (three version (drop at nums) at)
-      (lays-then (tree version) directory_of (λ d q k next slots. refl) (keeps-declared version) w p
-      (lays-fault _ (lay_rest version) mid v q))
-
-  pub after-declared : Lays (read_declared version) lay_declared nums at found filled a → a ≡ Fault f i
-      → Lays (read_after_version version) directory_of nums at found filled (Fault f i)
+  pub after-declared-ends : (f i : ℕ) → Lays (read_declared version) no_ends nums at found mid a → a ≡ Fault f i
+      → Lays (read_after_version version) ends_of nums at found mid (Fault f i)
   unfolding in_three
-  after-declared w p = lays-as (three version (drop at nums) at) (lays-fault _ directory_of found w p)
+  after-declared-ends f i w p = lays-as (three version (drop at nums) at) (lays-fault _ ends_of found w p)
+
+  module _ (n : ℕ) (third : List ℕ) (b : Scan) where
+    pub after-past : (m : ℕ) (filled : List ℕ) (r : Scan)
+        → Lays (read_declared version) lay_declared nums at found mid a → a ≡ Past n
+        → Lays (read_defined version) lay_defined nums n mid third b
+        → b ≡ Past m → Lays (read_blocks version) lay_blocks nums m third filled r
+        → Lays (read_after_version version) directory_of nums at found filled r
+    after-past m filled r w p v q u = all-lays n filled r w p (rest-lays version nums n mid third b m filled r v q u)
+
+    pub after-defined : (f i : ℕ) → Lays (read_declared version) lay_declared nums at found mid a → a ≡ Past n
+        → Lays (read_defined version) lay_defined nums n mid third b
+        → b ≡ Fault f i → Lays (read_after_version version) directory_of nums at found third (Fault f i)
+    unfolding in_three read_rest lay_rest lay_declared lay_defined lay_blocks lay_states lay_body directory_of tree
+    after-defined f i w p v q = lays-as (three version (drop at nums) at)
+        (lays-then (tree version) directory_of (λ d q k next slots. refl) (keeps-declared version) w p
+        (lays-fault _ (lay_rest version) mid v q))
+
+    -- and the ends
+    pub after-ends : (m : ℕ) (filled : List ℕ) (r : Scan)
+        → Lays (read_declared version) no_ends nums at found mid a → a ≡ Past n
+        → Lays (read_defined version) ends_defined nums n mid third b
+        → b ≡ Past m → Lays (read_blocks version) ends_blocks nums m third filled r
+        → Lays (read_after_version version) ends_of nums at found filled r
+    unfolding in_three read_rest ends_rest ends_defined ends_blocks ends_of blocks_at tree no_ends
+    after-ends m filled r w p v q u = lays-as (three version (drop at nums) at)
+        (lays-then (tree version) ends_of (λ d q k next slots. refl) (keeps-declared version) w p
+        (lays-next (λ d b. (d, b)) (ends_rest version) (λ b end. states_at b.0 (stmt_at b.1))
+        (λ d b next slots. refl) (keeps-defined version) (begins-blocks version) v q u))
+
+    pub after-defined-ends : (f i : ℕ) → Lays (read_declared version) no_ends nums at found mid a → a ≡ Past n
+        → Lays (read_defined version) ends_defined nums n mid third b
+        → b ≡ Fault f i → Lays (read_after_version version) ends_of nums at found third (Fault f i)
+    unfolding in_three read_rest ends_rest ends_defined ends_blocks ends_of blocks_at tree no_ends
+    after-defined-ends f i w p v q = lays-as (three version (drop at nums) at)
+        (lays-then (tree version) ends_of (λ d q k next slots. refl) (keeps-declared version) w p
+        (lays-fault _ (ends_rest version) mid v q))
 
 -- the version, and the program
-module _ (lay : Program → ℕ → List ℕ → List ℕ) (nums : List ℕ) (f i : ℕ) (found filled : List ℕ) (v : Value)
-    (q : v ≡ value_of 1 2 nums 0) where
-  pub version-past : (n next : ℕ) (r : Scan) → v ≡ Of n next
+module _ (lay : Program → ℕ → List ℕ → List ℕ) (nums found : List ℕ) (v : Value) (q : v ≡ value_of 1 2 nums 0) where
+  pub version-past : (n next : ℕ) (filled : List ℕ) (r : Scan) → v ≡ Of n next
       → Lays (read_after_version n) lay nums next found filled r
       → Lays read_program lay nums 0 found filled r
   unfolding read_program version_of between value_of valued scan_of Kept ◌>>=◌ and_then
-  version-past n next r p w = go (between 1 2 (drop 0 nums) 0) refl ((keeps-between 1 2).kept nums 0) (sym q ∙ p)
+  version-past n next filled r p w = go (between 1 2 (drop 0 nums) 0) refl ((keeps-between 1 2).kept nums 0) (sym q ∙ p)
     where
       go : (y : Got ℕ) → between 1 2 (drop 0 nums) 0 ≡ y → Kept nums 0 y → valued y ≡ Of n next
           → Lays read_program lay nums 0 found filled r
@@ -167,9 +173,9 @@ module _ (lay : Program → ℕ → List ℕ → List ℕ) (nums : List ℕ) (f 
           let o : after ≡ next = cc in
           record { scan = w.scan ∙ rw (e, k.rest, u, o); laid = rw (e, k.rest, u, o) w.laid }
 
-  pub version-fault : v ≡ Unread f i → Lays read_program lay nums 0 found found (Fault f i)
+  pub version-fault : (f i : ℕ) → v ≡ Unread f i → Lays read_program lay nums 0 found found (Fault f i)
   unfolding read_program version_of between value_of valued scan_of forget Laid ◌>>=◌ and_then
-  version-fault p = go (between 1 2 (drop 0 nums) 0) refl (sym q ∙ p)
+  version-fault f i p = go (between 1 2 (drop 0 nums) 0) refl (sym q ∙ p)
     where
       go : (y : Got ℕ) → between 1 2 (drop 0 nums) 0 ≡ y → valued y ≡ Unread f i
           → Lays read_program lay nums 0 found found (Fault f i)
@@ -179,11 +185,11 @@ module _ (lay : Program → ℕ → List ℕ → List ℕ) (nums : List ℕ) (f 
           record { scan = rw (e, u, o); laid = rw e tt }
       go (got m left after) e c = let z : ◌≡◌ {A = ℕ} 0 1 = cc in absurd (omega arith)
 
-module _ (nums : List ℕ) (f i end : ℕ) (found filled slots laid : List ℕ) (a : Scan)
+module _ (nums found filled slots laid : List ℕ) (a : Scan)
     (w : Lays read_program directory_of nums 0 found filled a) (v : Lays read_program ends_of nums 0 slots laid a) where
-  pub program-past : a ≡ Past end → ScansProgram nums found filled slots laid (Past end)
+  pub program-past : (end : ℕ) → a ≡ Past end → ScansProgram nums found filled slots laid (Past end)
   unfolding scan_of forget Laid directory_left ends_left
-  program-past p = record {
+  program-past end p = record {
     answer = sym p ∙ w.scan;
     parts = go (read_program nums 0) w.laid (sym w.scan ∙ p);
     laid = ends (read_program nums 0) v.laid (sym w.scan ∙ p);
@@ -197,9 +203,9 @@ module _ (nums : List ℕ) (f i end : ℕ) (found filled slots laid : List ℕ) 
       ends (got tree left next) l e = l
       ends (bad fault index) l e = let z : ◌≡◌ {A = ℕ} 0 1 = cc in absurd (omega arith)
 
-  pub program-fault : a ≡ Fault f i → ScansProgram nums found found slots (replicate most_numbers 0) (Fault f i)
+  pub program-fault : (f i : ℕ) → a ≡ Fault f i → ScansProgram nums found found slots (replicate most_numbers 0) (Fault f i)
   unfolding scan_of forget Laid directory_left ends_left
-  program-fault p = record {
+  program-fault f i p = record {
     answer = sym p ∙ w.scan;
     parts = go (read_program nums 0) (sym w.scan ∙ p);
     laid = ends (read_program nums 0) (sym w.scan ∙ p);

@@ -242,78 +242,84 @@ module _ (version : ℕ) (nums : List ℕ) (at : ℕ) (found filled : List ℕ) 
         (list-laid version StatePart 1 most_states nums at found filled r l);
   }
 
-module _ (version : ℕ) (nums : List ℕ) (at n f i : ℕ) (found mid filled slots slots₂ slots₃ : List ℕ)
-    (a r : Scan) where
-  pub declared-ends : WalkedList (part_scan version HeaderPart nums) 0 most_headers nums at headers_slot slots slots₂ a
+module _ (version : ℕ) (nums : List ℕ) (at : ℕ) (found mid slots slots₂ : List ℕ) (a : Scan) where
+  pub declared-ends : (n : ℕ) (filled slots₃ : List ℕ) (r : Scan)
+      → WalkedList (part_scan version HeaderPart nums) 0 most_headers nums at headers_slot slots slots₂ a
       → LaysList version HeaderPart 0 most_headers nums at found mid a → a ≡ Past n
       → WalkedList (part_scan version GlobalPart nums) 0 most_globals nums n globals_slot slots₂ slots₃ r
       → LaysList version GlobalPart 0 most_globals nums n mid filled r
       → Lays (read_declared version) no_ends nums at found filled r
   unfolding read_declared no_ends
-  declared-ends w l p v m =
+  declared-ends n filled slots₃ r w l p v m =
       lays-then (λ hs gs. (hs, gs)) no_ends (λ hs gs m next slots. refl)
       (keeps-list 0 most_headers (keeps-header version))
       (header-ends version nums at found mid slots slots₂ a w l) p
       (global-ends version nums n mid filled slots₂ slots₃ r v m)
 
-  pub declared-no-ends : WalkedList (part_scan version HeaderPart nums) 0 most_headers nums at headers_slot slots slots₂ a
+  pub declared-no-ends : (f i : ℕ)
+      → WalkedList (part_scan version HeaderPart nums) 0 most_headers nums at headers_slot slots slots₂ a
       → LaysList version HeaderPart 0 most_headers nums at found mid a → a ≡ Fault f i
       → Lays (read_declared version) no_ends nums at found mid (Fault f i)
   unfolding read_declared
-  declared-no-ends w l p = lays-fault _ no_ends found (header-ends version nums at found mid slots slots₂ a w l) p
+  declared-no-ends f i w l p = lays-fault _ no_ends found (header-ends version nums at found mid slots slots₂ a w l) p
 
-  pub defined-ends : WalkedList (part_scan version CallablePart nums) 0 most_callables nums at callables_slot slots slots₂ a
+  pub defined-ends : (n : ℕ) (filled slots₃ : List ℕ) (r : Scan)
+      → WalkedList (part_scan version CallablePart nums) 0 most_callables nums at callables_slot slots slots₂ a
       → LaysList version CallablePart 0 most_callables nums at found mid a → a ≡ Past n
       → WalkedList (part_scan version TablePart nums) 0 most_tables nums n tables_slot slots₂ slots₃ r
       → LaysList version TablePart 0 most_tables nums n mid filled r
       → Lays (read_defined version) ends_defined nums at found filled r
   unfolding read_defined ends_defined
-  defined-ends w l p v m =
+  defined-ends n filled slots₃ r w l p v m =
       lays-next (λ cs ts. (cs, ts)) ends_defined (λ ts end. first_at table_at ts end - 1) (λ cs ts next slots. refl)
       (keeps-list 0 most_callables (keeps-callable version)) (begins-list 0 most_tables (starts-tables version))
       (callable-ends version nums at found mid slots slots₂ a w l) p
       (table-ends version nums n mid filled slots₂ slots₃ r v m)
 
-  pub defined-no-ends : WalkedList
-      (part_scan version CallablePart nums) 0 most_callables nums at callables_slot slots slots₂ a
+  pub defined-no-ends : (f i : ℕ)
+      → WalkedList (part_scan version CallablePart nums) 0 most_callables nums at callables_slot slots slots₂ a
       → LaysList version CallablePart 0 most_callables nums at found mid a → a ≡ Fault f i
       → Lays (read_defined version) ends_defined nums at found mid (Fault f i)
   unfolding read_defined
-  defined-no-ends w l p =
+  defined-no-ends f i w l p =
       lays-fault _ ends_defined found (callable-ends version nums at found mid slots slots₂ a w l) p
 
-module _ (version : ℕ) (nums : List ℕ) (at n f i : ℕ) (found mid filled : List ℕ) (a r : Scan) where
-  pub declared-past : WalkedList (part_scan version HeaderPart nums) 0 most_headers nums at headers_slot found mid a → a
+module _ (version : ℕ) (nums : List ℕ) (at : ℕ) (found mid : List ℕ) (a : Scan) where
+  pub declared-past : (n : ℕ) (filled : List ℕ) (r : Scan)
+      → WalkedList (part_scan version HeaderPart nums) 0 most_headers nums at headers_slot found mid a → a
       ≡ Past n
       → WalkedList (part_scan version GlobalPart nums) 0 most_globals nums n globals_slot mid filled r
       → Lays (read_declared version) lay_declared nums at found filled r
   unfolding read_declared lay_declared declared
-  declared-past w p v =
+  declared-past n filled r w p v =
       lays-then (λ hs gs. (hs, gs)) lay_declared (λ hs gs m next slots. refl)
       (keeps-list 0 most_headers (keeps-header version))
       (headers-lay version nums at found mid a w) p (globals-lay version nums n mid filled r v)
 
-  pub declared-fault : WalkedList (part_scan version HeaderPart nums) 0 most_headers nums at headers_slot found mid a → a
+  pub declared-fault : (f i : ℕ)
+      → WalkedList (part_scan version HeaderPart nums) 0 most_headers nums at headers_slot found mid a → a
       ≡ Fault f i
       → Lays (read_declared version) lay_declared nums at found mid (Fault f i)
   unfolding read_declared
-  declared-fault w p = lays-fault _ lay_declared found (headers-lay version nums at found mid a w) p
+  declared-fault f i w p = lays-fault _ lay_declared found (headers-lay version nums at found mid a w) p
 
-  pub defined-past : WalkedList (part_scan version CallablePart nums) 0 most_callables nums at callables_slot found mid a
+  pub defined-past : (n : ℕ) (filled : List ℕ) (r : Scan)
+      → WalkedList (part_scan version CallablePart nums) 0 most_callables nums at callables_slot found mid a
       → a ≡ Past n
       → WalkedList (part_scan version TablePart nums) 0 most_tables nums n tables_slot mid filled r
       → Lays (read_defined version) lay_defined nums at found filled r
   unfolding read_defined lay_defined defined
-  defined-past w p v =
+  defined-past n filled r w p v =
       lays-then (λ cs ts. (cs, ts)) lay_defined (λ cs ts m next slots. refl)
       (keeps-list 0 most_callables (keeps-callable version))
       (callables-lay version nums at found mid a w) p (tables-lay version nums n mid filled r v)
 
-  pub defined-fault : WalkedList (part_scan version CallablePart nums) 0 most_callables nums at callables_slot found mid a
+  pub defined-fault : (f i : ℕ)
+      → WalkedList (part_scan version CallablePart nums) 0 most_callables nums at callables_slot found mid a
       → a ≡ Fault f i
       → Lays (read_defined version) lay_defined nums at found mid (Fault f i)
   unfolding read_defined
-  defined-fault w p = lays-fault _ lay_defined found (callables-lay version nums at found mid a w) p
+  defined-fault f i w p = lays-fault _ lay_defined found (callables-lay version nums at found mid a w) p
 
 pub ruleset declarations = (
   declared-past,

@@ -448,20 +448,20 @@ module _ (version depth : ℕ) (nums : List ℕ) (at : ℕ) (found : List ℕ) w
   unfolding read_stmt
   stmt-deep r e q = rw e (lays-deep lay_stmt nums at found found r q)
 
-  module _ (first : List ℕ) (lead : Lead) (x : depth ≡ 0 → ⊥)
-      (l : LeadsStmt version (depth - 1) nums at found first lead) where
-    pub stmt-off : (f i : ℕ) → lead ≡ Off f i → Lays (read_stmt version depth) lay_stmt nums at found first (Fault f i)
+  module _ (first : List ℕ) (x : depth ≡ 0 → ⊥) where
+    pub stmt-off : (f i : ℕ) → LeadsStmt version (depth - 1) nums at found first (Off f i)
+        → Lays (read_stmt version depth) lay_stmt nums at found first (Fault f i)
     unfolding on_lead
-    stmt-off f i p =
-        lays-none (read_stmt version depth) lay_stmt nums at f i found first
-        (sym (rw (one_less depth x, p) at l.stmt))
+    stmt-off f i l =
+        lays-none (read_stmt version depth) lay_stmt nums at f i found first (sym (rw (one_less depth x) at l.stmt))
 
-    module _ (next operands statements : ℕ) (p : lead ≡ On next operands statements) (mid : List ℕ) (a : Scan)
+    module _ (next operands statements : ℕ)
+        (l : LeadsStmt version (depth - 1) nums at found first (On next operands statements)) (mid : List ℕ) (a : Scan)
         (w : Lays (repeat operands (read_expr version (depth - 1))) lay_exprs nums next first mid a) where
       stmt-tree-on : Agree (Made parts_at lay_stmt lay_parts at next found first) (read_stmt version depth (drop at nums) at)
           (read_parts version (depth - 1) operands statements (drop next nums) next)
       unfolding AgreeOn next_of
-      stmt-tree-on = rw (one_less depth x, p) at l.tree
+      stmt-tree-on = rw (one_less depth x) at l.tree
 
       pub stmt-operand-fault : (f i : ℕ) → a ≡ Fault f i
           → Lays (read_stmt version depth) lay_stmt nums at found mid (Fault f i)
@@ -469,7 +469,7 @@ module _ (version depth : ℕ) (nums : List ℕ) (at : ℕ) (found : List ℕ) w
       stmt-operand-fault f i m =
           lays-none (read_stmt version depth) lay_stmt nums at f i found mid
           (on-fault a f i (scan_of (repeat statements (read_stmt version (depth - 1))) nums) m
-          ∙ sym (rw (one_less depth x, p, ← w.scan) at l.stmt))
+          ∙ sym (rw (one_less depth x, ← w.scan) at l.stmt))
 
       module _ (after : ℕ) (m : a ≡ Past after) (last : List ℕ) (b : Scan)
           (v : Lays (repeat statements (read_stmt version (depth - 1))) lay_members nums after mid last b) where
@@ -477,7 +477,7 @@ module _ (version depth : ℕ) (nums : List ℕ) (at : ℕ) (found : List ℕ) w
         unfolding on_lead
         stmt-scan-on =
             on-past a b after (scan_of (repeat statements (read_stmt version (depth - 1))) nums) m v.scan
-            ∙ sym (rw (one_less depth x, p, ← w.scan) at l.stmt)
+            ∙ sym (rw (one_less depth x, ← w.scan) at l.stmt)
 
         parts-lay : Lays (read_parts version (depth - 1) operands statements) lay_parts nums next first last b
         unfolding read_parts lay_parts
@@ -500,17 +500,14 @@ module _ (version depth : ℕ) (nums : List ℕ) (at : ℕ) (found : List ℕ) w
         stmt-member-fault f i q =
             lays-none (read_stmt version depth) lay_stmt nums at f i found last (sym q ∙ stmt-scan-on)
 
-pub slot-in : (version depth : ℕ) (nums : List ℕ) (at next operands statements : ℕ) (found mid : List ℕ) (lead : Lead)
-    → length nums ≤ most_numbers → LeadsStmt version depth nums at found mid lead
-    → lead ≡ On next operands statements → at < most_numbers
-unfolding Tagged
-slot-in version depth nums at next operands statements found mid lead h l p = omega (arith, rw p at l.tag)
+module _ (version depth : ℕ) (nums : List ℕ) (at next operands statements : ℕ) (found mid : List ℕ)
+    (h : length nums ≤ most_numbers) (l : LeadsStmt version depth nums at found mid (On next operands statements)) where
+  pub slot-in : at < most_numbers
+  unfolding Tagged
+  slot-in = omega (arith, l.tag)
 
-pub slot-fits : (version depth : ℕ) (nums : List ℕ) (at next operands statements : ℕ) (found mid : List ℕ) (lead : Lead)
-    → length nums ≤ most_numbers → LeadsStmt version depth nums at found mid lead
-    → lead ≡ On next operands statements → at * 8 < 2 ^ 64
-slot-fits version depth nums at next operands statements found mid lead h l p =
-    omega (arith, slot-in version depth nums at next operands statements found mid lead h l p)
+  pub slot-fits : at * 8 < 2 ^ 64
+  slot-fits = omega (arith, slot-in)
 
 pub ruleset stmt_steps =
     (stmt-deep, stmt-on, stmt-operand-fault, stmt-member-fault, stmt-off, slot-in, slot-fits)

@@ -11,8 +11,10 @@ use Rattle.rules.specs.Reading.{number, stands_for, between, repeat}
 use Rattle.rules.specs.Reading.{operators, expr_tags}
 use Rattle.rules.proofs.Predicates.{no_member}
 use Rattle.rules.proofs.Readers.{keeps-number, keeps-between}
-use Rattle.shape.specs.Scans.{scan_of}
-use Rattle.shape.specs.Leads.{on_scan, read_literal, value_of, lead_by, on_lead, arguments_lead, call_lead, form_of, expr_form, expr_lead}
+use Rattle.std.specs.Prelude.{Result, Ok, Err}
+use Rattle.rules.specs.declared.Fault as rules
+use Rattle.shape.specs.Scans.{told, scan_of}
+use Rattle.shape.specs.Leads.{told_lead, on_scan, read_literal, value_of, lead_by, on_lead, arguments_lead, call_lead, form_of, expr_form, expr_lead}
 use Rattle.shape.specs.Scans.{Scan, Past, Fault}
 use Rattle.shape.specs.Leads.{Value, Of, Unread}
 use Rattle.shape.specs.Leads.{Lead, On, Off}
@@ -22,28 +24,28 @@ use Rattle.shape.proofs.Laws.{on-past, on-fault, Scans, scans-self, scans-then}
 use Rattle.shape.proofs.Laws.{scans-two, spans-scan, spans-list}
 
 -- the numbers behind a tag
-module _ (nums : List ℕ) (at n number₁ index : ℕ) (a r : Scan) where
-  pub two_past : a ≡ scan_of number nums at → a ≡ Past n → r ≡ scan_of number nums n
+module _ (nums : List ℕ) (at : ℕ) (a : Scan) where
+  pub two_past : (n : ℕ) (r : Scan) → a ≡ scan_of number nums at → a ≡ Past n → r ≡ scan_of number nums n
       → r ≡ scan_of (repeat 2 number) nums at
-  two_past e p q =
+  two_past n r e p q =
       on-past (scan_of number nums at) r n (scan_of number nums) (sym e ∙ p) q ∙ sym ((scans-two keeps-number).scan at)
 
-  pub two-fault : a ≡ scan_of number nums at → a ≡ Fault number₁ index
+  pub two-fault : (number₁ index : ℕ) → a ≡ scan_of number nums at → a ≡ Fault number₁ index
       → Fault number₁ index ≡ scan_of (repeat 2 number) nums at
-  two-fault e p =
+  two-fault number₁ index e p =
       on-fault (scan_of number nums at) number₁ index (scan_of number nums) (sym e ∙ p)
       ∙ sym ((scans-two keeps-number).scan at)
 
-  pub bounds-past : a ≡ scan_of (between 0 highest_bound) nums at → a ≡ Past n
+  pub bounds-past : (n : ℕ) (r : Scan) → a ≡ scan_of (between 0 highest_bound) nums at → a ≡ Past n
       → r ≡ scan_of (between 0 highest_bound) nums n
       → r ≡ scan_of (repeat 2 (between 0 highest_bound)) nums at
-  bounds-past e p q =
+  bounds-past n r e p q =
       on-past (scan_of (between 0 highest_bound) nums at) r n (scan_of (between 0 highest_bound) nums) (sym e ∙ p) q
       ∙ sym ((scans-two (keeps-between 0 highest_bound)).scan at)
 
-  pub bounds-fault : a ≡ scan_of (between 0 highest_bound) nums at → a ≡ Fault number₁ index
+  pub bounds-fault : (number₁ index : ℕ) → a ≡ scan_of (between 0 highest_bound) nums at → a ≡ Fault number₁ index
       → Fault number₁ index ≡ scan_of (repeat 2 (between 0 highest_bound)) nums at
-  bounds-fault e p =
+  bounds-fault number₁ index e p =
       on-fault (scan_of (between 0 highest_bound) nums at) number₁ index (scan_of (between 0 highest_bound) nums)
       (sym e ∙ p)
       ∙ sym ((scans-two (keeps-between 0 highest_bound)).scan at)
@@ -54,16 +56,17 @@ unfolding read_literal
 scans-literal nums = scans-then (keeps-between 1 widest) (scans-self (between 1 widest) nums) λ width.
     scans-self number nums
 
-module _ (nums : List ℕ) (at n number₁ index : ℕ) (a r : Scan) where
-  pub literal-past : a ≡ scan_of (between 1 widest) nums at → a ≡ Past n → r ≡ scan_of number nums n
+module _ (nums : List ℕ) (at : ℕ) (a : Scan) where
+  pub literal-past : (n : ℕ) (r : Scan) → a ≡ scan_of (between 1 widest) nums at → a ≡ Past n
+      → r ≡ scan_of number nums n
       → r ≡ scan_of read_literal nums at
-  literal-past e p q =
+  literal-past n r e p q =
       on-past (scan_of (between 1 widest) nums at) r n (scan_of number nums) (sym e ∙ p) q
       ∙ sym ((scans-literal nums).scan at)
 
-  pub literal-fault : a ≡ scan_of (between 1 widest) nums at → a ≡ Fault number₁ index
+  pub literal-fault : (number₁ index : ℕ) → a ≡ scan_of (between 1 widest) nums at → a ≡ Fault number₁ index
       → Fault number₁ index ≡ scan_of read_literal nums at
-  literal-fault e p =
+  literal-fault number₁ index e p =
       on-fault (scan_of (between 1 widest) nums at) number₁ index (scan_of number nums) (sym e ∙ p)
       ∙ sym ((scans-literal nums).scan at)
 
@@ -71,18 +74,18 @@ pub operator-is : (version : ℕ) (nums : List ℕ) (at : ℕ) (r : Scan) → r 
     → r ≡ scan_of (stands_for (get_elem? (operators version))) nums at
 operator-is version nums at r e = e ∙ sym (spans-scan nums at (spans-list (operators version) 13 refl))
 
-pub ruleset numbers = (Past, two_past, two-fault, bounds-past, bounds-fault, literal-past, literal-fault, operator-is)
+pub ruleset numbers = (two_past, two-fault, bounds-past, bounds-fault, literal-past, literal-fault, operator-is)
 
 -- leads, case by case
-pub lead-on : (s : Scan) (next operands statements : ℕ) → s ≡ Past next
-    → On next operands statements ≡ lead_by s operands statements
+pub lead-on : (s : Result ℕ rules.Fault) (next operands statements : ℕ) → s ≡ Ok next
+    → On next operands statements ≡ lead_by (told s) operands statements
 unfolding lead_by
 lead-on s next operands statements e = rw e
 
-pub lead-off : (s : Scan) (number₁ index operands statements : ℕ) → s ≡ Fault number₁ index
-    → Off number₁ index ≡ lead_by s operands statements
+pub lead-off : (s : Result ℕ rules.Fault) (f : rules.Fault) (operands statements : ℕ) → s ≡ Err f
+    → told_lead (Err f) ≡ lead_by (told s) operands statements
 unfolding lead_by
-lead-off s number₁ index operands statements e = rw e
+lead-off s f operands statements e = rw e
 
 pub arguments-on : (v w : Value) (count next : ℕ) → v ≡ w → v ≡ Of count next → On next count 0 ≡ arguments_lead w
 unfolding arguments_lead

@@ -21,7 +21,7 @@ use Rattle.shape.specs.Parts.{list_scan, item_scan, part_scan, read_select, lay_
 use Rattle.shape.specs.Ends.{lay_expr, lay_stmt, first_at, lay_all, numeral_at, pair_at, lay_transition, transition_at, state_at, lay_state, states_at}
 use Rattle.shape.specs.Walks.{Laid, Lays, WalkedList, LaysList, no_ends, lay_states, lay_body, read_blocks, lay_blocks, ends_blocks}
 use Rattle.shape.specs.Scans.{Scan, Past, Fault}
-use Rattle.shape.specs.Leads.{Value, Of, Unread}
+use Rattle.shape.specs.Leads.{Of, Unread}
 use Rattle.shape.specs.declared.items.Item.TheVariants.{PairItem}
 use Rattle.shape.specs.declared.program.Part.TheVariants.{StatePart}
 use Rattle.shape.proofs.Laws.{scan-here, scan-fault, spans-scan, spans-list, between-fault, IsValue, value-inv}
@@ -64,13 +64,12 @@ module _ (version : ℕ) (nums : List ℕ) (at : ℕ) (found filled : List ℕ) 
   select-fault f i p = lays-fault _ lay_select found w p
 
 -- transitions, by the number of their tag
-module _ (version : ℕ) (nums : List ℕ) (at n next : ℕ) (found : List ℕ) (v : Value) (e : v ≡ value_of 0 4 nums at)
-    (p : v ≡ Of n next) where
+module _ (version : ℕ) (nums : List ℕ) (at n next : ℕ) (found : List ℕ) (e : Of n next ≡ value_of 0 4 nums at) where
   tag_read : (tag : TransitionTag) → get_elem? (transition_tags version) n ≡ some tag
       → read_transition version (drop at nums) at ≡ read_transition_as version tag at (drop next nums) next
   unfolding read_transition here ◌>>=◌ and_then stands_for meaning
   tag_read tag q =
-      let i : IsValue 0 4 nums at n next = value-inv 0 4 nums at n next (sym e ∙ p) in
+      let i : IsValue 0 4 nums at n next = value-inv 0 4 nums at n next (sym e) in
       rw (looked-in 4 (get_elem? (transition_tags version)) nums at i.inside, i.same, q, ← i.after)
 
   pub transition-reject : (r : Scan) → n ≡ 2 → r ≡ scan_of (between 0 most_error) nums next
@@ -103,18 +102,17 @@ module _ (version : ℕ) (nums : List ℕ) (at n next : ℕ) (found : List ℕ) 
       go zero q = lays-as {other = pure no_transition} (tag_read tag_none (rw q)) (record { scan = refl; laid = refl })
       go (suc zero) q = lays-as {other = pure accept} (tag_read tag_accept (rw q)) (record { scan = refl; laid = refl })
       go (suc (suc m)) q =
-          let i : IsValue 0 4 nums at n next = value-inv 0 4 nums at n next (sym e ∙ p) in
+          let i : IsValue 0 4 nums at n next = value-inv 0 4 nums at n next (sym e) in
           absurd (omega (arith, i.high, a, b, c))
 
-pub transition-fault : (version : ℕ) (nums : List ℕ) (at f i : ℕ) (found : List ℕ) (v : Value) → v ≡ value_of 0 4 nums at
-    → v ≡ Unread f i
+pub transition-fault : (version : ℕ) (nums : List ℕ) (at f i : ℕ) (found : List ℕ) → Unread f i ≡ value_of 0 4 nums at
     → Lays (read_transition version) lay_transition nums at found found (Fault f i)
 unfolding read_transition
-transition-fault version nums at f i found v e p =
+transition-fault version nums at f i found e =
     lays-none (read_transition version) lay_transition nums at f i found found
     (sym (scan-here nums at (λ j. stands_for (get_elem? (transition_tags version)) >>= λ tag. read_transition_as version tag j)
     ∙ scan-fault (stands_for (get_elem? (transition_tags version))) (λ tag. read_transition_as version tag at) nums at f i
-    (spans-scan nums at (spans-list (transition_tags version) 4 refl) ∙ sym (between-fault 0 4 nums at f i v e p))))
+    (spans-scan nums at (spans-list (transition_tags version) 4 refl) ∙ sym (between-fault 0 4 nums at f i (Unread f i) e refl))))
 
 pub ruleset transitions = (
   select-past,
@@ -225,31 +223,35 @@ module _ (version : ℕ) (nums : List ℕ) (at : ℕ) (b : Bool) (e : b ≡ has_
 pub ruleset state_lists = (states-past, states-ends, states-none, states-no-ends)
 
 -- the states and the apply body
-module _ (version : ℕ) (nums : List ℕ) (at n f i : ℕ) (found mid filled : List ℕ) (a r : Scan) where
-  pub blocks-past : Lays (read_states version) lay_states nums at found mid a → a ≡ Past n
+module _ (version : ℕ) (nums : List ℕ) (at : ℕ) (found mid : List ℕ) (a : Scan) where
+  pub blocks-past : (n : ℕ) (filled : List ℕ) (r : Scan)
+      → Lays (read_states version) lay_states nums at found mid a → a ≡ Past n
       → Lays (read_stmt version deepest) lay_body nums n mid filled r
       → Lays (read_blocks version) lay_blocks nums at found filled r
   unfolding read_blocks lay_blocks lay_states
-  blocks-past w p v =
+  blocks-past n filled r w p v =
       lays-then (λ ss s. (ss, s)) lay_blocks (λ ss s m next slots. refl) (keeps-states version) w p v
 
-  pub blocks-fault : Lays (read_states version) lay_states nums at found filled a → a ≡ Fault f i
-      → Lays (read_blocks version) lay_blocks nums at found filled (Fault f i)
+  pub blocks-fault : (f i : ℕ)
+      → Lays (read_states version) lay_states nums at found mid a → a ≡ Fault f i
+      → Lays (read_blocks version) lay_blocks nums at found mid (Fault f i)
   unfolding read_blocks
-  blocks-fault w p = lays-fault _ lay_blocks found w p
+  blocks-fault f i w p = lays-fault _ lay_blocks found w p
 
-  pub blocks-ends : Lays (read_states version) (lay_all state_at lay_state) nums at found mid a → a ≡ Past n
+  pub blocks-ends : (n : ℕ) (filled : List ℕ) (r : Scan)
+      → Lays (read_states version) (lay_all state_at lay_state) nums at found mid a → a ≡ Past n
       → Lays (read_stmt version deepest) lay_stmt nums n mid filled r
       → Lays (read_blocks version) ends_blocks nums at found filled r
   unfolding read_blocks ends_blocks
-  blocks-ends w p v =
+  blocks-ends n filled r w p v =
       lays-next (λ ss s. (ss, s)) ends_blocks (λ s end. stmt_at s) (λ ss s next slots. refl) (keeps-states version)
       (begins-body version deepest) w p v
 
-  pub blocks-no-ends : Lays (read_states version) (lay_all state_at lay_state) nums at found filled a → a ≡ Fault f i
-      → Lays (read_blocks version) ends_blocks nums at found filled (Fault f i)
+  pub blocks-no-ends : (f i : ℕ)
+      → Lays (read_states version) (lay_all state_at lay_state) nums at found mid a → a ≡ Fault f i
+      → Lays (read_blocks version) ends_blocks nums at found mid (Fault f i)
   unfolding read_blocks
-  blocks-no-ends w p = lays-fault _ ends_blocks found w p
+  blocks-no-ends f i w p = lays-fault _ ends_blocks found w p
 
 pub ruleset blocks = (blocks-past, blocks-fault, blocks-ends, blocks-no-ends)
 

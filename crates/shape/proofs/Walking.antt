@@ -74,64 +74,71 @@ module _ (version : ℕ) (part : Part) (count : ℕ) (nums : List ℕ) (at : ℕ
       go zero y = absurd (y refl)
       go (suc k) y = rw (← w.scan, p) tt
 
--- so many parts of which some are left: what the rest walks, all walk, and there is room for it
-pub record Walking (one : ℕ → Scan) (count at slot : ℕ) (found : List ℕ) (left next entry : ℕ) (now : List ℕ) : Type 0
+-- so many parts, each with its slot, up to one's: what the rest walks, all walk
+pub record Walking (one : ℕ → Scan) (count at slot : ℕ) (found : List ℕ) (entry next : ℕ) (now : List ℕ) : Type 0
   where
-    pub room : entry + left ≤ slot_count
-    pub rest : (last : List ℕ) (r : Scan) → Walked one left next entry now last r
+    pub rest : (last : List ℕ) (r : Scan) → Walked one (slot + count - entry) next entry now last r
         → Walked one count at slot found last r
 
-pub walking-first : (one : ℕ → Scan) (count at slot : ℕ) (found : List ℕ) → slot + count ≤ slot_count
-    → Walking one count at slot found count at slot found
-walking-first one count at slot found h = record { room = h; rest = λ last r w. w }
+pub walking-first : (one : ℕ → Scan) (count at slot : ℕ) (found : List ℕ) → Walking one count at slot found slot at found
+walking-first one count at slot found =
+    let e : slot + count - slot ≡ count = omega arith in
+    record { rest = λ last r w. rw e at w }
 
-module _ (one : ℕ → Scan) (count at slot : ℕ) (found : List ℕ) (left next entry : ℕ) (now : List ℕ)
-    (w : Walking one count at slot found left next entry now) where
-  pub walking-none : left ≡ 0 → Walked one count at slot found now (Past next)
-  walking-none e = w.rest now (Past next) (walked_none one left next entry now e)
+module _ (one : ℕ → Scan) (count at slot : ℕ) (found : List ℕ) (entry next : ℕ) (now : List ℕ)
+    (w : Walking one count at slot found entry next now) where
+  pub walking-none : slot + count ≤ entry → Walked one count at slot found now (Past next)
+  walking-none h = w.rest now (Past next) (walked_none one (slot + count - entry) next entry now (omega arith))
 
-  module _ (x : left ≡ 0 → ⊥) where
-    pub walking-room : entry < slot_count
-    walking-room = omega (arith, w.room)
-
+  module _ (h : entry < slot + count) where
     pub walking-past : (n : ℕ) (a : Scan) → a ≡ one next → a ≡ Past n
-        → Walking one count at slot found (left - 1) n (entry + 1) (set now entry next)
+        → Walking one count at slot found (entry + 1) n (set now entry next)
     walking-past n a q p = record {
-      room = omega (arith, w.room);
-      rest = λ last r u. w.rest last r (walked-past one left next entry now n a r last x q p u);
+      rest = λ last r u.
+          let e : slot + count - (entry + 1) ≡ slot + count - entry - 1 = omega arith in
+          w.rest last r
+          (walked-past one (slot + count - entry) next entry now n a r last (λ z. omega arith) q p (rw e at u));
     }
 
     pub walking-fault : (f i : ℕ) (a : Scan) → a ≡ one next → a ≡ Fault f i
         → Walked one count at slot found (set now entry next) (Fault f i)
     walking-fault f i a q p = w.rest (set now entry next) (Fault f i)
-        (walked-fault one left next entry now f i a x q p)
+        (walked-fault one (slot + count - entry) next entry now f i a (λ z. omega arith) q p)
 
-pub record Laying (version : ℕ) (part : Part) (count : ℕ) (nums : List ℕ) (at : ℕ) (found : List ℕ) (left next : ℕ)
-    (now : List ℕ) : Type 0 where
-  pub rest : (last : List ℕ) (r : Scan) → LaysParts version part left nums next now last r
+pub record Laying (version : ℕ) (part : Part) (count slot : ℕ) (nums : List ℕ) (at : ℕ) (found : List ℕ)
+    (entry next : ℕ) (now : List ℕ) : Type 0 where
+  pub rest : (last : List ℕ) (r : Scan) → LaysParts version part (slot + count - entry) nums next now last r
       → LaysParts version part count nums at found last r
 
-module _ (version : ℕ) (part : Part) (count : ℕ) (nums : List ℕ) (at : ℕ) (found : List ℕ) where
-  pub laying-first : Laying version part count nums at found count at found
-  laying-first = record { rest = λ last r w. w }
+module _ (version : ℕ) (part : Part) (count slot : ℕ) (nums : List ℕ) (at : ℕ) (found : List ℕ) where
+  pub laying-first : Laying version part count slot nums at found slot at found
+  laying-first =
+      let e : slot + count - slot ≡ count = omega arith in
+      record { rest = λ last r w. rw e at w }
 
-  module _ (left next : ℕ) (now : List ℕ) (w : Laying version part count nums at found left next now) where
-    pub laying-none : left ≡ 0 → LaysParts version part count nums at found now (Past next)
-    laying-none e = w.rest now (Past next) (ends-none version part left nums next now e)
+  module _ (entry next : ℕ) (now : List ℕ) (w : Laying version part count slot nums at found entry next now) where
+    pub laying-none : slot + count ≤ entry → LaysParts version part count nums at found now (Past next)
+    laying-none h =
+        w.rest now (Past next) (ends-none version part (slot + count - entry) nums next now (omega arith))
 
-    module _ (mid : List ℕ) (a : Scan) (x : left ≡ 0 → ⊥) (v : LaysPart version part nums next now mid a) where
-      pub laying-past : (n : ℕ) → a ≡ Past n → Laying version part count nums at found (left - 1) n mid
+    module _ (mid : List ℕ) (a : Scan) (h : entry < slot + count) (v : LaysPart version part nums next now mid a) where
+      pub laying-past : (n : ℕ) → a ≡ Past n → Laying version part count slot nums at found (entry + 1) n mid
       laying-past n p = record {
-        rest = λ last r u. w.rest last r (ends-past version part left nums next now n mid last a r x v p u);
+        rest = λ last r u.
+            let e : slot + count - (entry + 1) ≡ slot + count - entry - 1 = omega arith in
+            w.rest last r
+            (ends-past version part (slot + count - entry) nums next now n mid last a r (λ z. omega arith) v p
+            (rw e at u));
       }
 
       pub laying-fault : (f i : ℕ) → a ≡ Fault f i → LaysParts version part count nums at found mid (Fault f i)
-      laying-fault f i p = w.rest mid (Fault f i) (ends-fault version part left nums next now f i mid a x v p)
+      laying-fault f i p =
+          w.rest mid (Fault f i)
+          (ends-fault version part (slot + count - entry) nums next now f i mid a (λ z. omega arith) v p)
 
 pub ruleset walks = (
   walking-first,
   walking-none,
-  walking-room,
   walking-past,
   walking-fault,
   laying-first,
@@ -166,11 +173,11 @@ module _ (version : ℕ) (part : Part) (least most : ℕ) (nums : List ℕ) (at 
   unfolding list_ends
   list-no-ends f i p = record { laid = rw (← q, p) tt }
 
-pub list-room : (least most : ℕ) (nums : List ℕ) (at slot n next : ℕ) (v : Value) → v ≡ value_of least most nums at
-    → v ≡ Of n next → slot + most < slot_count
+pub list-room : (least most : ℕ) (nums : List ℕ) (at slot n next : ℕ) → Of n next ≡ value_of least most nums at
+    → slot + most < slot_count
     → slot + 1 + n ≤ slot_count
 unfolding AtMost
-list-room least most nums at slot n next v q p h = omega (arith, rw (← q, p) at (value-most least most nums at))
+list-room least most nums at slot n next q h = omega (arith, rw (← q) at (value-most least most nums at))
 
 pub ruleset list_walks = (list-walked, list-unwalked, list-ends, list-no-ends, list-room)
 

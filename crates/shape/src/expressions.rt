@@ -188,11 +188,8 @@ pub(crate) fn scan_exprs(
     ensures { Lays (repeat count (read_expr version depth)) lay_exprs nums.now at ends.old ends.new (told result) }
 {
     let mut next = at;
-    let mut left = count;
-    while left != 0 {
-        let end = scan_expr(nums, version, depth, next, ends)?;
-        next = end;
-        left -= 1;
+    for _ in 0..count {
+        next = scan_expr(nums, version, depth, next, ends)?;
     }
     Ok(next)
 }

@@ -59,14 +59,9 @@ fn parts_at(
     ensures lays_parts { LaysParts version part count nums.now at ends.old ends.new (told result) }
 {
     let mut next = at;
-    let mut entry = slot;
-    let mut left = count;
-    while left != 0 {
+    for entry in slot..slot + count as usize {
         directory[entry] = next as u64;
-        let end = part_at(nums, version, part, next, ends)?;
-        next = end;
-        entry += 1;
-        left -= 1;
+        next = part_at(nums, version, part, next, ends)?;
     }
     Ok(next)
 }

@@ -252,11 +252,8 @@ fn scan_stmts(
     ensures { Lays (repeat count (read_stmt version depth)) lay_members nums.now at ends.old ends.new (told result) }
 {
     let mut next = at;
-    let mut left = count;
-    while left != 0 {
-        let end = scan_stmt(nums, version, depth, next, ends)?;
-        next = end;
-        left -= 1;
+    for _ in 0..count {
+        next = scan_stmt(nums, version, depth, next, ends)?;
     }
     Ok(next)
 }

@@ -35,11 +35,8 @@ fn keys_at(nums: &[u64], version: u64, count: u64, at: usize, ends: &mut [u64; N
     ensures { Lays (repeat count (read_key version)) lay_keys nums.now at ends.old ends.new (told result) }
 {
     let mut next = at;
-    let mut left = count;
-    while left != 0 {
-        let end = key_at(nums, version, next, ends)?;
-        next = end;
-        left -= 1;
+    for _ in 0..count {
+        next = key_at(nums, version, next, ends)?;
     }
     Ok(next)
 }

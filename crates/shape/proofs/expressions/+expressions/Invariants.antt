@@ -12,8 +12,5 @@ decreases-scan_expr l = l.depth + l.depth
 abbrev pub decreases-scan_exprs : goal.decreases-scan_exprs
 decreases-scan_exprs l = l.depth + l.depth + 1
 
-abbrev pub invariant-scan_exprs-loop-left : goal.invariant-scan_exprs-loop-left
-invariant-scan_exprs-loop-left l = Pending (read_expr l.version l.depth) lay_exprs l.count l.nums l.at l.initial.ends l.left l.next l.ends
-
-abbrev pub decreases-scan_exprs-loop-left : goal.decreases-scan_exprs-loop-left
-decreases-scan_exprs-loop-left l = l.left
+abbrev pub invariant-scan_exprs-loop : goal.invariant-scan_exprs-loop
+invariant-scan_exprs-loop l = Pending (read_expr l.version l.depth) lay_exprs l.count l.nums l.at l.initial.ends l.counter l.next l.ends

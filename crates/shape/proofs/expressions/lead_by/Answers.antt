@@ -5,7 +5,7 @@ use borrow.Author.Rules.{rules}
 use Rattle.shape.proofs.expressions.lead_by.Goals as goal
 
 pub returns-in_err-next : goal.returns-in_err-next
-returns-in_err-next c = let p = err_from_is_err_and c.from_residual.result c.from_residual.ensures.1 in rw (p.1, p.2) (search (leads, c.in_err-next.ensures, rules))
+returns-in_err-next c = let p = err_from_is_err_and c.from_residual.result c.from_residual.ensures.1 in rw (p.1, p.2) (search (leads, c.in_err-next.was, rules))
 
 pub returns : goal.returns
-returns c = search (leads, c.in_ok-next.ensures, rules)
+returns c = search (leads, c.in_ok-next.was, rules)

@@ -12,3 +12,6 @@ returns-in_err-next-clause-lays_ends c = let p = err_from_is_err_and c.from_resi
 
 pub returns-clause-lays_directory : goal.returns-clause-lays_directory
 returns-clause-lays_directory c = search (declarations, c.in_ok-next.ensures, rules)
+
+pub returns-clause-lays_ends : goal.returns-clause-lays_ends
+returns-clause-lays_ends c = search (declarations, c.in_ok-next.ensures, rules)

@@ -26,8 +26,11 @@ scan_stmt-returns-then-depth-eq0 t c = search (stmt_steps, rules)
 pub scan_stmt-returns-in_ok-end : goal.scan_stmt-returns-in_ok-end
 scan_stmt-returns-in_ok-end t c = search (stmt_steps, c.in_ok-next.ensures, c.in_ok-after.ensures, c.in_ok-end.ensures, rules)
 
-pub scan_stmts-returns-in_err-end : goal.scan_stmts-returns-in_err-end
-scan_stmts-returns-in_err-end t c = let p = err_from_is_err_and c.from_residual.result c.from_residual.ensures.1 in rw (p.1, p.2) (search (stmt_lists, c.in_err-end.ensures, rules))
+pub scan_stmts-returns-in_err-next : goal.scan_stmts-returns-in_err-next
+scan_stmts-returns-in_err-next t c = let p = err_from_is_err_and c.from_residual.result c.from_residual.ensures.1 in rw (p.1, p.2) (search (stmt_lists, c.in_err-next.ensures, rules))
 
-pub scan_stmts-loop-left-preserved : goal.scan_stmts-loop-left-preserved
-scan_stmts-loop-left-preserved t c = search (stmt_lists, c.in_ok-end.ensures, rules)
+pub scan_stmts-loop-preserved : goal.scan_stmts-loop-preserved
+scan_stmts-loop-preserved t c = search (stmt_lists, c.in_ok-next.ensures, rules)
+
+pub scan_stmts-returns : goal.scan_stmts-returns
+scan_stmts-returns t c = search (stmt_lists, rules)

@@ -12,8 +12,5 @@ decreases-scan_stmt l = l.depth + l.depth
 abbrev pub decreases-scan_stmts : goal.decreases-scan_stmts
 decreases-scan_stmts l = l.depth + l.depth + 1
 
-abbrev pub invariant-scan_stmts-loop-left : goal.invariant-scan_stmts-loop-left
-invariant-scan_stmts-loop-left l = Pending (read_stmt l.version l.depth) lay_members l.count l.nums l.at l.initial.ends l.left l.next l.ends
-
-abbrev pub decreases-scan_stmts-loop-left : goal.decreases-scan_stmts-loop-left
-decreases-scan_stmts-loop-left l = l.left
+abbrev pub invariant-scan_stmts-loop : goal.invariant-scan_stmts-loop
+invariant-scan_stmts-loop l = Pending (read_stmt l.version l.depth) lay_members l.count l.nums l.at l.initial.ends l.counter l.next l.ends

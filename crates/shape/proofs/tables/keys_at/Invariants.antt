@@ -4,8 +4,5 @@ use Rattle.shape.specs.Parts.{lay_keys}
 use Rattle.shape.proofs.Lays.{Pending}
 use Rattle.shape.proofs.tables.keys_at.Given as goal
 
-abbrev pub invariant-loop-left : goal.invariant-loop-left
-invariant-loop-left l = Pending (read_key l.version) lay_keys l.count l.nums l.at l.initial.ends l.left l.next l.ends
-
-abbrev pub decreases-loop-left : goal.decreases-loop-left
-decreases-loop-left l = l.left
+abbrev pub invariant-loop : goal.invariant-loop
+invariant-loop l = Pending (read_key l.version) lay_keys l.count l.nums l.at l.initial.ends l.counter l.next l.ends
