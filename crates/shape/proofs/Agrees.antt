@@ -5,10 +5,8 @@ use Prim.Native.Nat.{ℕ, ◌+◌, ◌<◌, ◌≤◌}
 use lib.ListN.{length, drop}
 use Rattle.rules.specs.Reading.{Got, got, bad, Reader, and_then, ◌>>=◌, pure, number, between, repeat, list_of, most_arguments, most_members}
 use Rattle.rules.proofs.Readers.{Kept, Keeps, keeps-number, keeps-between, keeps-repeat, Given, Gives}
-use Rattle.shape.specs.Scans.{forget, scan_of}
-use Rattle.shape.specs.Leads.{valued, value_of, lead_by, arguments_lead, call_lead, block_lead, Agree, AgreeOn, Tagged}
-use Rattle.shape.specs.Scans.{Scan, Past, Fault}
-use Rattle.shape.specs.Leads.{Lead, On, Off}
+use Rattle.shape.specs.Scans.{forget, scan_of, Scan, Past, Fault}
+use Rattle.shape.specs.Leads.{valued, value_of, lead_by, arguments_lead, call_lead, block_lead, Agree, AgreeOn, Tagged, Lead, On, Off}
 
 pub record Alike {A B : Type 0} (P : A → B → Type 0) (read : Reader A) (parts : Reader B) : Type 0 where
   pub alike : (left : List ℕ) (at : ℕ) → Agree P (read left at) (parts left at)

@@ -13,13 +13,10 @@ use Rattle.rules.specs.Reading.{Got, got, bad, Reader, and_then, ◌>>=◌, pure
 use Rattle.rules.specs.Reading.{tag_local, tag_parameter, tag_global, tag_field, ExprTag, tag_bool, tag_bits, tag_place, tag_valid, tag_not, tag_complement, tag_binary, tag_cast, tag_slice, tag_concatenation, tag_call}
 use Rattle.rules.specs.Reading.{expr_tags, to_args, read_place, read_expr_as, read_expr}
 use Rattle.rules.proofs.Readers.{Keeps, keeps-number, keeps-stands, keeps-between, keeps-list, keeps-place, keeps-expr, keeps-repeat, looked-in, Gives, gives_then, gives-pure, Starts, starts-here, starts-deep}
-use Rattle.shape.specs.Scans.{forget, scan_of}
+use Rattle.shape.specs.Scans.{forget, scan_of, Scan, Past, Fault}
 use Rattle.shape.specs.Ends.{most_numbers, expr_at, args_at, lay_expr, lay_args, first_at, lay_all}
 use Rattle.shape.specs.Walks.{Laid, Lays}
-use Rattle.shape.specs.Leads.{on_scan, value_of, on_value, lead_by, on_lead, arguments_lead, call_lead, form_of, expr_form, expr_lead, LeadsExpr, Agree, AgreeOn, next_of, Made, lay_exprs, read_operands, Tagged}
-use Rattle.shape.specs.Scans.{Scan, Past, Fault}
-use Rattle.shape.specs.Leads.{Value, Of, Unread}
-use Rattle.shape.specs.Leads.{Lead, On, Off}
+use Rattle.shape.specs.Leads.{on_scan, value_of, on_value, lead_by, on_lead, arguments_lead, call_lead, form_of, expr_form, expr_lead, LeadsExpr, Agree, AgreeOn, next_of, Made, lay_exprs, read_operands, Tagged, Value, Of, Unread, Lead, On, Off}
 use Rattle.shape.specs.declared.expressions.ExprForm.{ExprForm}
 use Rattle.shape.proofs.Laws.{Scans, scans-self, scans-then, scans-pure, scans-last, scans-as, scan-here, stands-is, stands-none, stands-out}
 use Rattle.shape.proofs.Laws.{scans-none, scans-one, scans-two, list-scan}

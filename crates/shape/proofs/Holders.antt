@@ -10,15 +10,14 @@ use Rattle.rules.specs.Reading.{Got, got, bad, Reader, and_then, ◌>>=◌, pure
 use Rattle.rules.specs.Reading.{key_kinds, callable_kinds, type_of}
 use Rattle.rules.specs.Reading.{read_expr, read_stmt, read_parameter, read_returns, read_callable, read_numeral, read_key, read_table}
 use Rattle.rules.proofs.Readers.{Keeps, keeps_then, keeps-stands, keeps-list, keeps-numeral, keeps-key, keeps-pure, Given, gives_then, gives-pure, Starts, starts-here}
-use Rattle.shape.specs.Scans.{scan_of}
-use Rattle.shape.specs.Leads.{value_of}
-use Rattle.shape.specs.Parts.{list_scan, item_scan, read_returning, read_frame, lay_keys, read_choices, lay_choices, read_default}
+use Rattle.std.specs.Prelude.{Result}
+use Rattle.rules.specs.declared.Fault as rules
+use Rattle.shape.specs.Scans.{scan_of, Scan, Past, Fault}
+use Rattle.shape.specs.Leads.{value_of, Value, Of, Unread}
+use Rattle.shape.specs.Parts.{Tells, Lists, read_returning, read_frame, lay_keys, read_choices, lay_choices, read_default}
 use Rattle.shape.specs.Ends.{first_at, key_at, lay_expr, lay_stmt, lay_key, lay_callable, numeral_at, lay_table}
 use Rattle.shape.specs.Walks.{Lays, no_ends}
 use Rattle.shape.proofs.Lays.{lays-then, lays-fault, lays-as, lays-none, lays-scan, BegunAt, Begins, begins-list, lays-next, pendings, lays-counted, lays-uncounted, pair_then, then_same, then-assoc}
-use Rattle.shape.specs.Scans.{Scan, Past, Fault}
-use Rattle.shape.specs.Leads.{Value, Of, Unread}
-use Rattle.shape.specs.declared.items.Item.TheVariants.{NumeralItem}
 use Rattle.shape.proofs.Laws.{seq-fault}
 use Rattle.shape.proofs.Parts.{scans-key, scans-numerals, behind-head, keeps-returning, keeps-frame}
 
@@ -59,15 +58,15 @@ module _ (version : ℕ) (nums : List ℕ) (at : ℕ) (found : List ℕ) where
   key-list-fault f i v q p = lays-uncounted (read_key version) lay_keys 1 most_keys nums at f i found found v q p
 
   -- tables
-  pub choices-past : (n : ℕ) (filled : List ℕ) (a r : Scan)
+  pub choices-past : (n : ℕ) (filled : List ℕ) (a r : Scan) (numeral : ℕ → Result ℕ rules.Fault → Type 0)
       → Lays (list_of 1 most_keys (read_key version)) lay_keys nums at found filled a → a ≡ Past n
-      → r ≡ list_scan (item_scan version NumeralItem nums) 1 most_actions nums n
+      → Lists numeral 1 most_actions nums n r → Tells numeral (scan_of (read_numeral version) nums)
       → Lays (read_choices version) lay_choices nums at found filled r
   unfolding read_choices lay_choices no_ends
-  choices-past n filled a r w p q =
+  choices-past n filled a r numeral w p v t =
       lays-next (λ ks ns. (ks, ns)) lay_choices (λ ns end. first_at numeral_at ns end - 1) (λ ks ns end slots. refl)
       (keeps-list 1 most_keys (keeps-key version)) (begins-list 1 most_actions (starts-numeral version)) w p
-      (lays-scan filled (q ∙ sym ((scans-numerals version nums 1 most_actions).scan n)))
+      (lays-scan filled (v.scan _ t ∙ sym ((scans-numerals version nums 1 most_actions).scan n)))
 
   pub choices-fault : (f i : ℕ) (filled : List ℕ) (a : Scan)
       → Lays (list_of 1 most_keys (read_key version)) lay_keys nums at found filled a

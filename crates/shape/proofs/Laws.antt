@@ -11,10 +11,8 @@ use lib.Dec.{ltb, leb, leb-zero, leb-suc-suc}
 use borrow.Author.Tests.{lt-ltb, le-ltb, le-leb, lt-leb, ltb-true, ltb-false}
 use Rattle.rules.specs.Reading.{Got, got, bad, Reader, and_then, ◌>>=◌, pure, here, number, meaning, looked_up, stands_for, between, within, repeat, list_of, too_deep}
 use Rattle.rules.proofs.Readers.{Kept, Keeps, keeps-pure, keeps-repeat, keeps-between, looked-in, looked-out, number_in, number-out, deep_in, deep_out}
-use Rattle.shape.specs.Scans.{forget, scan_of}
-use Rattle.shape.specs.Leads.{on_scan, valued, value_of, on_value}
-use Rattle.shape.specs.Scans.{Scan, Past, Fault}
-use Rattle.shape.specs.Leads.{Value, Of, Unread}
+use Rattle.shape.specs.Scans.{forget, scan_of, Scan, Past, Fault}
+use Rattle.shape.specs.Leads.{on_scan, valued, value_of, on_value, Value, Of, Unread}
 
 -- a number of any value
 pub number-is : (nums : List ℕ) (at : ℕ) → at < length nums → Past (at + 1) ≡ scan_of number nums at

@@ -9,12 +9,10 @@ use native.Mathlib.Numerals.{sub-one}
 use lib.ListN.{drop}
 use Rattle.rules.specs.Reading.{Got, got, bad, Reader, and_then, ◌>>=◌, pure, meaning, looked_up, stands_for, between, within, repeat, list_of, too_deep}
 use Rattle.rules.proofs.Readers.{Kept, Keeps, keeps-between, Given, Starts}
-use Rattle.shape.specs.Scans.{forget, scan_of}
+use Rattle.shape.specs.Scans.{forget, scan_of, Scan, Past, Fault}
 use Rattle.shape.specs.Ends.{first_at, lay_all}
-use Rattle.shape.specs.Leads.{valued, value_of}
+use Rattle.shape.specs.Leads.{valued, value_of, Value, Of, Unread}
 use Rattle.shape.specs.Walks.{Laid, Lays, no_ends}
-use Rattle.shape.specs.Scans.{Scan, Past, Fault}
-use Rattle.shape.specs.Leads.{Value, Of, Unread}
 use Rattle.shape.proofs.Laws.{deep-same, repeat-none}
 
 -- what a reader that was scanned gave, with the slots that it filled

@@ -1,53 +1,25 @@
--- Items and parts by their kind, and lists of items.
+-- Parts by their kind, and lists of items.
 use mathlib.Core.Path.{◌≡◌, refl, ◌∙◌}
 use mathlib.Core.List.{List}
 use Prim.Native.Nat.{ℕ, zero, suc, ◌+◌, ◌-◌, ◌<◌, ◌≤◌}
 use native.Mathlib.Numerals.{sub-one}
 use native.Mathlib.Omega.{arith}
 use native.Mathlib.Nat.{sub-zero}
-use Rattle.rules.specs.Words.{widest}
-use Rattle.rules.specs.Reading.{between, stands_for}
-use Rattle.rules.specs.Reading.{type_of}
-use Rattle.rules.specs.Reading.{read_header, read_global, read_parameter, read_callable, read_numeral, read_table, read_pair, read_state}
-use Rattle.shape.specs.Scans.{scan_of}
-use Rattle.shape.specs.Leads.{on_scan, value_of, on_value}
-use Rattle.shape.specs.Parts.{repeat_scan, list_scan, item_scan, part_scan}
+use Rattle.rules.specs.Reading.{read_header, read_global, read_callable, read_table, read_state}
+use Rattle.std.specs.Prelude.{Result, Ok, Err}
+use Rattle.rules.specs.Answers.{number_of}
+use Rattle.rules.specs.declared.Fault as rules
+use Rattle.shape.specs.Scans.{told, scan_of, Scan, Past, Fault}
+use Rattle.shape.specs.Leads.{on_scan, value_of, on_value, Value, Of, Unread}
+use Rattle.shape.specs.Parts.{repeat_scan, list_scan, Tells, Repeats, Lists, part_scan}
 use Rattle.shape.specs.Ends.{lay_callable, lay_table, lay_state}
 use Rattle.shape.specs.Walks.{Lays, part_ends, LaysPart}
 use Rattle.shape.proofs.Lays.{lays-scan}
-use Rattle.shape.specs.Scans.{Scan, Past, Fault}
-use Rattle.shape.specs.Leads.{Value, Of, Unread}
-use Rattle.shape.specs.declared.items.Item.{Item}
-use Rattle.shape.specs.declared.items.Item.TheVariants.{WidthItem, TypeItem, ParameterItem, NumeralItem, PairItem}
 use Rattle.shape.specs.declared.program.Part.{Part}
 use Rattle.shape.specs.declared.program.Part.TheVariants.{HeaderPart, GlobalPart, CallablePart, TablePart, StatePart}
 use Rattle.shape.proofs.Laws.{seq-past, seq-fault}
 
--- items and parts by their kind, and lists of items
-module _ (version : ℕ) (nums : List ℕ) (at : ℕ) (r : Scan) where
-  module _ (item : Item) where
-    pub width-item : item ≡ WidthItem → r ≡ scan_of (between 1 widest) nums at → r ≡ item_scan version item nums at
-    unfolding item_scan
-    width-item e q = rw e q
-
-    pub type-item : item ≡ TypeItem → r ≡ scan_of (stands_for (type_of version)) nums at
-        → r ≡ item_scan version item nums at
-    unfolding item_scan
-    type-item e q = rw e q
-
-    pub parameter-item : item ≡ ParameterItem → r ≡ scan_of (read_parameter version) nums at
-        → r ≡ item_scan version item nums at
-    unfolding item_scan
-    parameter-item e q = rw e q
-
-    pub numeral-item : item ≡ NumeralItem → r ≡ scan_of (read_numeral version) nums at → r ≡ item_scan version item nums at
-    unfolding item_scan
-    numeral-item e q = rw e q
-
-    pub pair-item : item ≡ PairItem → r ≡ scan_of (read_pair version) nums at → r ≡ item_scan version item nums at
-    unfolding item_scan
-    pair-item e q = rw e q
-
+-- parts by their kind
 module _ (version : ℕ) (nums : List ℕ) (at : ℕ) (r : Scan) (part : Part) (found : List ℕ) where
   pub header-part : part ≡ HeaderPart → r ≡ scan_of (read_header version) nums at
       → LaysPart version part nums at found found r
@@ -76,11 +48,6 @@ module _ (version : ℕ) (nums : List ℕ) (at : ℕ) (r : Scan) (part : Part) (
   state-part filled e w = record { scan = rw e w.scan; laid = rw e w.laid }
 
 pub ruleset kinds = (
-  width-item,
-  type-item,
-  parameter-item,
-  numeral-item,
-  pair-item,
   header-part,
   global-part,
   callable-part,
@@ -88,6 +55,7 @@ pub ruleset kinds = (
   state-part,
 )
 
+-- lists of items
 module _ (one : ℕ → Scan) (count at : ℕ) where
   pub items-none : count ≡ 0 → Past at ≡ repeat_scan one count at
   unfolding repeat_scan
@@ -110,28 +78,34 @@ module _ (one : ℕ → Scan) (count at : ℕ) where
   items-fault f i a x q p = seq-fault _ _ _ (items_more x) a q f i p
 
 -- so many items of which some are done: what the rest scans to, all scan to
-pub record Remaining (one : ℕ → Scan) (count at done next : ℕ) : Type 0 where
-  pub rest : repeat_scan one (count - done) next ≡ repeat_scan one count at
+pub record Remaining (post : ℕ → Result ℕ rules.Fault → Type 0) (count at done next : ℕ) : Type 0 where
+  pub rest : (one : ℕ → Scan) → Tells post one → repeat_scan one (count - done) next ≡ repeat_scan one count at
 
-pub remaining-first : (one : ℕ → Scan) (count at : ℕ) → Remaining one count at 0 at
-remaining-first one count at = record { rest = rw sub-zero refl }
+module _ (post : ℕ → Result ℕ rules.Fault → Type 0) (count at : ℕ) where
+  pub remaining-first : Remaining post count at 0 at
+  remaining-first = record { rest = λ one t. rw sub-zero refl }
 
-module _ (one : ℕ → Scan) (count at done next : ℕ) (w : Remaining one count at done next) where
-  pub remaining-none : count ≤ done → Past next ≡ repeat_scan one count at
-  remaining-none h = items-none one (count - done) next (omega arith) ∙ w.rest
+  module _ (done next : ℕ) (w : Remaining post count at done next) where
+    pub remaining-none : count ≤ done → Repeats post count at (Past next)
+    remaining-none h = record
+        { scan = λ one t. items-none one (count - done) next (omega arith) ∙ w.rest one t }
 
-  pub remaining-past : (n : ℕ) (a : Scan) → done < count → a ≡ one next → a ≡ Past n
-      → Remaining one count at (done + 1) n
-  remaining-past n a h q p =
-      let e : count - done - 1 ≡ count - (done + 1) = omega arith in
-      record {
-        rest = items-past one (count - done) next n a (repeat_scan one (count - (done + 1)) n) (λ z. omega arith) q p
-            (rw e refl) ∙ w.rest;
-      }
+    pub remaining-past : (n : ℕ) → done < count → post next (Ok n) → Remaining post count at (done + 1) n
+    remaining-past n h p = record {
+      rest = λ one t.
+          let e : count - done - 1 ≡ count - (done + 1) = omega arith in
+          items-past one (count - done) next n (Past n) (repeat_scan one (count - (done + 1)) n) (λ z. omega arith)
+          (t next (Ok n) p) refl (rw e refl)
+          ∙ w.rest one t;
+    }
 
-  pub remaining-fault : (f i : ℕ) (a : Scan) → done < count → a ≡ one next → a ≡ Fault f i
-      → Fault f i ≡ repeat_scan one count at
-  remaining-fault f i a h q p = items-fault one (count - done) next f i a (λ z. omega arith) q p ∙ w.rest
+    pub remaining-fault : (f : rules.Fault) → done < count → post next (Err f) → Repeats post count at (told (Err f))
+    remaining-fault f h p = record {
+      scan = λ one t.
+          items-fault one (count - done) next (number_of f.reason) f.index (told (Err f)) (λ z. omega arith)
+          (t next (Err f) p) refl
+          ∙ w.rest one t;
+    }
 
 module _ (one : ℕ → Scan) (least most : ℕ) (nums : List ℕ) (at : ℕ) (v : Value)
     (q : v ≡ value_of least most nums at) where
@@ -144,4 +118,18 @@ module _ (one : ℕ → Scan) (least most : ℕ) (nums : List ℕ) (at : ℕ) (v
   unfolding list_scan on_value
   list-fault f i p = rw (← q, p)
 
-pub ruleset lists = (remaining-first, remaining-none, remaining-past, remaining-fault, list_of, list-fault)
+-- and of items
+module _ (post : ℕ → Result ℕ rules.Fault → Type 0) (least most : ℕ) (nums : List ℕ) (at : ℕ) where
+  pub items-listed : (n next : ℕ) (r : Scan) → Of n next ≡ value_of least most nums at → Repeats post n next r
+      → Lists post least most nums at r
+  items-listed n next r q w = record
+      { scan = λ one t. list_of one least most nums at (Of n next) q n next r refl (w.scan one t) }
+
+  pub items-unlisted : (f i : ℕ) → Unread f i ≡ value_of least most nums at → Lists post least most nums at (Fault f i)
+  items-unlisted f i q = record { scan = λ one t. list-fault one least most nums at (Unread f i) q f i refl }
+
+  pub lists-scan : (one : ℕ → Scan) (r : Scan) → Lists post least most nums at r → Tells post one
+      → r ≡ list_scan one least most nums at
+  lists-scan one r w t = w.scan one t
+
+pub ruleset lists = (remaining-first, remaining-none, remaining-past, remaining-fault, items-listed, items-unlisted)

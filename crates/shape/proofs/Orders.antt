@@ -12,13 +12,10 @@ use Rattle.rules.specs.Syntax.{Expr, Stmt}
 use Rattle.rules.specs.Reading.{most_arguments, most_members, highest_bound}
 use Rattle.rules.specs.Reading.{Got, got, bad, Reader, and_then, ◌>>=◌, pure, number, between, repeat, too_deep, to_args, to_stmts, read_expr, read_stmt}
 use Rattle.rules.proofs.Readers.{Kept, Keeps, keeps-number, keeps-between, keeps-stands, keeps-repeat, keeps_then, keeps-expr, keeps-target, keeps-stmt, Given, Starts}
-use Rattle.shape.specs.Scans.{forget, scan_of}
+use Rattle.shape.specs.Scans.{forget, scan_of, Past, Fault}
 use Rattle.shape.specs.Directory.{stmt_at}
 use Rattle.shape.specs.Ends.{expr_at, first_at}
-use Rattle.shape.specs.Leads.{on_scan, on_lead, valued, value_of, lead_by, arguments_lead, call_lead, block_lead, expr_form, expr_lead, stmt_form, stmt_lead, stmt_laid, read_literal}
-use Rattle.shape.specs.Leads.{Agree, AgreeOn, next_of, read_operands, read_parts, parts_at, LeadsExpr, LeadsStmt}
-use Rattle.shape.specs.Scans.{Past, Fault}
-use Rattle.shape.specs.Leads.{Lead, On, Off}
+use Rattle.shape.specs.Leads.{on_scan, on_lead, valued, value_of, lead_by, arguments_lead, call_lead, block_lead, expr_form, expr_lead, stmt_form, stmt_lead, stmt_laid, read_literal, Agree, AgreeOn, next_of, read_operands, read_parts, parts_at, LeadsExpr, LeadsStmt, Lead, On, Off}
 use Rattle.shape.specs.declared.expressions.ExprForm.{ExprForm}
 use Rattle.shape.specs.declared.expressions.ExprForm.TheVariants.{Number, Field, Literal, Operand, Binary, Cast, Slice, Operands, Call, Unlisted}
 use Rattle.shape.specs.declared.statements.StmtForm.{StmtForm}

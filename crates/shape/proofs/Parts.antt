@@ -15,12 +15,12 @@ use Rattle.rules.specs.Reading.{Reader, ◌>>=◌, pure, number, within, between
 use Rattle.rules.specs.Reading.{kind_action, kind_function, directions, key_kinds, callable_kinds, bits_of, type_of, or_header, global_type_of}
 use Rattle.rules.specs.Reading.{read_expr, read_stmt, read_header, read_global, read_parameter, read_returns, read_numeral, read_key, read_pair}
 use Rattle.rules.proofs.Readers.{Keeps, keeps_then, keeps-number, keeps-stands, keeps-between, keeps-list, keeps-expr, keeps-parameter, keeps-returns, keeps-numeral, keeps-pair, keeps-pure}
-use Rattle.shape.specs.Scans.{scan_of}
-use Rattle.shape.specs.Leads.{on_scan, value_of, on_value}
-use Rattle.shape.specs.Parts.{repeat_scan, list_scan, item_scan, read_returning, read_frame, read_default}
-use Rattle.shape.specs.Scans.{Scan, Past, Fault}
-use Rattle.shape.specs.Leads.{Value, Of, Unread}
-use Rattle.shape.specs.declared.items.Item.TheVariants.{WidthItem, TypeItem, ParameterItem, NumeralItem, PairItem}
+use Rattle.std.specs.Prelude.{Result}
+use Rattle.rules.specs.declared.Fault as rules
+use Rattle.shape.specs.Scans.{scan_of, Scan, Past, Fault}
+use Rattle.shape.specs.Leads.{on_scan, value_of, on_value, Value, Of, Unread}
+use Rattle.shape.specs.Parts.{repeat_scan, list_scan, Tells, Lists, read_returning, read_frame, read_default}
+use Rattle.shape.proofs.Listings.{lists-scan}
 use Rattle.shape.proofs.Laws.{on_same, Scans, scans-self, scans-then, scans-pure, scans-here, scans-last, scans-as, scans-two, stands-is, seq-past, seq-fault}
 use Rattle.shape.proofs.Laws.{is_some, Spans, some-within, scan-like, spans-scan, spans-list, list-scan, repeat-none, scans-repeat, IsValue, value-inv, between-fault, scan-fault, stands-some, stands-lacks}
 
@@ -102,44 +102,40 @@ module _ (version : ℕ) (nums : List ℕ) where
   scans-key = scans-here λ at. scans-then (keeps-stands _) (scans-self _ nums) λ kind.
       scans-last (keeps-expr version deepest) (scans-self _ nums) λ e. scans-pure _
 
-  scans-header : Scans (read_header version) nums (list_scan (item_scan version WidthItem nums) 1 most_fields nums)
-  unfolding read_header item_scan
+  scans-header : Scans (read_header version) nums (list_scan (scan_of (between 1 widest) nums) 1 most_fields nums)
+  unfolding read_header
   scans-header =
       scans-here λ at. scans-last (keeps-list 1 most_fields (keeps-between 1 widest))
       (scans-items 1 most_fields (keeps-between 1 widest) (scans-self _ nums)) λ ws. scans-pure _
 
-  pub header_is : (at : ℕ) (r : Scan) → r ≡ list_scan (item_scan version WidthItem nums) 1 most_fields nums at
+  pub header_is : (at : ℕ) (r : Scan) → r ≡ list_scan (scan_of (between 1 widest) nums) 1 most_fields nums at
       → r ≡ scan_of (read_header version) nums at
   header_is at r e = e ∙ sym (scans-header.scan at)
 
   scans-parameters : Scans (list_of 0 most_parameters (read_parameter version)) nums
-      (list_scan (item_scan version ParameterItem nums) 0 most_parameters nums)
-  unfolding item_scan
+      (list_scan (scan_of (read_parameter version) nums) 0 most_parameters nums)
   scans-parameters = scans-items 0 most_parameters (keeps-parameter version) (scans-self _ nums)
 
   scans-locals : Scans (list_of 0 most_locals (stands_for (type_of version))) nums
-      (list_scan (item_scan version TypeItem nums) 0 most_locals nums)
-  unfolding item_scan
+      (list_scan (scan_of (stands_for (type_of version)) nums) 0 most_locals nums)
   scans-locals = scans-items 0 most_locals (keeps-stands _) (scans-self _ nums)
 
   pub scans-numerals : (least most : ℕ)
       → Scans (list_of least most (read_numeral version)) nums
-      (list_scan (item_scan version NumeralItem nums) least most nums)
-  unfolding item_scan
+      (list_scan (scan_of (read_numeral version) nums) least most nums)
   scans-numerals least most = scans-items least most (keeps-numeral version) (scans-self _ nums)
 
   pub scans-pairs : (least most : ℕ)
       → Scans (list_of least most (read_pair version)) nums
-      (list_scan (item_scan version PairItem nums) least most nums)
-  unfolding item_scan
+      (list_scan (scan_of (read_pair version) nums) least most nums)
   scans-pairs least most = scans-items least most (keeps-pair version) (scans-self _ nums)
 
   frame-keeps : Keeps (list_of 0 most_locals (stands_for (type_of version)))
   frame-keeps = keeps-list 0 most_locals (keeps-stands _)
 
   scans-frame : Scans (read_frame version) nums
-      (λ at. on_scan (list_scan (item_scan version ParameterItem nums) 0 most_parameters nums at)
-      (list_scan (item_scan version TypeItem nums) 0 most_locals nums))
+      (λ at. on_scan (list_scan (scan_of (read_parameter version) nums) 0 most_parameters nums at)
+      (list_scan (scan_of (stands_for (type_of version)) nums) 0 most_locals nums))
   unfolding read_frame
   scans-frame =
       scans-then (keeps-list 0 most_parameters (keeps-parameter version)) scans-parameters λ ps.
@@ -148,7 +144,7 @@ module _ (version : ℕ) (nums : List ℕ) where
 
   scans-default : Scans (read_default version) nums
       (λ at. on_scan (scan_of (read_numeral version) nums at)
-      (list_scan (item_scan version NumeralItem nums) 0 most_arguments nums))
+      (list_scan (scan_of (read_numeral version) nums) 0 most_arguments nums))
   unfolding read_default
   scans-default =
       scans-then (keeps-numeral version) (scans-self _ nums) λ d. scans-here λ c.
@@ -266,25 +262,29 @@ module _ (version : ℕ) (nums : List ℕ) (at : ℕ) (a : Scan) where
       → Fault f i ≡ scan_of (read_parameter version) nums at
   parameter-fault f i q p = seq-fault _ _ _ ((scans-parameter version nums).scan at) a q f i p
 
-  pub frame_past : (n : ℕ) (r : Scan) → a ≡ list_scan (item_scan version ParameterItem nums) 0 most_parameters nums at → a ≡ Past n
-      → r ≡ list_scan (item_scan version TypeItem nums) 0 most_locals nums n
-      → r ≡ scan_of (read_frame version) nums at
-  frame_past n r q p h = seq-past _ _ _ ((scans-frame version nums).scan at) a q n r p h
-
-  pub frame-fault : (f i : ℕ) → a ≡ list_scan (item_scan version ParameterItem nums) 0 most_parameters nums at → a ≡ Fault f i
+  pub frame-fault : (f i : ℕ) → a ≡ list_scan (scan_of (read_parameter version) nums) 0 most_parameters nums at → a ≡ Fault f i
       → Fault f i ≡ scan_of (read_frame version) nums at
   frame-fault f i q p = seq-fault _ _ _ ((scans-frame version nums).scan at) a q f i p
-
-  pub default-past : (n : ℕ) (r : Scan) → a ≡ scan_of (read_numeral version) nums at → a ≡ Past n
-      → r ≡ list_scan (item_scan version NumeralItem nums) 0 most_arguments nums n
-      → r ≡ scan_of (read_default version) nums at
-  default-past n r q p h = seq-past _ _ _ ((scans-default version nums).scan at) a q n r p h
 
   pub default-fault : (f i : ℕ) → a ≡ scan_of (read_numeral version) nums at → a ≡ Fault f i
       → Fault f i ≡ scan_of (read_default version) nums at
   default-fault f i q p = seq-fault _ _ _ ((scans-default version nums).scan at) a q f i p
 
+module _ (version : ℕ) (nums : List ℕ) (at n : ℕ) (r : Scan) where
+  pub frame_past : (parameter ty : ℕ → Result ℕ rules.Fault → Type 0)
+      → Lists parameter 0 most_parameters nums at (Past n) → Lists ty 0 most_locals nums n r
+      → Tells parameter (scan_of (read_parameter version) nums) → Tells ty (scan_of (stands_for (type_of version)) nums)
+      → r ≡ scan_of (read_frame version) nums at
+  frame_past parameter ty w v t u =
+      seq-past _ _ _ ((scans-frame version nums).scan at) (Past n) (w.scan _ t) n r refl (v.scan _ u)
+
+  pub default-past : (numeral : ℕ → Result ℕ rules.Fault → Type 0) → Past n ≡ scan_of (read_numeral version) nums at
+      → Lists numeral 0 most_arguments nums n r → Tells numeral (scan_of (read_numeral version) nums)
+      → r ≡ scan_of (read_default version) nums at
+  default-past numeral q w t = seq-past _ _ _ ((scans-default version nums).scan at) (Past n) q n r refl (w.scan _ t)
+
 pub ruleset parts = (
+  lists-scan,
   numeral-is,
   pair_is,
   direction-is,

@@ -8,14 +8,12 @@ use Rattle.rules.specs.Syntax.{Stmt, HeaderTy, Global, Callable, Table, ParserSt
 use Rattle.rules.specs.Reading.{Got, got, bad, Reader, and_then, ◌>>=◌, pure, between, list_of, deepest, most_headers, most_globals, most_callables, most_tables}
 use Rattle.rules.specs.Reading.{read_stmt, read_header, read_global, read_callable, read_table, read_states, read_after_version, version_of, read_program}
 use Rattle.rules.proofs.Readers.{Kept, Keeps, keeps_then, keeps-pure, keeps-between, keeps-list, keeps-header, keeps-global, keeps-callable, keeps-table}
-use Rattle.shape.specs.Scans.{forget, scan_of}
-use Rattle.shape.specs.Leads.{valued, value_of}
+use Rattle.shape.specs.Scans.{forget, scan_of, Scan, Past, Fault}
+use Rattle.shape.specs.Leads.{valued, value_of, Value, Of, Unread}
 use Rattle.shape.specs.Directory.{stmt_at, directory_of, directory_left}
 use Rattle.shape.specs.Ends.{most_numbers, states_at, blocks_at, ends_of, ends_left, ScansProgram}
 use Rattle.shape.specs.Walks.{Laid, Lays, no_ends, ends_defined, ends_blocks}
 use Rattle.shape.specs.Walks.{read_declared, lay_declared, read_defined, lay_defined, lay_states, lay_body, read_blocks, lay_blocks}
-use Rattle.shape.specs.Scans.{Scan, Past, Fault}
-use Rattle.shape.specs.Leads.{Value, Of, Unread}
 use Rattle.shape.proofs.Lays.{lays-then, lays-fault, lays-as, lays-next, pair_then, then_same}
 use Rattle.shape.proofs.Transitions.{begins-blocks}
 

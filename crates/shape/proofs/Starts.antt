@@ -9,16 +9,14 @@ use Rattle.rules.specs.Syntax.{Stmt, HeaderTy, Global}
 use Rattle.rules.specs.Reading.{Got, got, bad, Reader, and_then, ◌>>=◌, pure, between, repeat, list_of, deepest, most_headers, most_globals, most_callables, most_tables, most_states}
 use Rattle.rules.specs.Reading.{read_stmt, read_header, read_global, read_callable, read_table, read_state}
 use Rattle.rules.proofs.Readers.{Kept, Keeps, keeps-between, keeps-list, keeps-header, keeps-global, keeps-callable, keeps-table, keeps-state, Given, Starts, starts-header, starts-global, starts-callable, starts-table, starts-state}
-use Rattle.shape.specs.Scans.{forget, scan_of}
-use Rattle.shape.specs.Leads.{valued, value_of}
+use Rattle.shape.specs.Scans.{forget, scan_of, Scan, Past, Fault}
+use Rattle.shape.specs.Leads.{valued, value_of, Value, Of}
 use Rattle.shape.specs.Parts.{list_scan, part_scan}
 use Rattle.shape.specs.Directory.{headers_slot, globals_slot, callables_slot, tables_slot, body_slot, end_slot, states_slot}
 use Rattle.shape.specs.Directory.{stmt_at, listed, declared, defined, stated}
 use Rattle.shape.specs.Ends.{first_at, lay_all, callable_at, lay_callable, table_at, lay_table, state_at, lay_state}
 use Rattle.shape.specs.Walks.{starts_after, starts, laid_list, WalkedList, Laid, Lays, no_ends, part_ends, ends_after, parts_ends, list_ends, LaysList, ends_defined}
 use Rattle.shape.specs.Walks.{read_declared, lay_declared, read_defined, lay_defined, lay_states, lay_body}
-use Rattle.shape.specs.Scans.{Scan, Past, Fault}
-use Rattle.shape.specs.Leads.{Value, Of}
 use Rattle.shape.specs.declared.program.Part.{Part}
 use Rattle.shape.specs.declared.program.Part.TheVariants.{HeaderPart, GlobalPart, CallablePart, TablePart, StatePart}
 use Rattle.shape.proofs.Laws.{scans-self}

@@ -15,14 +15,11 @@ use Rattle.rules.specs.Reading.{PlaceTag}
 use Rattle.rules.specs.Reading.{StmtTag, tag_empty, tag_assign, tag_if, tag_block, tag_call_stmt, tag_apply, tag_return_value, tag_return, tag_exit, tag_set_valid, tag_set_invalid, tag_extract, tag_verify}
 use Rattle.rules.specs.Reading.{expr_tags, place_tag_of, stmt_tags, to_args, to_stmts, read_place, read_expr, read_target, read_stmt_as, read_stmt}
 use Rattle.rules.proofs.Readers.{Keeps, keeps-number, keeps-between, keeps-list, keeps-place, keeps-expr, keeps-target, keeps-stmt, Kept, keeps_then, keeps-pure, keeps-repeat, looked-in, looked-out, Given, Gives, gives_then, gives-pure, Starts, starts-here, starts-deep}
-use Rattle.shape.specs.Scans.{forget, scan_of}
+use Rattle.shape.specs.Scans.{forget, scan_of, Scan, Past, Fault}
 use Rattle.shape.specs.Directory.{stmt_at}
 use Rattle.shape.specs.Ends.{most_numbers, expr_at, stmts_at, lay_expr, lay_stmt, lay_stmts, first_at, lay_all}
 use Rattle.shape.specs.Walks.{Lays}
-use Rattle.shape.specs.Leads.{Agree, AgreeOn, next_of, Made, Tagged, lay_exprs, lay_members, read_parts, parts_at, lay_parts, laid_target, read_verify, laid_verify, LaidOn, stmt_laid, LeadsForm, on_scan, value_of, on_value, lead_by, on_lead, block_lead, stmt_form_of, stmt_form, stmt_lead, LeadsStmt}
-use Rattle.shape.specs.Scans.{Scan, Past, Fault}
-use Rattle.shape.specs.Leads.{Value, Of, Unread}
-use Rattle.shape.specs.Leads.{Lead, On, Off}
+use Rattle.shape.specs.Leads.{Agree, AgreeOn, next_of, Made, Tagged, lay_exprs, lay_members, read_parts, parts_at, lay_parts, laid_target, read_verify, laid_verify, LaidOn, stmt_laid, LeadsForm, on_scan, value_of, on_value, lead_by, on_lead, block_lead, stmt_form_of, stmt_form, stmt_lead, LeadsStmt, Value, Of, Unread, Lead, On, Off}
 use Rattle.shape.specs.declared.statements.StmtForm.{StmtForm}
 use Rattle.shape.proofs.Laws.{on-past, on-fault, on_same, on-last, Scans, scans-self, scans-then, scans-pure, scans-last, scans-as, scan-here, stands-is, stands-none, stands-out}
 use Rattle.shape.proofs.Laws.{repeat-none, scans-one, scans-two}

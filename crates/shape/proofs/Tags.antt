@@ -13,11 +13,8 @@ use Rattle.rules.proofs.Predicates.{no_member}
 use Rattle.rules.proofs.Readers.{keeps-number, keeps-between}
 use Rattle.std.specs.Prelude.{Result, Ok, Err}
 use Rattle.rules.specs.declared.Fault as rules
-use Rattle.shape.specs.Scans.{told, scan_of}
-use Rattle.shape.specs.Leads.{told_lead, on_scan, read_literal, value_of, lead_by, on_lead, arguments_lead, call_lead, form_of, expr_form, expr_lead}
-use Rattle.shape.specs.Scans.{Scan, Past, Fault}
-use Rattle.shape.specs.Leads.{Value, Of, Unread}
-use Rattle.shape.specs.Leads.{Lead, On, Off}
+use Rattle.shape.specs.Scans.{told, scan_of, Scan, Past, Fault}
+use Rattle.shape.specs.Leads.{told_lead, on_scan, read_literal, value_of, lead_by, on_lead, arguments_lead, call_lead, form_of, expr_form, expr_lead, Value, Of, Unread, Lead, On, Off}
 use Rattle.shape.specs.declared.expressions.ExprForm.{ExprForm}
 use Rattle.shape.specs.declared.expressions.ExprForm.TheVariants.{Number, Field, Literal, Operand, Binary, Cast, Slice, Operands, Call, Unlisted}
 use Rattle.shape.proofs.Laws.{on-past, on-fault, Scans, scans-self, scans-then}

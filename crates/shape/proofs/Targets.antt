@@ -15,13 +15,10 @@ use Rattle.rules.specs.Reading.{PlaceTag, tag_local, tag_parameter, tag_global, 
 use Rattle.rules.specs.Reading.{expr_tags, place_tag_of, has_parser, parser_tags, stmt_tags, read_place, read_expr, read_target}
 use Rattle.rules.proofs.Predicates.{no_member}
 use Rattle.rules.proofs.Readers.{Keeps, keeps_then, keeps-pure, keeps-between, keeps-place, keeps-expr}
-use Rattle.shape.specs.Scans.{forget, scan_of}
+use Rattle.shape.specs.Scans.{forget, scan_of, Scan, Past, Fault}
 use Rattle.shape.specs.Ends.{most_numbers, lay_expr}
 use Rattle.shape.specs.Walks.{Laid, Lays, no_ends}
-use Rattle.shape.specs.Leads.{laid_target, LeadsTarget, read_verify, laid_verify, LaidOn, LeadsVerify, stmt_laid, LeadsForm, on_scan, value_of, lead_by, on_lead, call_lead, block_lead, place_form_of, place_form, place_scan, stmt_form_of, stmt_form, parser_form, stmt_lead}
-use Rattle.shape.specs.Scans.{Scan, Past, Fault}
-use Rattle.shape.specs.Leads.{Value, Of, Unread}
-use Rattle.shape.specs.Leads.{Lead, On, Off}
+use Rattle.shape.specs.Leads.{laid_target, LeadsTarget, read_verify, laid_verify, LaidOn, LeadsVerify, stmt_laid, LeadsForm, on_scan, value_of, lead_by, on_lead, call_lead, block_lead, place_form_of, place_form, place_scan, stmt_form_of, stmt_form, parser_form, stmt_lead, Value, Of, Unread, Lead, On, Off}
 use Rattle.shape.specs.declared.statements.PlaceForm.{PlaceForm}
 use Rattle.shape.specs.declared.statements.PlaceForm.TheVariants.{OneNumber, TwoNumbers, NoPlace}
 use Rattle.shape.specs.declared.statements.StmtForm.{StmtForm}

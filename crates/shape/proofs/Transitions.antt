@@ -14,15 +14,14 @@ use Rattle.rules.specs.Reading.{Got, got, bad, Reader, and_then, ◌>>=◌, pure
 use Rattle.rules.specs.Reading.{TransitionTag, tag_none, tag_accept, tag_reject, tag_lead_to, tag_select, transition_tags, has_parser}
 use Rattle.rules.specs.Reading.{read_expr, read_stmt, read_numeral, read_pair, read_transition_as, read_transition, read_state, read_states}
 use Rattle.rules.proofs.Readers.{keeps-expr, keeps-stmt, keeps-states, looked-in, Given, Gives, gives_then, gives-pure, gives_as, gives-with, gives-repeat, Starts}
-use Rattle.shape.specs.Scans.{forget, scan_of}
+use Rattle.std.specs.Prelude.{Result}
+use Rattle.rules.specs.declared.Fault as rules
+use Rattle.shape.specs.Scans.{forget, scan_of, Scan, Past, Fault}
 use Rattle.shape.specs.Directory.{stmt_at, listed, stated, states_slot}
-use Rattle.shape.specs.Leads.{value_of}
-use Rattle.shape.specs.Parts.{list_scan, item_scan, part_scan, read_select, lay_select}
+use Rattle.shape.specs.Leads.{value_of, Of, Unread}
+use Rattle.shape.specs.Parts.{Tells, Lists, part_scan, read_select, lay_select}
 use Rattle.shape.specs.Ends.{lay_expr, lay_stmt, first_at, lay_all, numeral_at, pair_at, lay_transition, transition_at, state_at, lay_state, states_at}
 use Rattle.shape.specs.Walks.{Laid, Lays, WalkedList, LaysList, no_ends, lay_states, lay_body, read_blocks, lay_blocks, ends_blocks}
-use Rattle.shape.specs.Scans.{Scan, Past, Fault}
-use Rattle.shape.specs.Leads.{Of, Unread}
-use Rattle.shape.specs.declared.items.Item.TheVariants.{PairItem}
 use Rattle.shape.specs.declared.program.Part.TheVariants.{StatePart}
 use Rattle.shape.proofs.Laws.{scan-here, scan-fault, spans-scan, spans-list, between-fault, IsValue, value-inv}
 use Rattle.shape.proofs.Lays.{lays-then, lays-fault, lays-as, lays-none, lays-scan, lays-made, BegunAt, Begins, begins-list, begins-stands, lays-next, pair_then}
@@ -49,19 +48,21 @@ starts-pair version = record {
     go at (bad fault index) e = tt
 
 -- selects
-module _ (version : ℕ) (nums : List ℕ) (at : ℕ) (found filled : List ℕ) (a : Scan)
-    (w : Lays (read_expr version deepest) lay_expr nums at found filled a) where
-  pub select-past : (n : ℕ) (r : Scan) → a ≡ Past n → r ≡ list_scan (item_scan version PairItem nums) 0 most_pairs nums n
+module _ (version : ℕ) (nums : List ℕ) (at : ℕ) (found filled : List ℕ) where
+  pub select-past : (n : ℕ) (a r : Scan) (pair : ℕ → Result ℕ rules.Fault → Type 0)
+      → Lays (read_expr version deepest) lay_expr nums at found filled a → a ≡ Past n
+      → Lists pair 0 most_pairs nums n r → Tells pair (scan_of (read_pair version) nums)
       → Lays (read_select version) lay_select nums at found filled r
   unfolding read_select lay_select no_ends
-  select-past n r p q =
+  select-past n a r pair w p v t =
       lays-next (λ e ps. (e, ps)) lay_select (λ ps end. first_at pair_at ps end - 1) (λ e ps end slots. refl)
       (keeps-expr version deepest) (begins-list 0 most_pairs (starts-pair version)) w p
-      (lays-scan filled (q ∙ sym ((scans-pairs version nums 0 most_pairs).scan n)))
+      (lays-scan filled (v.scan _ t ∙ sym ((scans-pairs version nums 0 most_pairs).scan n)))
 
-  pub select-fault : (f i : ℕ) → a ≡ Fault f i → Lays (read_select version) lay_select nums at found filled (Fault f i)
+  pub select-fault : (f i : ℕ) → Lays (read_expr version deepest) lay_expr nums at found filled (Fault f i)
+      → Lays (read_select version) lay_select nums at found filled (Fault f i)
   unfolding read_select
-  select-fault f i p = lays-fault _ lay_select found w p
+  select-fault f i w = lays-fault _ lay_select found w refl
 
 -- transitions, by the number of their tag
 module _ (version : ℕ) (nums : List ℕ) (at n next : ℕ) (found : List ℕ) (e : Of n next ≡ value_of 0 4 nums at) where

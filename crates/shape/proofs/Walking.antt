@@ -6,13 +6,11 @@ use native.Mathlib.Omega.{arith}
 use native.Mathlib.Numerals.{add-one, sub-one}
 use lib.ListN.{drop, set}
 use Rattle.rules.specs.Reading.{got, Reader}
-use Rattle.shape.specs.Scans.{forget, scan_of}
-use Rattle.shape.specs.Leads.{value_of}
+use Rattle.shape.specs.Scans.{forget, scan_of, Scan, Past, Fault}
+use Rattle.shape.specs.Leads.{value_of, Value, Of, Unread}
 use Rattle.shape.specs.Parts.{part_scan}
 use Rattle.shape.specs.Directory.{slot_count}
 use Rattle.shape.specs.Walks.{starts_after, starts, Walked, laid_list, WalkedList, part_ends, LaysPart, ends_after, parts_ends, LaysParts, list_ends, LaysList}
-use Rattle.shape.specs.Scans.{Scan, Past, Fault}
-use Rattle.shape.specs.Leads.{Value, Of, Unread}
 use Rattle.shape.specs.declared.program.Part.{Part}
 use Rattle.shape.proofs.Laws.{AtMost, value-most}
 use Rattle.shape.proofs.Listings.{items-none, items-past, items-fault, list_of, list-fault}

@@ -9,8 +9,7 @@ use Rattle.rules.specs.Syntax.{Stmt, empty, assign, if_else, block, call_stmt, a
 use Rattle.rules.specs.Syntax.{Callable, Key, Numeral, Table, Pair, Transition, no_transition, accept, reject, lead_to, select, ParserState, Program}
 use Rattle.rules.specs.Reading.{Got, got, bad, read_program}
 use Rattle.shape.specs.Directory.{stmt_at, directory_left}
-use Rattle.shape.specs.Scans.{scan_of}
-use Rattle.shape.specs.Scans.{Scan}
+use Rattle.shape.specs.Scans.{scan_of, Scan}
 
 -- how many slots there are: one for each number that a file may have
 abbrev pub most_numbers : ℕ

@@ -1,6 +1,6 @@
 -- How an expression or a statement is scanned: its lead, which is its tag and the numbers behind it, then its operands,
 -- then its statements. What the functions below the public ones promise one another.
-use Rattle.std.specs.Prelude.{true, false, List, ℕ, suc, ◌+◌, ◌-◌, ◌<◌, ◌≡◌, length, drop, set}
+use Rattle.std.specs.Prelude.{true, false, List, ℕ, suc, ◌+◌, ◌-◌, ◌<◌, ◌≡◌, length, drop, set, Result, Ok, Err}
 use Rattle.std.proofs.Math.Option.{Option, none, some}
 use Rattle.std.proofs.Math.ListN.{get_elem?}
 use Rattle.rules.specs.Words.{widest}
@@ -9,7 +9,6 @@ use Rattle.rules.specs.Reading.{Got, got, bad, Reader, ◌>>=◌, pure, number, 
 use Rattle.rules.specs.Reading.{PlaceTag, tag_local, tag_parameter, tag_global, tag_field, ExprTag, tag_bool, tag_bits, tag_place, tag_valid, tag_not, tag_complement, tag_binary, tag_cast, tag_slice, tag_concatenation, tag_call}
 use Rattle.rules.specs.Reading.{StmtTag, tag_empty, tag_assign, tag_if, tag_block, tag_call_stmt, tag_apply, tag_return_value, tag_return, tag_exit, tag_set_valid, tag_set_invalid, tag_extract, tag_verify}
 use Rattle.rules.specs.Reading.{operators, expr_tags, place_tag_of, has_parser, stmt_tags, read_expr, read_target, read_stmt}
-use Rattle.std.specs.Prelude.{Result, Ok, Err}
 use Rattle.rules.specs.Answers.{number_of}
 use Rattle.rules.specs.declared.Fault as rules
 use Rattle.shape.specs.declared.looks.Number as looks

@@ -1,18 +1,15 @@
 -- The parts of a program: how each scans, and how a list of them does.
 use Rattle.std.proofs.Math.Option.{Option}
-use Rattle.std.specs.Prelude.{List, ℕ, zero, suc, ◌-◌}
+use Rattle.std.specs.Prelude.{◌≡◌, Result, List, ℕ, zero, suc, ◌-◌}
 use Rattle.std.proofs.Math.ListN.{get_elem?}
-use Rattle.rules.specs.Words.{widest}
 use Rattle.rules.specs.Syntax.{Ty, Parameter, Key, Numeral, Pair, Expr}
 use Rattle.rules.specs.Reading.{most_parameters, most_locals, most_keys, most_actions, most_arguments, most_pairs, deepest}
-use Rattle.rules.specs.Reading.{Reader, ◌>>=◌, pure, here, between, stands_for, list_of, callable_kinds, type_of}
+use Rattle.rules.specs.Reading.{Reader, ◌>>=◌, pure, here, stands_for, list_of, callable_kinds, type_of}
 use Rattle.rules.specs.Reading.{read_expr, read_header, read_global, read_parameter, read_returns, read_callable, read_numeral, read_key, read_table, read_pair, read_state}
-use Rattle.shape.specs.Scans.{scan_of}
+use Rattle.rules.specs.declared.Fault as rules
+use Rattle.shape.specs.Scans.{told, scan_of, Scan, Past}
 use Rattle.shape.specs.Ends.{lay_expr, first_at, lay_all, key_at, lay_key, numeral_at, pair_at}
 use Rattle.shape.specs.Leads.{on_scan, value_of, on_value}
-use Rattle.shape.specs.Scans.{Scan, Past}
-use Rattle.shape.specs.declared.items.Item.{Item}
-use Rattle.shape.specs.declared.items.Item.TheVariants.{WidthItem, TypeItem, ParameterItem, NumeralItem, PairItem}
 use Rattle.shape.specs.declared.program.Part.{Part}
 use Rattle.shape.specs.declared.program.Part.TheVariants.{HeaderPart, GlobalPart, CallablePart, TablePart, StatePart}
 
@@ -24,13 +21,16 @@ repeat_scan one (suc count) at = on_scan (one at) (repeat_scan one count)
 unfoldable pub list_scan : (ℕ → Scan) → ℕ → ℕ → List ℕ → ℕ → Scan
 list_scan one least most nums at = on_value (value_of least most nums at) (repeat_scan one)
 
--- what stands in lists inside a part
-unfoldable pub item_scan : ℕ → Item → List ℕ → ℕ → Scan
-item_scan version WidthItem = scan_of (between 1 widest)
-item_scan version TypeItem = scan_of (stands_for (type_of version))
-item_scan version ParameterItem = scan_of (read_parameter version)
-item_scan version NumeralItem = scan_of (read_numeral version)
-item_scan version PairItem = scan_of (read_pair version)
+-- what is called for each item tells what a scan finds: so many items, and a list of them
+abbrev pub Tells : (ℕ → Result ℕ rules.Fault → Type 0) → (ℕ → Scan) → Type 0
+Tells post one = (at : ℕ) (r : Result ℕ rules.Fault) → post at r → told r ≡ one at
+
+pub record Repeats (post : ℕ → Result ℕ rules.Fault → Type 0) (count at : ℕ) (r : Scan) : Type 0 where
+  pub scan : (one : ℕ → Scan) → Tells post one → r ≡ repeat_scan one count at
+
+pub record Lists (post : ℕ → Result ℕ rules.Fault → Type 0) (least most : ℕ) (nums : List ℕ) (at : ℕ) (r : Scan) : Type 0
+  where
+    pub scan : (one : ℕ → Scan) → Tells post one → r ≡ list_scan one least most nums at
 
 -- a callable up to its parameters: its kind and, of a function, its return type
 unfoldable pub read_returning : ℕ → Reader (Option Ty)

@@ -6,11 +6,9 @@ use Rattle.rules.specs.Syntax.{HeaderTy, Global, Callable, Table, ParserState}
 use Rattle.rules.specs.Syntax.{Stmt}
 use Rattle.rules.specs.Reading.{Got, got, bad, Reader, ◌>>=◌, pure, list_of, deepest, most_headers, most_globals, most_callables, most_tables}
 use Rattle.rules.specs.Reading.{read_stmt, read_header, read_global, read_callable, read_table, read_state, read_states}
-use Rattle.shape.specs.Scans.{scan_of}
-use Rattle.shape.specs.Leads.{value_of}
+use Rattle.shape.specs.Scans.{scan_of, Scan, Past, Fault}
+use Rattle.shape.specs.Leads.{value_of, Value, Of, Unread}
 use Rattle.shape.specs.Parts.{repeat_scan, list_scan, part_scan}
-use Rattle.shape.specs.Scans.{Scan, Past, Fault}
-use Rattle.shape.specs.Leads.{Value, Of, Unread}
 use Rattle.shape.specs.declared.program.Part.{Part}
 use Rattle.shape.specs.declared.program.Part.TheVariants.{HeaderPart, GlobalPart, CallablePart, TablePart, StatePart}
 use Rattle.shape.specs.Directory.{stmt_at, declared, defined, stated, body_slot}

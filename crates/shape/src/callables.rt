@@ -6,7 +6,7 @@ ghost use Rattle.shape.specs.Parts.{read_returning, read_frame};
 ghost use Rattle.shape.specs.Scans.{told, scan_of};
 ghost use Rattle.shape.specs.Ends.{most_numbers, lay_callable};
 
-use super::items::{Item, list_at};
+use super::items::{list_at, parameter_at};
 use super::limits::{DEEPEST, LAST_CALLABLE_KIND, MOST_LOCALS, MOST_PARAMETERS};
 use super::looks::{Number, type_at, value_in};
 use super::statements::scan_stmt;
@@ -28,8 +28,14 @@ fn returning_at(nums: &[u64], version: u64, at: usize) -> Scanned
 fn frame_at(nums: &[u64], version: u64, at: usize) -> Scanned
     ensures { told result ≡ scan_of (read_frame version) nums.now at }
 {
-    let next = list_at(nums, version, Item::ParameterItem, 0, MOST_PARAMETERS, at)?;
-    list_at(nums, version, Item::TypeItem, 0, MOST_LOCALS, next)
+    let next = list_at(
+        nums,
+        0,
+        MOST_PARAMETERS,
+        at,
+        |at| parameter_at(nums, version, at),
+    )?;
+    list_at(nums, 0, MOST_LOCALS, next, |at| type_at(nums, version, at))
 }
 
 // A callable: its head, its parameters and locals, its body.

@@ -1,23 +1,13 @@
-// What stands in lists inside a part of a program: widths, types, parameters, numerals, pairs.
+// What stands in lists inside a part of a program: parameters, numerals, pairs; and the lists.
 ghost use Rattle.std.specs.Prelude.{◌≡◌};
 ghost use Rattle.std.proofs.Math.ListN.{get_elem?};
 ghost use Rattle.rules.specs.Reading.{stands_for, directions, read_parameter, read_numeral, read_pair};
-ghost use Rattle.shape.specs.Parts.{item_scan, repeat_scan, list_scan};
+ghost use Rattle.shape.specs.Parts.{Repeats, Lists};
 ghost use Rattle.shape.specs.Scans.{told, scan_of};
 
 use super::Scanned;
 use super::limits::LAST_DIRECTION;
-use super::looks::{Number, any_number, number_in, two_numbers, type_at, value_in, width_at};
-
-// What stands in lists inside a part of a program.
-#[derive(Clone, Copy)]
-pub(crate) enum Item {
-    WidthItem,
-    TypeItem,
-    ParameterItem,
-    NumeralItem,
-    PairItem,
-}
+use super::looks::{Number, any_number, number_in, two_numbers, type_at, value_in};
 
 // A parameter's direction.
 fn direction_at(nums: &[u64], version: u64, at: usize) -> Scanned
@@ -27,7 +17,7 @@ fn direction_at(nums: &[u64], version: u64, at: usize) -> Scanned
 }
 
 // A parameter: its direction and its type.
-fn parameter_at(nums: &[u64], version: u64, at: usize) -> Scanned
+pub(crate) fn parameter_at(nums: &[u64], version: u64, at: usize) -> Scanned
     ensures { told result ≡ scan_of (read_parameter version) nums.now at }
 {
     let next = direction_at(nums, version, at)?;
@@ -42,47 +32,35 @@ pub(crate) fn numeral_at(nums: &[u64], version: u64, at: usize) -> Scanned
 }
 
 // A pair of a select: a value and a state's number.
-fn pair_at(nums: &[u64], version: u64, at: usize) -> Scanned
+pub(crate) fn pair_at(nums: &[u64], version: u64, at: usize) -> Scanned
     ensures { told result ≡ scan_of (read_pair version) nums.now at }
 {
     two_numbers(nums, at)
 }
 
-// The end of the item at `at`.
-fn item_at(nums: &[u64], version: u64, item: Item, at: usize) -> Scanned
-    ensures { told result ≡ item_scan version item nums.now at }
-{
-    match item {
-        Item::WidthItem => width_at(nums, at),
-        Item::TypeItem => type_at(nums, version, at),
-        Item::ParameterItem => parameter_at(nums, version, at),
-        Item::NumeralItem => numeral_at(nums, version, at),
-        Item::PairItem => pair_at(nums, version, at),
-    }
-}
-
 // The end of so many items, one after the other.
-fn items_at(nums: &[u64], version: u64, item: Item, count: u64, at: usize) -> Scanned
-    ensures { told result ≡ repeat_scan (item_scan version item nums.now) count at }
+fn items_at<F: Fn(usize) -> Scanned>(item: F, count: u64, at: usize) -> Scanned
+    requires { F.IsAlwaysCallable item }
+    ensures { Repeats (F.post item) count at (told result) }
 {
     let mut next = at;
     for _ in 0..count {
-        next = item_at(nums, version, item, next)?;
+        next = item(next)?;
     }
     Ok(next)
 }
 
 // The end of a list of `least` to `most` items: their count, then the items.
-pub(crate) fn list_at(
+pub(crate) fn list_at<F: Fn(usize) -> Scanned>(
     nums: &[u64],
-    version: u64,
-    item: Item,
     least: u64,
     most: u64,
     at: usize,
+    item: F,
 ) -> Scanned
-    ensures { told result ≡ list_scan (item_scan version item nums.now) least most nums.now at }
+    requires { F.IsAlwaysCallable item }
+    ensures { Lists (F.post item) least most nums.now at (told result) }
 {
     let Number { value, next } = value_in(nums, least, most, at)?;
-    items_at(nums, version, item, value, next)
+    items_at(item, value, next)
 }

@@ -7,7 +7,7 @@ ghost use Rattle.shape.specs.Ends.{most_numbers, lay_transition, lay_state};
 ghost use Rattle.shape.specs.Scans.{told};
 
 use super::expressions::scan_expr;
-use super::items::{Item, list_at, numeral_at};
+use super::items::{list_at, numeral_at, pair_at};
 use super::limits::{DEEPEST, LAST_TRANSITION, MOST_ERROR, MOST_PAIRS};
 use super::looks::{Number, number_in, value_in};
 use super::statements::scan_stmt;
@@ -19,7 +19,7 @@ fn select_at(nums: &[u64], version: u64, at: usize, ends: &mut [u64; NUMBERS]) -
     ensures { Lays (read_select version) lay_select nums.now at ends.old ends.new (told result) }
 {
     let next = scan_expr(nums, version, DEEPEST, at, ends)?;
-    list_at(nums, version, Item::PairItem, 0, MOST_PAIRS, next)
+    list_at(nums, 0, MOST_PAIRS, next, |at| pair_at(nums, version, at))
 }
 
 // A transition: its tag, and what stands behind it.

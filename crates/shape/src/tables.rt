@@ -8,7 +8,7 @@ ghost use Rattle.shape.specs.Scans.{told, scan_of};
 ghost use Rattle.shape.specs.Ends.{most_numbers, lay_key, lay_table};
 
 use super::expressions::scan_expr;
-use super::items::{Item, list_at, numeral_at};
+use super::items::{list_at, numeral_at};
 use super::limits::{DEEPEST, LAST_KEY_KIND, MOST_ACTIONS, MOST_ARGUMENTS, MOST_KEYS};
 use super::looks::{Number, number_in, value_in};
 use super::{NUMBERS, Scanned};
@@ -56,7 +56,13 @@ fn choices_at(nums: &[u64], version: u64, at: usize, ends: &mut [u64; NUMBERS]) 
     ensures { Lays (read_choices version) lay_choices nums.now at ends.old ends.new (told result) }
 {
     let next = key_list_at(nums, version, at, ends)?;
-    list_at(nums, version, Item::NumeralItem, 1, MOST_ACTIONS, next)
+    list_at(
+        nums,
+        1,
+        MOST_ACTIONS,
+        next,
+        |at| numeral_at(nums, version, at),
+    )
 }
 
 // A table's default: its position, and its arguments.
@@ -64,7 +70,13 @@ fn default_at(nums: &[u64], version: u64, at: usize) -> Scanned
     ensures { told result ≡ scan_of (read_default version) nums.now at }
 {
     let next = numeral_at(nums, version, at)?;
-    list_at(nums, version, Item::NumeralItem, 0, MOST_ARGUMENTS, next)
+    list_at(
+        nums,
+        0,
+        MOST_ARGUMENTS,
+        next,
+        |at| numeral_at(nums, version, at),
+    )
 }
 
 // A table: its keys and actions, its default.

@@ -1,7 +1,6 @@
 -- What carries it: what is left of the items scans to what all of them do.
-use Rattle.shape.specs.Parts.{item_scan}
 use Rattle.shape.proofs.Listings.{Remaining}
 use Rattle.shape.proofs.items.items_at.Given as goal
 
 abbrev pub invariant-loop : goal.invariant-loop
-invariant-loop l = Remaining (item_scan l.version l.item l.nums) l.count l.at l.counter l.next
+invariant-loop g l = Remaining (goal.F-post g l.item) l.count l.at l.counter l.next
