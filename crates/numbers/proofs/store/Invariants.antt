@@ -4,8 +4,5 @@ use lib.ListN.{length}
 use Rattle.numbers.proofs.Storing.{Storing}
 use Rattle.numbers.proofs.store.Given as goal
 
-abbrev pub invariant-loop-index : goal.invariant-loop-index
-invariant-loop-index l = Storing l.numbers l.initial.bytes l.bytes l.at l.index
-
-abbrev pub decreases-loop-index : goal.decreases-loop-index
-decreases-loop-index l = length l.numbers - l.index
+abbrev pub invariant-loop-number : goal.invariant-loop-number
+invariant-loop-number l = Storing l.numbers l.initial.bytes l.bytes l.at l.number-index
