@@ -1,6 +1,4 @@
 -- `numbers::measure` meets its contract: what is counted and what is left give the length, and no sum passes the room.
-use Prim.Native.Nat.{◌-◌}
-use lib.ListN.{length}
 use Rattle.numbers.proofs.Measuring.{Measuring}
 use Rattle.numbers.proofs.measure.Given as goal
 

@@ -1,6 +1,4 @@
 -- `numbers::store` meets its contract: what is stored and what is left to store give the bytes' later contents.
-use Prim.Native.Nat.{◌-◌}
-use lib.ListN.{length}
 use Rattle.numbers.proofs.Storing.{Storing}
 use Rattle.numbers.proofs.store.Given as goal
 
