@@ -1,4 +1,5 @@
 -- How the run of an accepted file ends that is lent the slots that it asks for.
+use Rattle.std.specs.Prelude.{Result}
 use mathlib.Core.Bool.{true}
 use mathlib.Core.Path.{◌≡◌, refl, ◌∙◌}
 use mathlib.Core.List.{List, [], ◌∷◌, ◌++◌}
@@ -7,7 +8,8 @@ use lib.Dec.{leb}
 use lib.ListN.{length}
 use borrow.Author.Tests.{le-leb}
 use Rattle.rules.specs.declared.Signal.{Signal}
-use Rattle.rules.specs.declared.RunAnswer.{RunAnswer}
+use Rattle.rules.specs.declared.Refusal.{Refusal}
+use Rattle.rules.specs.declared.Finished.{Finished}
 use Rattle.rules.specs.Ceiling.{ceiling_of}
 use Rattle.rules.specs.Lists.{Cell, slots_of}
 use Rattle.rules.specs.Running.{Out, full, run_program}
@@ -19,7 +21,7 @@ use Rattle.rules.proofs.Room.{accepted-not-full}
 use Rattle.bench.specs.Runs.{RunsFile}
 
 -- done, exit or reject as by the rules, steps within the ceiling, and in the result slots a store that fits
-pub record EndsWell (b : Bench) (results results' : List ℕ) (r : RunAnswer) : Type 0 where
+pub record EndsWell (b : Bench) (results results' : List ℕ) (r : Result Finished Refusal) : Type 0 where
   pub signal : Signal
   pub steps : ℕ
   pub store : List Cell
@@ -30,7 +32,7 @@ pub record EndsWell (b : Bench) (results results' : List ℕ) (r : RunAnswer) : 
   pub fits : StoreFits b.program store
   pub left : results' ≡ filled (slots_of store) results
 
-module _ (bytes results results' working working' : List ℕ) (r : RunAnswer) (b : Bench)
+module _ (bytes results results' working working' : List ℕ) (r : Result Finished Refusal) (b : Bench)
     (j : judged bytes ≡ accepted b) (room : length (slots_of b.store) ≤ length results)
     (frames : working_slots ≤ length working) (p : RunsFile bytes results results' working working' r) where
   outcome-is : run_outcome bytes (length results) (length working) ≡ run_bench working_slots b

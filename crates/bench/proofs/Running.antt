@@ -1,4 +1,5 @@
 -- From an accepted file to its run, and from the run's slots to what the rules say and leave.
+use Rattle.std.specs.Prelude.{Result, Ok, Err}
 use mathlib.Core.Bool.{Bool, true, false, ◌&&◌}
 use mathlib.Core.Path.{◌≡◌, refl, sym, ◌∙◌}
 use mathlib.Core.List.{List, [], ◌∷◌, ◌++◌}
@@ -10,16 +11,15 @@ use borrow.Author.Tests.{le-leb, lt-leb}
 use borrow.Rule.Slice.PartMut.{put_mid, mid_of, mid_len, same_len_mid}
 use Rattle.rules.specs.declared.Signal.{Signal}
 use Rattle.rules.specs.declared.Refusal.{Refusal}
-use Rattle.rules.specs.declared.RunAnswer.{RunAnswer}
-use Rattle.rules.specs.declared.RunAnswer.TheVariants.{Ended, Unrun}
-use Rattle.rules.specs.declared.ReadAnswer.{ReadAnswer}
-use Rattle.rules.specs.declared.ReadAnswer.TheVariants.{Unread}
+use Rattle.rules.specs.declared.Reason.TheVariants.{Room}
+use Rattle.rules.specs.declared.Fault.{Fault}
+use Rattle.rules.specs.declared.Finished.{Finished}
 use Rattle.rules.specs.Numbers.{numbers, stream_of}
 use Rattle.rules.specs.Syntax.{Program}
 use Rattle.rules.specs.Ceiling.{most_steps, ceiling_of}
 use Rattle.rules.specs.Lists.{Entry, Cell, slots_of}
 use Rattle.rules.specs.Running.{Out, full}
-use Rattle.rules.specs.Answers.{Bench, of_refusal, of_signal, of_judge, of_run, judge_says, told_by_judge, filled, Judged, accepted, refused, placed, judged_stream, judged, refusal, ended, outcome_of, run_bench, working_slots, run_with, told_with, told_by_run, results_after, cleared, working_after, run_outcome, run_says, run_leaves_results, run_leaves_working}
+use Rattle.rules.specs.Answers.{number_of, Bench, of_refusal, of_signal, of_judge, of_run, judge_says, told_by_judge, filled, Judged, accepted, refused, placed, judged_stream, judged, refusal, ended, outcome_of, run_bench, working_slots, run_with, told_with, told_by_run, results_after, cleared, working_after, run_outcome, run_says, run_leaves_results, run_leaves_working}
 use Rattle.rules.proofs.Fits.{store_length}
 use Rattle.rules.proofs.Accepted as accepts
 use Rattle.rules.proofs.Accepted.{BenchOk, judged-ok, Ends, accepted-ends}
@@ -29,11 +29,9 @@ use Rattle.shape.specs.Scans.{forget, scan_of}
 use Rattle.shape.specs.Ends.{ends_left, ScansProgram}
 use Rattle.shape.specs.Scans.{Past}
 use Rattle.shape.proofs.Lines.{scan-long}
-use Rattle.rules.specs.declared.JudgeAnswer.TheVariants as answers
 use Rattle.numbers.specs.Parts.{Roomy}
 use Rattle.numbers.specs.Promises.{Reads}
 use Rattle.judge.specs.declared.Verdict.{Verdict}
-use Rattle.judge.specs.declared.Verdict.TheVariants as verdicts
 use Rattle.judge.specs.Verdicts.{JudgesNumbers}
 use Rattle.judge.proofs.Left.{Leaves, accepted-leaves}
 use Rattle.judge.proofs.Long.{judged-long}
@@ -126,7 +124,7 @@ module _ {bytes nums directory ends : List ℕ} {ceiling store size : ℕ}
 
   few-runs : (results working : List ℕ)
       → (leb working_slots (length working) && leb (length (slots_of cells)) (length results)) ≡ false
-      → RunsFile bytes results results working working (Unrun (record { number = 13; place = 0 }))
+      → RunsFile bytes results results working working (Err (record { reason = Room; place = 0 }))
   unfolding of_run of_refusal run_says run_leaves_results run_leaves_working told_by_run told_with results_after working_after
   few-runs results working e =
       let o = few-outcome (length results) (length working) e in
@@ -151,7 +149,7 @@ module _ {bytes nums directory ends : List ℕ} {ceiling store size : ℕ}
         → size ≤ length results → steps ≡ counter_of slots
         → results' ≡ slots_of r.cells ++ drop (length (slots_of r.cells)) results
         → working' ≡ replicate working_slots 0 ++ drop working_slots working
-        → RunsFile bytes results results' working working' (Ended signal steps ceiling size)
+        → RunsFile bytes results results' working working' (Ok (record { signal = signal; steps = steps; ceiling = ceiling; length = size }))
     unfolding of_run run_says run_leaves_results run_leaves_working told_by_run told_with results_after working_after filled cleared
     run-told results results' working working' steps w s n a b =
         let o = run-outcome (length results) (length working) w s in
@@ -251,7 +249,7 @@ module _ (nums directory ends results working : List ℕ) (ceiling store size : 
 
           pub lent_runs : (steps : ℕ) → steps ≡ counter_of slots
               → RunsAccepted nums directory ends results results' working working' ceiling store
-              size (Ended signal steps ceiling size)
+              size (Ok (record { signal = signal; steps = steps; ceiling = ceiling; length = size }))
           lent_runs steps n = record {
             runs = λ bytes p. run-told p slots (ran p) results results' working working' steps a.frames a.room n
                 (results-are p) working-is;
@@ -263,14 +261,14 @@ pub ruleset lents = (lent-asks, lent-scaled, lent-up, lent-whole, lent-copies, l
 module _ (nums directory ends results working : List ℕ) (ceiling store size : ℕ) where
   pub few-working : length working < working_slots
       → RunsAccepted nums directory ends results results working working ceiling store size
-      (Unrun (record { number = 13; place = 0 }))
+      (Err (record { reason = Room; place = 0 }))
   few-working h = record {
     runs = λ bytes p. few-runs p results working (rw (lt-leb working_slots (length working) h) refl);
   }
 
   pub few-results : working_slots ≤ length working → length results < size
       → RunsAccepted nums directory ends results results working working ceiling store size
-      (Unrun (record { number = 13; place = 0 }))
+      (Err (record { reason = Room; place = 0 }))
   few-results w h = record {
     runs = λ bytes p.
         let few : leb (length (slots_of (cells p))) (length results) ≡ false
@@ -291,22 +289,22 @@ unfolding told_by_judge
 refused-is number place (accepted b) e = let z : ◌≡◌ {A = ℕ} 0 1 = cc in absurd (omega arith)
 refused-is number place (refused n p) e = cc
 
-refused-runs : (bytes results working : List ℕ) (x : Refusal) → of_judge (answers.Refused x) ≡ judge_says bytes
-    → RunsFile bytes results results working working (Unrun x)
+refused-runs : (bytes results working : List ℕ) (x : Refusal) → of_judge (Err x) ≡ judge_says bytes
+    → RunsFile bytes results results working working (Err x)
 unfolding of_judge of_refusal of_run judge_says run_outcome run_with run_says run_leaves_results run_leaves_working told_by_run told_with results_after working_after
 refused-runs bytes results working x e =
-    let j : judged bytes ≡ refused x.number x.place = refused-is x.number x.place (judged bytes) e in
+    let j : judged bytes ≡ refused (number_of x.reason) x.place = refused-is (number_of x.reason) x.place (judged bytes) e in
     record { says = rw j refl; results_are = rw j refl; working_are = rw j refl }
 
-pub unread-runs : (bytes slots results working : List ℕ) (r : ReadAnswer) (left : List ℕ) → Reads bytes slots r left
-    → Roomy bytes (length slots) → (x : Refusal) → r ≡ Unread x
-    → RunsFile bytes results results working working (Unrun x)
+pub unread-runs : (bytes slots results working : List ℕ) (r : Result ℕ Refusal) (left : List ℕ) → Reads bytes slots r left
+    → Roomy bytes (length slots) → (x : Refusal) → r ≡ Err x
+    → RunsFile bytes results results working working (Err x)
 unread-runs bytes slots results working r left p room x e =
     refused-runs bytes results working x (read-refused bytes slots r left p room x e)
 
 -- the judge's verdict on the numbers
 module _ (bytes nums results working : List ℕ) (reads : stream_of bytes ≡ numbers nums)
-    (directory ends widths entries offsets : List ℕ) (v : Verdict)
+    (directory ends widths entries offsets : List ℕ) (v : Result Verdict Fault)
     (j : JudgesNumbers nums (replicate 217 0) directory (replicate 4096 0) ends (replicate 32 0) widths (replicate 65 0)
     entries (replicate 33 0) offsets v) where
   -- the ends have as many slots as they had
@@ -323,22 +321,22 @@ module _ (bytes nums results working : List ℕ) (reads : stream_of bytes ≡ nu
           let e : ends ≡ replicate 4096 0 = rw q at j.ends_are in
           rw e refl
 
-  pub verdict-refused : (number index : ℕ) (x : Refusal) → v ≡ verdicts.Refused number index
-      → x ≡ refusal_at bytes number index → RunsFile bytes results results working working (Unrun x)
-  verdict-refused number index x e q = refused-runs bytes results working x
+  pub verdict-refused : (fault : Fault) (x : Refusal) → v ≡ Err fault → x ≡ refusal_at bytes fault
+      → RunsFile bytes results results working working (Err x)
+  verdict-refused fault x e q = refused-runs bytes results working x
       (numbers-refused bytes nums reads (replicate 217 0) directory (replicate 4096 0) ends (replicate 32 0) widths
-      (replicate 65 0) entries (replicate 33 0) offsets v j number index x e q)
+      (replicate 65 0) entries (replicate 33 0) offsets v j fault x e q)
 
-  module _ (ceiling store size : ℕ) (e : v ≡ verdicts.Accepted ceiling store size) where
-    leaves : Leaves nums directory ends widths entries offsets ceiling store size
+  module _ (a : Verdict) (e : v ≡ Ok a) where
+    leaves : Leaves nums directory ends widths entries offsets a.ceiling a.store a.length
     leaves = accepted-leaves nums (replicate 217 0) directory (replicate 4096 0) ends (replicate 32 0) widths
-        (replicate 65 0) entries (replicate 33 0) offsets ceiling store size (rw e at j) (record {
+        (replicate 65 0) entries (replicate 33 0) offsets a.ceiling a.store a.length (rw e at j) (record {
           lent = record { few = numbers-few bytes nums reads; slots = refl; room = refl };
           keys = refl;
         }) refl refl
 
     passes : (ready : List ℕ) → Prepares offsets entries widths directory ready
-        → Passed bytes nums ready ends ceiling store size
+        → Passed bytes nums ready ends a.ceiling a.store a.length
     passes ready q = record {
       reads = reads;
       parts = directory;
@@ -360,11 +358,11 @@ module _ (bytes nums results working : List ℕ) (reads : stream_of bytes ≡ nu
         }
 
     module _ (ready : List ℕ) (q : Prepares offsets entries widths directory ready) where
-      pub verdict-accepted : AsksAccepted nums ready ends ceiling store size
+      pub verdict-accepted : AsksAccepted nums ready ends a.ceiling a.store a.length
       verdict-accepted = record { bytes = bytes; passed = passes ready q }
 
-      pub verdict-runs : (results' working' : List ℕ) (r : RunAnswer)
-          → RunsAccepted nums ready ends results results' working working' ceiling store size r
+      pub verdict-runs : (results' working' : List ℕ) (r : Result Finished Refusal)
+          → RunsAccepted nums ready ends results results' working working' a.ceiling a.store a.length r
           → RunsFile bytes results results' working working' r
       verdict-runs results' working' r k = k.runs bytes (passes ready q)
 

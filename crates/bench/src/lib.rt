@@ -14,7 +14,7 @@ ghost use Rattle.program.specs.In.{In};
 
 use judge::Verdict;
 use program::Source;
-use rules::{JudgeAnswer, ReadAnswer, Refusal, RunAnswer, WriteAnswer};
+use rules::{Acceptance, Fault, Finished, Reason, Refusal};
 use runner::prepare;
 use store::fill::{clear, copy};
 use store::{COUNTER, STORE};
@@ -26,21 +26,21 @@ const SHORT: usize = 512;
 const WORKING: usize = 8192;
 
 // The bytes as numbers, into the slots from the first on: how many; or refused 1, 2, 3 or 13, with the slots as found.
-pub fn read(bytes: &[u8], slots: &mut [u64]) -> ReadAnswer
+pub fn read(bytes: &[u8], slots: &mut [u64]) -> Result<usize, Refusal>
     ensures { Reads bytes.now slots.old result slots.new }
 {
     numbers::read(bytes, slots)
 }
 
 // The numbers as bytes, into the bytes from the first on: how many; or refused 13, with the bytes as found.
-pub fn write(numbers: &[u64], bytes: &mut [u8]) -> WriteAnswer
+pub fn write(numbers: &[u64], bytes: &mut [u8]) -> Result<usize, Refusal>
     ensures { Writes numbers.now bytes.old result bytes.new }
 {
     numbers::write(numbers, bytes)
 }
 
 // The verdict on a bench file: its ceiling and its store's length; or refused 1 to 12, with the place of the number at fault.
-pub fn judge(bytes: &[u8]) -> JudgeAnswer
+pub fn judge(bytes: &[u8]) -> Result<Acceptance, Refusal>
     ensures { of_judge result ≡ judge_says bytes.now }
 {
     if bytes.len() <= SHORT {
@@ -53,19 +53,16 @@ pub fn judge(bytes: &[u8]) -> JudgeAnswer
 }
 
 // The same, with slots lent for all numbers that the bytes may hold.
-fn judge_in(bytes: &[u8], slots: &mut [u64]) -> JudgeAnswer
+fn judge_in(bytes: &[u8], slots: &mut [u64]) -> Result<Acceptance, Refusal>
     requires { Roomy bytes.now (length slots.old) }
     ensures { of_judge result ≡ judge_says bytes.now }
 {
-    let answer = numbers::read(bytes, slots);
-    match answer {
-        ReadAnswer::Count(count) => judge_numbers(bytes, &slots[..count]),
-        ReadAnswer::Unread(refusal) => JudgeAnswer::Refused(refusal),
-    }
+    let count = numbers::read(bytes, slots)?;
+    judge_numbers(bytes, &slots[..count])
 }
 
 // The same, for the numbers that the bytes hold.
-fn judge_numbers(bytes: &[u8], nums: &[u64]) -> JudgeAnswer
+fn judge_numbers(bytes: &[u8], nums: &[u64]) -> Result<Acceptance, Refusal>
     requires { stream_of bytes.now ≡ numbers nums.now }
     ensures { of_judge result ≡ judge_says bytes.now }
 {
@@ -83,29 +80,27 @@ fn judge_numbers(bytes: &[u8], nums: &[u64]) -> JudgeAnswer
         &mut offsets,
     );
     match verdict {
-        Verdict::Accepted {
-            ceiling,
-            store: _,
-            length,
-        } => JudgeAnswer::Accepted { ceiling, length },
-        Verdict::Refused { number, index } => {
-            JudgeAnswer::Refused(refusal_at(bytes, number, index))
-        }
+        Ok(verdict) => Ok(Acceptance {
+            ceiling: verdict.ceiling,
+            length: verdict.length,
+        }),
+        Err(fault) => Err(refusal_at(bytes, fault)),
     }
 }
 
-// The refusal of a file at the number with an index: that number's place.
-fn refusal_at(bytes: &[u8], number: u64, index: usize) -> Refusal
-    ensures { result ≡ refusal_at bytes.now number index }
+// The refusal of a file at the number at fault: that number's place.
+fn refusal_at(bytes: &[u8], fault: Fault) -> Refusal
+    ensures { result ≡ refusal_at bytes.now fault }
 {
-    let place = numbers::place_of(bytes, index);
-    Refusal { number, place }
+    let place = numbers::place_of(bytes, fault.index);
+    let reason = fault.reason;
+    Refusal { reason, place }
 }
 
 // The run of a bench file: how it ended, its steps, ceiling and store's length, with the final store in the result slots
 // and the working slots at 0; or refused 1 to 12 as the judge refuses it, or 13 where too few slots are lent, with all
 // slots as found.
-pub fn run(bytes: &[u8], results: &mut [u64], working: &mut [u64]) -> RunAnswer
+pub fn run(bytes: &[u8], results: &mut [u64], working: &mut [u64]) -> Result<Finished, Refusal>
     ensures { RunsFile bytes.now results.old results.new working.old working.new result }
 {
     if bytes.len() <= SHORT {
@@ -118,19 +113,26 @@ pub fn run(bytes: &[u8], results: &mut [u64], working: &mut [u64]) -> RunAnswer
 }
 
 // The same, with slots lent for all numbers that the bytes may hold.
-fn run_in(bytes: &[u8], slots: &mut [u64], results: &mut [u64], working: &mut [u64]) -> RunAnswer
+fn run_in(
+    bytes: &[u8],
+    slots: &mut [u64],
+    results: &mut [u64],
+    working: &mut [u64],
+) -> Result<Finished, Refusal>
     requires { Roomy bytes.now (length slots.old) }
     ensures { RunsFile bytes.now results.old results.new working.old working.new result }
 {
-    let answer = numbers::read(bytes, slots);
-    match answer {
-        ReadAnswer::Count(count) => run_numbers(bytes, &slots[..count], results, working),
-        ReadAnswer::Unread(refusal) => RunAnswer::Unrun(refusal),
-    }
+    let count = numbers::read(bytes, slots)?;
+    run_numbers(bytes, &slots[..count], results, working)
 }
 
 // The same, for the numbers that the bytes hold.
-fn run_numbers(bytes: &[u8], nums: &[u64], results: &mut [u64], working: &mut [u64]) -> RunAnswer
+fn run_numbers(
+    bytes: &[u8],
+    nums: &[u64],
+    results: &mut [u64],
+    working: &mut [u64],
+) -> Result<Finished, Refusal>
     requires { stream_of bytes.now ≡ numbers nums.now }
     ensures { RunsFile bytes.now results.old results.new working.old working.new result }
 {
@@ -148,91 +150,81 @@ fn run_numbers(bytes: &[u8], nums: &[u64], results: &mut [u64], working: &mut [u
         &mut offsets,
     );
     match verdict {
-        Verdict::Accepted {
-            ceiling,
-            store,
-            length,
-        } => {
+        Ok(verdict) => {
             prepare(&offsets, &entries, &widths, &mut directory);
-            run_accepted(
-                nums, &ends, &directory, ceiling, store, length, results, working,
-            )
+            let source = Source {
+                nums,
+                ends: &ends,
+                directory: &directory,
+            };
+            run_accepted(&source, verdict, results, working)
         }
-        Verdict::Refused { number, index } => RunAnswer::Unrun(refusal_at(bytes, number, index)),
+        Err(fault) => Err(refusal_at(bytes, fault)),
     }
 }
 
 // The run of an accepted file, where the slots lent are enough.
 fn run_accepted(
     source: &Source,
-    ceiling: u64,
-    store: usize,
-    length: usize,
+    verdict: Verdict,
     results: &mut [u64],
     working: &mut [u64],
-) -> RunAnswer
-    requires { In AsksAccepted source.now ceiling store length }
-    ensures { In RunsAccepted source.now results.old results.new working.old working.new ceiling store length result }
+) -> Result<Finished, Refusal>
+    requires { In AsksAccepted source.now verdict.ceiling verdict.store verdict.length }
+    ensures { In RunsAccepted source.now results.old results.new working.old working.new verdict.ceiling verdict.store verdict.length result }
 {
-    if working.len() < WORKING {
-        RunAnswer::Unrun(Refusal {
-            number: 13,
+    if working.len() < WORKING || results.len() < verdict.length {
+        return Err(Refusal {
+            reason: Reason::Room,
             place: 0,
-        })
-    } else if results.len() < length {
-        RunAnswer::Unrun(Refusal {
-            number: 13,
-            place: 0,
-        })
-    } else {
-        run_lent(source, ceiling, store, length, results, working)
+        });
     }
+    run_lent(source, verdict, results, working)
 }
 
 // The run itself: frames in the working slots behind the store's length. The store is copied into the result slots.
 fn run_lent(
     source: &Source,
-    ceiling: u64,
-    store: usize,
-    length: usize,
+    verdict: Verdict,
     results: &mut [u64],
     working: &mut [u64],
-) -> RunAnswer
-    requires { In AsksLent source.now results.old working.old ceiling store length }
-    ensures { In RunsAccepted source.now results.old results.new working.old working.new ceiling store length result }
+) -> Result<Finished, Refusal>
+    requires { In AsksLent source.now results.old working.old verdict.ceiling verdict.store verdict.length }
+    ensures { In RunsAccepted source.now results.old results.new working.old working.new verdict.ceiling verdict.store verdict.length result }
 {
+    let length = verdict.length;
     let mut slots = [0u64; STORE];
     let signal = runner::run(
         source,
-        store,
+        verdict.store,
         length,
         &mut slots,
         &mut working[length..WORKING],
     );
     copy(&slots, 0, length, results);
     clear(0, WORKING, working);
-    RunAnswer::Ended {
+    Ok(Finished {
         signal,
         steps: slots[COUNTER],
-        ceiling,
+        ceiling: verdict.ceiling,
         length,
-    }
+    })
 }
 
 // The result lines of a bench file, into the bytes from the first on: how many; or refused 13, with the bytes as found.
-pub fn lines(file: &[u8], bytes: &mut [u8]) -> WriteAnswer
+pub fn lines(file: &[u8], bytes: &mut [u8]) -> Result<usize, Refusal>
     ensures { Prints (printed file.now) bytes.old result bytes.new }
 {
     let mut results = [0u64; STORE];
     let mut working = [0u64; WORKING];
-    let answer = run(file, &mut results, &mut working);
-    match answer {
-        RunAnswer::Ended {
-            signal,
-            steps,
-            ceiling,
-            length,
-        } => lines::ended(signal, steps, ceiling, &results[..length], bytes),
-        RunAnswer::Unrun(refusal) => lines::refused(refusal.number, refusal.place, bytes),
+    match run(file, &mut results, &mut working) {
+        Ok(run) => lines::ended(
+            run.signal,
+            run.steps,
+            run.ceiling,
+            &results[..run.length],
+            bytes,
+        ),
+        Err(refusal) => lines::refused(refusal.reason.number(), refusal.place, bytes),
     }
 }

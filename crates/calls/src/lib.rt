@@ -2,11 +2,11 @@
 // lends. include/nentuvar.h says the same in C.
 #![tactic(auto)]
 
-ghost use Rattle.std.specs.Prelude.{◌≡◌, [], ◌∷◌, ◌++◌};
-ghost use Rattle.rules.specs.Answers.{of_refusal, of_read, of_write, of_judge, of_signal, of_run, judge_says};
+ghost use Rattle.std.specs.Prelude.{◌≡◌, Ok};
+ghost use Rattle.rules.specs.Answers.{of_refusal, of_read, of_write, of_judge, of_run, judge_says};
 ghost use Rattle.calls.specs.Promises.{in_five, TellsRead, TellsWrite, TellsRun};
 
-use rules::{JudgeAnswer, ReadAnswer, Refusal, RunAnswer, Signal, WriteAnswer};
+use rules::{Acceptance, Finished, Refusal, Signal};
 
 // The slots of an answer: the numbers that are told, then 0.
 const ANSWER: usize = 5;
@@ -16,8 +16,7 @@ const ANSWER: usize = 5;
 pub extern "C" fn nentuvar_read(bytes: &[u8], slots: &mut [u64], answer: &mut [u64; ANSWER])
     ensures { TellsRead bytes.now slots.old answer.new slots.new }
 {
-    let told = bench::read(bytes, slots);
-    *answer = of_read(told);
+    *answer = of_count(bench::read(bytes, slots));
 }
 
 // The numbers as bytes, into the bytes from the first on: 1 and how many; or 0 and the refusal, with the bytes as found.
@@ -25,8 +24,7 @@ pub extern "C" fn nentuvar_read(bytes: &[u8], slots: &mut [u64], answer: &mut [u
 pub extern "C" fn nentuvar_write(numbers: &[u64], bytes: &mut [u8], answer: &mut [u64; ANSWER])
     ensures { TellsWrite numbers.now bytes.old answer.new bytes.new }
 {
-    let told = bench::write(numbers, bytes);
-    *answer = of_write(told);
+    *answer = of_count(bench::write(numbers, bytes));
 }
 
 // The verdict on a bench file: 1, its ceiling and its store's length; or 0 and the refusal.
@@ -34,8 +32,7 @@ pub extern "C" fn nentuvar_write(numbers: &[u64], bytes: &mut [u8], answer: &mut
 pub extern "C" fn nentuvar_judge(bytes: &[u8], answer: &mut [u64; ANSWER])
     ensures { answer.new ≡ in_five (judge_says bytes.now) }
 {
-    let told = bench::judge(bytes);
-    *answer = of_judge(told);
+    *answer = of_judge(bench::judge(bytes));
 }
 
 // The run of a bench file: 1 where it is done or 2 where it ends by exit, its steps, its ceiling and its store's length,
@@ -49,64 +46,52 @@ pub extern "C" fn nentuvar_run(
 )
     ensures { TellsRun bytes.now results.old working.old answer.new results.new working.new }
 {
-    let told = bench::run(bytes, results, working);
-    *answer = of_run(told);
+    *answer = of_run(bench::run(bytes, results, working));
 }
 
-// The cases of the answers in the paper's numbers: 1 and what is told, or 0 and the refusal.
-fn of_read(answer: ReadAnswer) -> [u64; ANSWER]
-    ensures { result ≡ in_five (of_read answer) }
+// The cases of the answers in the paper's numbers: 1 and what is told, or 0 and the refusal. Reading tells how many
+// numbers, writing how many bytes.
+fn of_count(answer: Result<usize, Refusal>) -> [u64; ANSWER]
+    ensures read { result ≡ in_five (of_read answer) }
+    ensures written { result ≡ in_five (of_write answer) }
 {
     match answer {
-        ReadAnswer::Count(count) => [1, count as u64, 0, 0, 0],
-        ReadAnswer::Unread(refusal) => of_refusal(refusal),
+        Ok(count) => [1, count as u64, 0, 0, 0],
+        Err(refusal) => of_refusal(refusal),
     }
 }
 
-fn of_write(answer: WriteAnswer) -> [u64; ANSWER]
-    ensures { result ≡ in_five (of_write answer) }
-{
-    match answer {
-        WriteAnswer::Length(length) => [1, length as u64, 0, 0, 0],
-        WriteAnswer::Unwritten(refusal) => of_refusal(refusal),
-    }
-}
-
-fn of_judge(answer: JudgeAnswer) -> [u64; ANSWER]
+fn of_judge(answer: Result<Acceptance, Refusal>) -> [u64; ANSWER]
     ensures { result ≡ in_five (of_judge answer) }
 {
     match answer {
-        JudgeAnswer::Accepted { ceiling, length } => [1, ceiling, length as u64, 0, 0],
-        JudgeAnswer::Refused(refusal) => of_refusal(refusal),
+        Ok(file) => [1, file.ceiling, file.length as u64, 0, 0],
+        Err(refusal) => of_refusal(refusal),
     }
 }
 
-fn of_run(answer: RunAnswer) -> [u64; ANSWER]
+fn of_run(answer: Result<Finished, Refusal>) -> [u64; ANSWER]
     ensures { result ≡ in_five (of_run answer) }
 {
     match answer {
-        RunAnswer::Ended {
-            signal,
-            steps,
-            ceiling,
-            length,
-        } => of_ended(signal, steps, ceiling, length as u64),
-        RunAnswer::Unrun(refusal) => of_refusal(refusal),
+        Ok(run) => of_finished(run),
+        Err(refusal) => of_refusal(refusal),
     }
 }
 
-fn of_ended(signal: Signal, steps: u64, ceiling: u64, length: u64) -> [u64; ANSWER]
-    ensures { result ≡ in_five (of_signal signal ++ steps ∷ ceiling ∷ length ∷ []) }
+fn of_finished(run: Finished) -> [u64; ANSWER]
+    ensures { result ≡ in_five (of_run (Ok run)) }
 {
-    match signal {
-        Signal::Done => [1, steps, ceiling, length, 0],
-        Signal::Exit => [2, steps, ceiling, length, 0],
-        Signal::Reject(error) => [4, error, steps, ceiling, length],
+    let length = run.length as u64;
+    match run.signal {
+        Signal::Done => [1, run.steps, run.ceiling, length, 0],
+        Signal::Exit => [2, run.steps, run.ceiling, length, 0],
+        Signal::Reject(error) => [4, error, run.steps, run.ceiling, length],
     }
 }
 
 fn of_refusal(refusal: Refusal) -> [u64; ANSWER]
     ensures { result ≡ in_five (of_refusal refusal) }
 {
-    [0, refusal.number, refusal.place as u64, 0, 0]
+    [0, refusal.reason.number(), refusal.place as u64, 0, 0]
 }

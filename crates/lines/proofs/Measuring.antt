@@ -1,6 +1,7 @@
 -- How many bytes the lines take: what is counted and what is left give the length, and no sum passes the room.
+use Rattle.std.specs.Prelude.{Result, Ok, Err}
 use mathlib.Core.List.{List, [], ◌∷◌}
-use mathlib.Core.Path.{◌≡◌, refl, sym, ap, ◌∙◌}
+use mathlib.Core.Path.{◌≡◌, refl, sym, ap}
 use Prim.Native.Nat.{ℕ, ◌+◌, ◌-◌, ◌<◌, ◌≤◌}
 use native.Mathlib.Omega.{arith}
 use lib.ListN.{length, drop, get_or}
@@ -8,9 +9,9 @@ use mir.Syntax.{w64}
 use mir.Val.{Fits}
 use Rattle.rules.specs.declared.Signal.{Signal}
 use Rattle.rules.specs.declared.Signal.TheVariants.{Done, Exit, Reject}
-use Rattle.rules.specs.declared.WriteAnswer.{WriteAnswer}
-use Rattle.rules.specs.declared.WriteAnswer.TheVariants.{Length}
-use Rattle.rules.specs.Answers.{of_write}
+use Rattle.rules.specs.declared.Reason.TheVariants.{Room}
+use Rattle.rules.specs.declared.Refusal.{Refusal}
+use Rattle.rules.specs.Answers.{of_write, of_refusal}
 use Rattle.rules.specs.Lines.{decimal, behind_blanks, word_of}
 use Rattle.numbers.proofs.Room.{room-told, room-refused}
 use Rattle.lines.specs.Parts.{store_line, measured}
@@ -18,13 +19,16 @@ use Rattle.lines.proofs.Decimals.{decimal-few}
 use Rattle.lines.proofs.Texts.{length_two, length-behind, behind-end, store-one, store-least, store-some, done-letters, exit-letters, reject-letters}
 
 -- an answer that tells a length, and one that refuses
-pub measured-length : (wanted lent n : ℕ) → n ≡ wanted → wanted ≤ lent → of_write (Length n) ≡ measured wanted lent
+pub measured-length : (wanted lent n : ℕ) → n ≡ wanted → wanted ≤ lent → of_write (Ok n) ≡ measured wanted lent
 unfolding of_write
 measured-length wanted lent n e h = rw e (sym (room-told wanted lent (1 ∷ wanted ∷ []) h))
 
-pub measured-short : (wanted lent : ℕ) (r : WriteAnswer) → lent < wanted → of_write r ≡ 0 ∷ 13 ∷ 0 ∷ [] →
-    of_write r ≡ measured wanted lent
-measured-short wanted lent r h e = e ∙ sym (room-refused wanted lent (1 ∷ wanted ∷ []) h)
+abbrev pub too_few : Result ℕ Refusal
+too_few = Err (record { reason = Room; place = 0 })
+
+pub measured-short : (wanted lent : ℕ) → lent < wanted → of_write too_few ≡ measured wanted lent
+unfolding of_write of_refusal
+measured-short wanted lent h = sym (room-refused wanted lent (1 ∷ wanted ∷ []) h)
 
 -- a word and two numbers
 module _ (letters first second a b : ℕ) (few : letters ≤ 27) (e : a ≡ length (decimal first)) where
@@ -80,12 +84,11 @@ module _ (ns : List ℕ) (line room taken index : ℕ) (m : Measuring ns line ro
     measuring-more fit =
         record { inside = omega arith; within = omega arith; leads = omega (arith, length-behind ns index h) }
 
-    pub measuring-full : (r : WriteAnswer) → room - taken < 1 + count → of_write r ≡ 0 ∷ 13 ∷ 0 ∷ [] →
-        of_write r ≡ measured (line + length (behind_blanks ns)) room
-    measuring-full r full =
-        measured-short (line + length (behind_blanks ns)) room r (omega (arith, m.leads, length-behind ns index h))
+    pub measuring-full : room - taken < 1 + count → of_write too_few ≡ measured (line + length (behind_blanks ns)) room
+    measuring-full full =
+        measured-short (line + length (behind_blanks ns)) room (omega (arith, m.leads, length-behind ns index h))
 
-  pub measuring-done : length ns ≤ index → of_write (Length taken) ≡ measured (line + length (behind_blanks ns)) room
+  pub measuring-done : length ns ≤ index → of_write (Ok taken) ≡ measured (line + length (behind_blanks ns)) room
   measuring-done h =
       let all : taken ≡ line + length (behind_blanks ns) = omega (arith, m.leads, ap length (behind-end ns index h)) in
       measured-length (line + length (behind_blanks ns)) room taken all (omega arith)
@@ -97,16 +100,15 @@ module _ (ns : List ℕ) (line room : ℕ) where
   abbrev all : ℕ
   all = line + length (store_line ns)
 
-  pub lines-short : (r : WriteAnswer) → room ≤ line → of_write r ≡ 0 ∷ 13 ∷ 0 ∷ [] →
-      of_write r ≡ measured (line + length (store_line ns)) room
-  lines-short r h = measured-short all room r (omega (arith, store-least ns))
+  pub lines-short : room ≤ line → of_write too_few ≡ measured (line + length (store_line ns)) room
+  lines-short h = measured-short all room (omega (arith, store-least ns))
 
   pub lines-empty : line < room → length ns ≡ 0 →
-      of_write (Length (line + 1)) ≡ measured (line + length (store_line ns)) room
+      of_write (Ok (line + 1)) ≡ measured (line + length (store_line ns)) room
   lines-empty h e =
       measured-length all room (line + 1) (omega (arith, store-one ns e)) (omega (arith, store-one ns e))
 
-  pub lines-numbers : (r : WriteAnswer) → (length ns ≡ 0 → ⊥) →
+  pub lines-numbers : (r : Result ℕ Refusal) → (length ns ≡ 0 → ⊥) →
       of_write r ≡ measured (line + length (behind_blanks ns)) room →
       of_write r ≡ measured (line + length (store_line ns)) room
   lines-numbers r some e = rw (store-some ns some) e

@@ -1,10 +1,11 @@
 -- Numbers behind blanks, put one after the other.
 use mathlib.Core.List.{List, [], ◌∷◌}
 use mathlib.Core.Path.{◌≡◌, refl, ap, ◌∙◌}
-use Prim.Native.Nat.{ℕ, ◌+◌, ◌<◌, ◌≤◌}
+use Prim.Native.Nat.{ℕ, ◌+◌, ◌-◌, ◌<◌, ◌≤◌}
 use native.Mathlib.Numerals.{add-one}
 use native.Mathlib.Omega.{arith}
-use lib.ListN.{length, drop, get_or, set, length-set, length-append}
+use Rattle.std.proofs.lemmas.List.{take_rest}
+use lib.ListN.{length, take, drop, get_or, set, length-set, length-append}
 use Rattle.rules.specs.Lines.{blank, decimal, behind_blanks, between_blanks}
 use Rattle.lines.specs.Parts.{Stored}
 use Rattle.lines.proofs.Texts.{behind-two, length_two, behind-next, behind-end, between_none, between-some}
@@ -50,11 +51,10 @@ module _ (first second place : ℕ) (bytes : List ℕ)
 
 pub ruleset pairs = (pair-first, pair-second, pair_put)
 
--- those of a list from an index on
-pub numbers-start : (ns : List ℕ) (from place : ℕ) (bytes : List ℕ) →
-    place + length (behind_blanks (drop from ns)) ≤ length bytes →
-    Storing (behind_blanks (drop from ns)) place bytes (behind_blanks (drop from ns)) place bytes
-numbers-start ns from place bytes h = storing-start (behind_blanks (drop from ns)) place bytes h
+-- those of a list
+pub numbers-start : (ns : List ℕ) (place : ℕ) (bytes : List ℕ) → place + length (behind_blanks ns) ≤ length bytes →
+    Storing (behind_blanks ns) place bytes (behind_blanks (drop 0 ns)) place bytes
+numbers-start ns place bytes h = storing-start (behind_blanks ns) place bytes h
 
 module _ (ns text : List ℕ) (place : ℕ) (bytes₀ : List ℕ) (index at : ℕ) (bytes : List ℕ)
     (s : Storing text place bytes₀ (behind_blanks (drop index ns)) at bytes) where
@@ -93,13 +93,14 @@ module _ (ns : List ℕ) (place : ℕ) (bytes : List ℕ) where
     between_first = omega (arith, lengths)
 
     module _ (next : ℕ) (left : List ℕ) (p : Stored (decimal (get_or ns 0 0)) place bytes next left) where
-      pub between-others : next + length (behind_blanks (drop 1 ns)) ≤ length left
-      between-others = omega (arith, lengths, p.behind, stored-kept (decimal (get_or ns 0 0)) place bytes next left p)
+      pub between-others : next + length (behind_blanks (take (length ns - 1) (drop 1 ns))) ≤ length left
+      between-others = rw (take_rest ns 1) (omega (arith, lengths, p.behind, stored-kept (decimal (get_or ns 0 0)) place bytes next left p))
 
-      pub between_put : (next' : ℕ) (left' : List ℕ) → Stored (behind_blanks (drop 1 ns)) next left next' left' →
+      pub between_put : (next' : ℕ) (left' : List ℕ) →
+          Stored (behind_blanks (take (length ns - 1) (drop 1 ns))) next left next' left' →
           Stored (between_blanks ns) place bytes next' left'
       between_put next' left' q =
           rw (between-some ns some)
-          (stored-both (decimal (get_or ns 0 0)) place bytes next left p (behind_blanks (drop 1 ns)) next' left' q)
+          (stored-both (decimal (get_or ns 0 0)) place bytes next left p (behind_blanks (drop 1 ns)) next' left' (rw (take_rest ns 1) at q))
 
 pub ruleset betweens = (between-empty, between_first, between-others, between_put)

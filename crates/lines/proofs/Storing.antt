@@ -1,11 +1,11 @@
 -- A text put into bytes part by part: what is put and what is left to put give the bytes' later contents.
 use mathlib.Core.List.{List, [], ◌∷◌, ◌++◌}
 use mathlib.Core.Path.{◌≡◌, refl, sym, ap, ◌∙◌}
-use Prim.Native.Nat.{ℕ, ◌+◌, ◌<◌, ◌≤◌}
-use native.Mathlib.Numerals.{add-one}
+use Prim.Native.Nat.{ℕ, ◌+◌, ◌≤◌}
 use native.Mathlib.Omega.{arith}
-use lib.ListN.{length, drop, get_or, set, length-append, drop_of_length-le}
-use lib.Seq.{sets, length-sets, drop-cons}
+use lib.ListN.{length, drop, set, length-append}
+use lib.Seq.{sets, length-sets}
+use Rattle.numbers.proofs.Room.{filled-there, filled-stored}
 use Rattle.numbers.proofs.Storing.{sets-append}
 use Rattle.lines.specs.Parts.{Stored}
 
@@ -61,28 +61,11 @@ module _ (text : List ℕ) (place : ℕ) (bytes₀ rest : List ℕ) (at : ℕ) (
   storing-done e =
       record { behind = omega (arith, s.behind, ap length e); leaves = rw e at s.leads }
 
--- a word, byte by byte
-module _ (word bytes₀ : List ℕ) (at : ℕ) (bytes : List ℕ) (s : Storing word 0 bytes₀ (drop at word) at bytes) where
-  module _ (h : at < length word) where
-    next : drop at word ≡ (get_or word at 0 ∷ []) ++ drop (at + 1) word
-    next = rw (add-one at) (drop-cons word at 0 h)
-
-    pub word_room : at < length bytes
-    word_room =
-        omega
-        (arith, storing-room word 0 bytes₀ (drop at word) at bytes s (get_or word at 0 ∷ []) (drop (at + 1) word) next)
-
-    pub word_more : Storing word 0 bytes₀ (drop (at + 1) word) (at + 1) (set bytes at (get_or word at 0))
-    word_more =
-        storing-part word 0 bytes₀ (drop at word) at bytes s (get_or word at 0 ∷ []) (drop (at + 1) word) next
-        (at + 1)
-        (set bytes at (get_or word at 0))
-        (stored-byte (get_or word at 0) at bytes)
-
-  pub word-done : length word ≤ at → Stored word 0 bytes₀ at bytes
-  word-done h = storing-done word 0 bytes₀ (drop at word) at bytes s (drop_of_length-le word h)
-
-pub word-start : (word bytes : List ℕ) → length word ≤ length bytes → Storing word 0 bytes (drop 0 word) 0 bytes
-word-start word bytes h = storing-start word 0 bytes (omega arith)
-
-pub ruleset wordings = (word-start, word_room, word_more, word-done)
+-- a word copied into the first bytes
+pub word-put : (word bytes copied : List ℕ) → length word ≤ length bytes → copied ≡ word →
+    Stored word 0 bytes (length word) (copied ++ drop (length word) bytes)
+word-put word bytes copied h e =
+    record {
+      behind = omega arith;
+      leaves = rw e (sym (filled-stored word bytes h ∙ filled-there word bytes h));
+    }

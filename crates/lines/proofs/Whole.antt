@@ -1,16 +1,16 @@
 -- The lines as a whole: from the parts that were put to what is promised.
+use Rattle.std.specs.Prelude.{Result, Ok, Err}
 use mathlib.Core.List.{List, [], ◌∷◌, ◌++◌}
 use mathlib.Core.Path.{◌≡◌, refl, sym, ap, ◌∙◌}
 use Prim.Native.Nat.{ℕ, ◌+◌, ◌<◌, ◌≤◌}
 use native.Mathlib.Omega.{arith}
 use lib.ListN.{length, set, length-append}
 use lib.Seq.{sets, length-sets}
+use Rattle.rules.specs.declared.Reason.TheVariants.{Room}
 use Rattle.rules.specs.declared.Refusal.{Refusal}
 use Rattle.rules.specs.declared.Signal.{Signal}
 use Rattle.rules.specs.declared.Signal.TheVariants.{Reject}
-use Rattle.rules.specs.declared.WriteAnswer.{WriteAnswer}
-use Rattle.rules.specs.declared.WriteAnswer.TheVariants.{Length, Unwritten}
-use Rattle.rules.specs.Answers.{of_write, of_refusal, ended}
+use Rattle.rules.specs.Answers.{number_of, of_write, of_refusal, ended}
 use Rattle.rules.specs.Lines.{blank, newline, decimal, behind_blanks, between_blanks, word_of, refused_word, refused_line, lines_of}
 use Rattle.numbers.proofs.Room.{room-there, room-told, filled-stored, filled-refused}
 use Rattle.lines.specs.Promises.{Prints}
@@ -84,7 +84,7 @@ pub ruleset stores = (store-numbers, store-end, store-put, line_kept)
 
 -- what is promised of a text that was put, and of one for which there is no room
 prints-put : (text bytes : List ℕ) (n : ℕ) (left : List ℕ) → n ≡ length text → n ≤ length bytes →
-    left ≡ sets bytes 0 text → Prints text bytes (Length n) left
+    left ≡ sets bytes 0 text → Prints text bytes (Ok n) left
 prints-put text bytes n left e h p =
     let room : length text ≤ length bytes = omega arith in
     record {
@@ -92,10 +92,14 @@ prints-put text bytes n left e h p =
       leaves = p ∙ filled-stored text bytes room;
     }
 
-prints-kept : (text bytes : List ℕ) (r : WriteAnswer) (number place : ℕ) → of_write r ≡ 0 ∷ number ∷ place ∷ [] →
-    of_write r ≡ measured (length text) (length bytes) → Prints text bytes r bytes
-prints-kept text bytes r number place e says =
-    record { says = says; leaves = filled-refused text bytes number place (length text ∷ []) (sym e ∙ says) }
+prints-kept : (text bytes : List ℕ) (refusal : Refusal) → of_write (Err refusal) ≡ measured (length text) (length bytes) →
+    Prints text bytes (Err refusal) bytes
+unfolding of_write of_refusal
+prints-kept text bytes refusal says =
+    record {
+      says = says;
+      leaves = filled-refused text bytes (number_of refusal.reason) refusal.place (length text ∷ []) says;
+    }
 
 -- the word of a signal, and behind that of a reject its error
 module _ (signal : Signal) (word bytes : List ℕ) (e : word_of signal ≡ word) where
@@ -136,14 +140,14 @@ module _ (number place : ℕ) (bytes : List ℕ) (n : ℕ) (e : n ≡ 7 + length
   refused-room h = omega (arith, length-word refused_word number place)
 
   pub refused-put : n ≤ length bytes → (left : List ℕ) → left ≡ sets bytes 0 (word_line refused_word number place) →
-      Prints (refused_line number place) bytes (Length n) left
+      Prints (refused_line number place) bytes (Ok n) left
   refused-put h left p = prints-put refusal-text bytes n left refused-length h (rw (refused-text number place) p)
 
-  pub refused-short : length bytes < n → (r : WriteAnswer) → of_write r ≡ 0 ∷ 13 ∷ 0 ∷ [] →
-      Prints (refused_line number place) bytes r bytes
-  refused-short h r q =
-      prints-kept refusal-text bytes r 13 0 q
-      (measured-short (length refusal-text) (length bytes) r (omega (arith, refused-length)) q)
+  pub refused-short : length bytes < n →
+      Prints (refused_line number place) bytes (Err (record { reason = Room; place = 0 })) bytes
+  refused-short h =
+      prints-kept refusal-text bytes (record { reason = Room; place = 0 })
+      (measured-short (length refusal-text) (length bytes) (omega (arith, refused-length)))
 
 pub ruleset refusals = (refused-room, refused-put, refused-short)
 
@@ -153,7 +157,7 @@ letters-few signal letters e = omega (arith, word-few signal)
 -- all of a run that ended: the measure decides the answer, and with it whether the lines are put
 module _ (signal : Signal) (steps ceiling : ℕ) (store bytes : List ℕ) (line : ℕ) (letters : ℕ)
     (w : letters ≡ length (word_of signal))
-    (e : line ≡ letters + length (behind_blanks (steps ∷ ceiling ∷ [])) + 1) (a : WriteAnswer)
+    (e : line ≡ letters + length (behind_blanks (steps ∷ ceiling ∷ [])) + 1) (a : Result ℕ Refusal)
     (says : of_write a ≡ measured (line + length (store_line store)) (length bytes)) where
   abbrev text : List ℕ
   text = lines_of (ended signal steps ceiling store)
@@ -172,7 +176,7 @@ module _ (signal : Signal) (steps ceiling : ℕ) (store bytes : List ℕ) (line 
   tells : of_write a ≡ measured (length text) (length bytes)
   tells = rw all-is at says
 
-  module _ (n : ℕ) (is : a ≡ Length n) where
+  module _ (n : ℕ) (is : a ≡ Ok n) where
     told : 1 ∷ n ∷ [] ≡ measured (length text) (length bytes)
     unfolding of_write
     told = ap of_write (sym is) ∙ tells
@@ -191,7 +195,7 @@ module _ (signal : Signal) (steps ceiling : ℕ) (store bytes : List ℕ) (line 
       ended-second = omega (arith, all-is, room, ap length p, length-sets bytes 0 first-line)
 
       pub ended-put : (left' : List ℕ) → left' ≡ sets left line (store_line store) →
-          Prints (lines_of (ended signal steps ceiling store)) bytes (Length n) left'
+          Prints (lines_of (ended signal steps ceiling store)) bytes (Ok n) left'
       ended-put left' q =
           prints-put text bytes n left' length-is (omega (arith, length-is, room))
           (rw (ended-text signal steps ceiling store)
@@ -202,11 +206,8 @@ module _ (signal : Signal) (steps ceiling : ℕ) (store bytes : List ℕ) (line 
           (record { behind = refl; leaves = q })
           ).leaves)
 
-  pub ended-short : (refusal : Refusal) → a ≡ Unwritten refusal →
-      Prints (lines_of (ended signal steps ceiling store)) bytes (Unwritten refusal) bytes
-  unfolding of_write of_refusal
-  ended-short refusal is =
-      prints-kept text bytes (Unwritten refusal) refusal.number refusal.place refl
-      (ap of_write (sym is) ∙ tells)
+  pub ended-short : (refusal : Refusal) → a ≡ Err refusal →
+      Prints (lines_of (ended signal steps ceiling store)) bytes (Err refusal) bytes
+  ended-short refusal is = prints-kept text bytes refusal (ap of_write (sym is) ∙ tells)
 
 pub ruleset endings = (letters-few, ended-first, ended-second, ended-put, ended-short)

@@ -2,14 +2,14 @@
 // stay as found.
 #![tactic(auto)]
 
-ghost use Rattle.std.specs.Prelude.{◌≡◌, ◌∷◌, [], ◌+◌, ◌≤◌, length, drop};
+ghost use Rattle.std.specs.Prelude.{◌≡◌, ◌∷◌, [], ◌+◌, ◌≤◌, length};
 ghost use Rattle.std.proofs.lemmas.List.Edits.{sets};
 ghost use Rattle.rules.specs.Answers.{of_write, ended};
 ghost use Rattle.rules.specs.Lines.{blank, decimal, behind_blanks, between_blanks, word_of, refused_line, lines_of};
 ghost use Rattle.lines.specs.Promises.{Prints};
 ghost use Rattle.lines.specs.Parts.{most_letters, word_line, store_line, measured, Stored};
 
-use rules::{Refusal, Signal, WriteAnswer};
+use rules::{Reason, Refusal, Signal};
 
 const BLANK: u8 = 32;
 
@@ -27,17 +27,22 @@ const SIGNAL_LETTERS: usize = 4;
 // How many letters `reject` has.
 const REJECT_LETTERS: usize = 6;
 
+// More bytes are wanted than are lent.
+const TOO_FEW: Refusal = Refusal {
+    reason: Reason::Room,
+    place: 0,
+};
+
 // The line of a refusal, into the bytes from the first on: how many; or refused 13, with the bytes as found.
-pub fn refused(number: u64, place: usize, bytes: &mut [u8]) -> WriteAnswer
+pub fn refused(number: u64, place: usize, bytes: &mut [u8]) -> Result<usize, Refusal>
     ensures { Prints (refused_line number place) bytes.old result bytes.new }
 {
     let length = line_length(REFUSED_LETTERS, number, place as u64);
-    if length <= bytes.len() {
-        put_line(b"refused", number, place as u64, bytes);
-        WriteAnswer::Length(length)
-    } else {
-        too_few()
+    if bytes.len() < length {
+        return Err(TOO_FEW);
     }
+    put_line(b"refused", number, place as u64, bytes);
+    Ok(length)
 }
 
 // The two lines of a run that ended, with the store's numbers on the second, likewise.
@@ -47,30 +52,15 @@ pub fn ended(
     ceiling: u64,
     store: &[u64],
     bytes: &mut [u8],
-) -> WriteAnswer
+) -> Result<usize, Refusal>
     ensures { Prints (lines_of (ended signal steps ceiling store.now)) bytes.old result bytes.new }
 {
     let letters = word_length(signal);
     let line = line_length(letters, steps, ceiling);
-    let answer = measure(store, line, bytes.len());
-    match answer {
-        WriteAnswer::Length(length) => {
-            put_signal(signal, steps, ceiling, bytes);
-            put_store(store, line, bytes);
-            WriteAnswer::Length(length)
-        }
-        WriteAnswer::Unwritten(refusal) => WriteAnswer::Unwritten(refusal),
-    }
-}
-
-// More bytes are wanted than are lent.
-fn too_few() -> WriteAnswer
-    ensures { of_write result ≡ 0 ∷ 13 ∷ 0 ∷ [] }
-{
-    WriteAnswer::Unwritten(Refusal {
-        number: 13,
-        place: 0,
-    })
+    let length = measure(store, line, bytes.len())?;
+    put_signal(signal, steps, ceiling, bytes);
+    put_store(store, line, bytes);
+    Ok(length)
 }
 
 // How many bytes the word of a signal takes, with the error behind that of a reject.
@@ -93,34 +83,32 @@ fn line_length(letters: usize, first: u64, second: u64) -> usize
 }
 
 // How many bytes the lines take whose first takes so many, or 13 where that is more than there is room for.
-fn measure(store: &[u64], line: usize, room: usize) -> WriteAnswer
+fn measure(store: &[u64], line: usize, room: usize) -> Result<usize, Refusal>
     ensures { of_write result ≡ measured (line + length (store_line store.now)) room }
 {
     if room <= line {
-        too_few()
+        Err(TOO_FEW)
     } else if store.len() == 0 {
-        WriteAnswer::Length(line + 1)
+        Ok(line + 1)
     } else {
         measure_numbers(store, line, room)
     }
 }
 
 // The same behind so many bytes for numbers with one byte more for each.
-fn measure_numbers(store: &[u64], line: usize, room: usize) -> WriteAnswer
+fn measure_numbers(store: &[u64], line: usize, room: usize) -> Result<usize, Refusal>
     requires { line ≤ room }
     ensures { of_write result ≡ measured (line + length (behind_blanks store.now)) room }
 {
     let mut taken = line;
-    let mut index = 0;
-    while index < store.len() {
-        let more = 1 + digits(store[index]);
+    for &number in store {
+        let more = 1 + digits(number);
         if room - taken < more {
-            return too_few();
+            return Err(TOO_FEW);
         }
         taken += more;
-        index += 1;
     }
-    WriteAnswer::Length(taken)
+    Ok(taken)
 }
 
 // How many digits a number has.
@@ -176,12 +164,9 @@ fn put_word(word: &[u8], bytes: &mut [u8]) -> usize
     requires { length word.now ≤ length bytes.old }
     ensures { Stored word.now 0 bytes.old result bytes.new }
 {
-    let mut at = 0;
-    while at < word.len() {
-        bytes[at] = word[at];
-        at += 1;
-    }
-    at
+    let length = word.len();
+    bytes[..length].copy_from_slice(word);
+    length
 }
 
 // The line of a store's numbers, into bytes that it fits, from a place on.
@@ -202,20 +187,18 @@ fn put_between(store: &[u64], place: usize, bytes: &mut [u8]) -> usize
         place
     } else {
         let next = put_decimal(store[0], place, bytes);
-        put_numbers(store, 1, next, bytes)
+        put_numbers(&store[1..], next, bytes)
     }
 }
 
-// The numbers from an index on, with a blank in front of each, from a place on: the place behind them.
-fn put_numbers(store: &[u64], from: usize, place: usize, bytes: &mut [u8]) -> usize
-    requires { place + length (behind_blanks (drop from store.now)) ≤ length bytes.old }
-    ensures { Stored (behind_blanks (drop from store.now)) place bytes.old result bytes.new }
+// Numbers with a blank in front of each, from a place on: the place behind them.
+fn put_numbers(numbers: &[u64], place: usize, bytes: &mut [u8]) -> usize
+    requires { place + length (behind_blanks numbers.now) ≤ length bytes.old }
+    ensures { Stored (behind_blanks numbers.now) place bytes.old result bytes.new }
 {
     let mut at = place;
-    let mut index = from;
-    while index < store.len() {
-        at = put_behind(store[index], at, bytes);
-        index += 1;
+    for &number in numbers {
+        at = put_behind(number, at, bytes);
     }
     at
 }

@@ -5,7 +5,6 @@
 ghost use Rattle.mark.specs.Marks.{most_printed, Marks};
 ghost use Rattle.std.specs.Prelude.{◌≤◌, length};
 
-use rules::WriteAnswer;
 use std::io;
 
 // Bytes enough for the result lines of every file.
@@ -31,9 +30,5 @@ fn lines(file: &[u8], bytes: &mut [u8]) -> usize
     requires { most_printed ≤ length bytes.old }
     ensures { Marks file.now result bytes.new }
 {
-    let answer = bench::lines(file, bytes);
-    match answer {
-        WriteAnswer::Length(length) => length,
-        WriteAnswer::Unwritten(_) => 0,
-    }
+    bench::lines(file, bytes).unwrap_or(0)
 }

@@ -1,4 +1,5 @@
 -- Filling slots with the numbers of a stream: what is stored and what is left to store give the slots' later contents.
+use Rattle.std.specs.Prelude.{Result, Ok, Err}
 use mathlib.Core.List.{List, []}
 use mathlib.Core.Path.{◌≡◌, refl, sym, ◌∙◌}
 use Prim.Native.Nat.{ℕ, ◌+◌, ◌<◌, ◌≤◌}
@@ -6,11 +7,11 @@ use native.Mathlib.Numerals.{add-one}
 use native.Mathlib.Omega.{arith}
 use lib.ListN.{length, drop, get_or, set, length-set}
 use lib.Seq.{sets}
+use Rattle.rules.specs.declared.Reason.{Reason}
 use Rattle.rules.specs.Numbers.{Stream, numbers, broken, stream_from}
-use Rattle.rules.specs.Answers.{left_by_stream, read_leaves}
+use Rattle.rules.specs.Answers.{number_of, left_by_stream, read_leaves}
 use Rattle.rules.proofs.Codec.{stream-reads, First, first-is, first_of}
 use Rattle.numbers.specs.declared.Number.{Number}
-use Rattle.numbers.specs.declared.Number.TheVariants.{Whole, Cut, Wrong}
 use Rattle.numbers.specs.Parts.{stream_at, NumberAt, Readable, readable}
 use Rattle.numbers.proofs.Room.{filled-stored}
 use Rattle.numbers.proofs.Within.{stream-none, number-one, number-ahead}
@@ -35,61 +36,55 @@ filling-start bytes slots (readable ns r h) =
     }
 
 module _ (bytes slots₀ slots : List ℕ) (index at : ℕ) (f : Filling bytes slots₀ slots index at)
-    (r : Number) (found : NumberAt bytes at r) where
-  module _ (value next : ℕ) (e : r ≡ Whole value next) where
+    (r : Result Number Reason) (found : NumberAt bytes at r) where
+  module _ (number : Number) (e : r ≡ Ok number) where
     abbrev behind : Stream
-    behind = stream_from next 0 0 (drop next bytes)
+    behind = stream_from number.next 0 0 (drop number.next bytes)
 
-    next-first : First value behind f.rest
+    next-first : First number.value behind f.rest
     unfolding stream_at
-    next-first = first_of value behind f.rest (sym (found.reads ∙ rw e) ∙ f.reads)
+    next-first = first_of number.value behind f.rest (sym (found.reads ∙ rw e) ∙ f.reads)
 
     pub filling-room : index < length slots
     filling-room = go f.rest f.room next-first
       where
-        go : (rest : List ℕ) → index + length rest ≤ length slots → First value behind rest → index < length slots
+        go : (rest : List ℕ) → index + length rest ≤ length slots → First number.value behind rest → index < length slots
         go rest h (first-is others s v) = omega (arith, rw v at h)
 
-    pub filling-more : Filling bytes slots₀ (set slots index value) (index + 1) next
+    pub filling-more : Filling bytes slots₀ (set slots index number.value) (index + 1) number.next
     filling-more = go f.rest f.room f.leads next-first
       where
         go : (rest : List ℕ) → index + length rest ≤ length slots → sets slots index rest ≡ read_leaves bytes slots₀ →
-            First value behind rest → Filling bytes slots₀ (set slots index value) (index + 1) next
+            First number.value behind rest → Filling bytes slots₀ (set slots index number.value) (index + 1) number.next
         go rest h leads (first-is others s v) =
             record {
               rest = others;
               reads = s;
               room = rw length-set (omega (arith, rw v at h));
-              same = length-set slots index value ∙ f.same;
+              same = length-set slots index number.value ∙ f.same;
               leads = rw (add-one index) (rw v at leads);
             }
 
-  -- what is cut off or wrong is no number of a stream that reads
-  pub filling-cut : r ≡ Cut → slots ≡ read_leaves bytes slots₀
+  -- what is refused is no number of a stream that reads
+  pub filling-broken : (reason : Reason) → r ≡ Err reason → slots ≡ read_leaves bytes slots₀
   unfolding stream_at
-  filling-cut e =
-      let never : broken 2 at ≡ numbers f.rest = sym (found.reads ∙ rw e) ∙ f.reads in
-      let z : ◌≡◌ {A = ℕ} 0 1 = cc in absurd (omega arith)
-
-  pub filling-wrong : r ≡ Wrong → slots ≡ read_leaves bytes slots₀
-  unfolding stream_at
-  filling-wrong e =
-      let never : broken 3 at ≡ numbers f.rest = sym (found.reads ∙ rw e) ∙ f.reads in
+  filling-broken reason e =
+      let never : broken (number_of reason) at ≡ numbers f.rest = sym (found.reads ∙ rw e) ∙ f.reads in
       let z : ◌≡◌ {A = ℕ} 0 1 = cc in absurd (omega arith)
 
 module _ (bytes slots₀ slots : List ℕ) (index at : ℕ) (f : Filling bytes slots₀ slots index at) where
   module _ (inside : at < length bytes) (small : get_or bytes at 0 < 128) where
-    abbrev byte : ℕ
-    byte = get_or bytes at 0
+    abbrev number : Number
+    number = record { value = get_or bytes at 0; next = at + 1 }
 
-    one : NumberAt bytes at (Whole byte (at + 1))
+    one : NumberAt bytes at (Ok number)
     one = number-one bytes at inside small
 
     pub filling-one-room : index < length slots
-    filling-one-room = filling-room bytes slots₀ slots index at f (Whole byte (at + 1)) one byte (at + 1) refl
+    filling-one-room = filling-room bytes slots₀ slots index at f (Ok number) one number refl
 
     pub filling-one : Filling bytes slots₀ (set slots index (get_or bytes at 0)) (index + 1) (at + 1)
-    filling-one = filling-more bytes slots₀ slots index at f (Whole byte (at + 1)) one byte (at + 1) refl
+    filling-one = filling-more bytes slots₀ slots index at f (Ok number) one number refl
 
   pub filling-done : length bytes ≤ at → slots ≡ read_leaves bytes slots₀
   filling-done end =
@@ -103,8 +98,7 @@ pub ruleset fillings = (
   filling-one,
   filling-room,
   filling-more,
-  filling-cut,
-  filling-wrong,
+  filling-broken,
   filling-done,
   number-ahead,
 )

@@ -1,4 +1,5 @@
 -- How many bytes numbers take, group by group and number by number: what is counted and what is left give the length.
+use Rattle.std.specs.Prelude.{Ok, Err}
 use mathlib.Core.List.{List, [], ◌∷◌, ◌++◌}
 use mathlib.Core.Path.{◌≡◌, sym, ap, ◌∙◌}
 use Prim.Native.Nat.{ℕ, ◌+◌, ◌-◌, ◌/◌, ◌^◌, ◌<◌, ◌≤◌}
@@ -8,7 +9,7 @@ use lib.ListN.{length, drop, get_or, length-append, drop_of_length-le}
 use lib.Seq.{drop-cons}
 use mir.Syntax.{w64}
 use mir.Val.{Fits}
-use Rattle.rules.specs.declared.WriteAnswer.TheVariants.{Length, Unwritten}
+use Rattle.rules.specs.declared.Reason.TheVariants.{Room}
 use Rattle.rules.specs.Numbers.{bytes_of_number, bytes_of}
 use Rattle.rules.specs.Answers.{of_write, of_refusal, write_says}
 use Rattle.rules.proofs.Codec.{written_last, written-more, written-few}
@@ -71,12 +72,12 @@ module _ (ns : List ℕ) (room taken index : ℕ) (m : Measuring ns room taken i
         record { inside = omega arith; within = omega arith; leads = omega (arith, length-next ns index h) }
 
     pub measuring-full : room - taken < more →
-        of_write (Unwritten (record { number = 13; place = 0 })) ≡ write_says ns room
+        of_write (Err (record { reason = Room; place = 0 })) ≡ write_says ns room
     unfolding of_write of_refusal write_says
     measuring-full full =
         sym (room-refused (length (bytes_of ns)) room told (omega (arith, m.leads, length-next ns index h)))
 
-  pub measuring-done : length ns ≤ index → of_write (Length taken) ≡ write_says ns room
+  pub measuring-done : length ns ≤ index → of_write (Ok taken) ≡ write_says ns room
   unfolding of_write write_says
   measuring-done h =
       let all : taken ≡ length (bytes_of ns) = omega (arith, m.leads, ap length (written-end ns index h)) in

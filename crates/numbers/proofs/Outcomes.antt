@@ -1,5 +1,6 @@
 -- What the promise of reading means for its callers: a count stands for the numbers that the bytes read as; and where
 -- there are slots for all numbers that the bytes may hold, a refusal is the stream's own.
+use Rattle.std.specs.Prelude.{Result, Ok, Err}
 use mathlib.Core.List.{List, [], ◌∷◌}
 use mathlib.Core.Path.{◌≡◌, refl, sym, ap, ◌∙◌}
 use Prim.Native.Nat.{ℕ, ◌≤◌}
@@ -7,10 +8,8 @@ use native.Mathlib.Omega.{arith}
 use lib.ListN.{length, take, drop, length-take}
 use lib.Seq.{take_at, drop_at}
 use Rattle.rules.specs.declared.Refusal.{Refusal}
-use Rattle.rules.specs.declared.ReadAnswer.{ReadAnswer}
-use Rattle.rules.specs.declared.ReadAnswer.TheVariants.{Count, Unread}
 use Rattle.rules.specs.Numbers.{Stream, numbers, broken, most_bytes, stream_of}
-use Rattle.rules.specs.Answers.{of_read, of_refusal, read_stream, left_by_stream, read_says, read_leaves}
+use Rattle.rules.specs.Answers.{number_of, of_read, of_refusal, read_stream, left_by_stream, read_says, read_leaves}
 use Rattle.rules.proofs.Codec.{read_count, read-most}
 use Rattle.numbers.specs.Parts.{Roomy}
 use Rattle.numbers.specs.Promises.{Reads}
@@ -39,15 +38,15 @@ numbered bytes slots count left (numbers ns) r e l =
     }
 numbered bytes slots count left (broken number place) r e l = let z : ◌≡◌ {A = ℕ} 0 1 = cc in absurd (omega arith)
 
-pub read-numbered : (bytes slots : List ℕ) (r : ReadAnswer) (left : List ℕ) (count : ℕ) → Reads bytes slots r left →
-    r ≡ Count count → Numbered bytes slots count left
+pub read-numbered : (bytes slots : List ℕ) (r : Result ℕ Refusal) (left : List ℕ) (count : ℕ) → Reads bytes slots r left →
+    r ≡ Ok count → Numbered bytes slots count left
 unfolding of_read read_says read_leaves
 read-numbered bytes slots r left count p e =
     numbered bytes slots count left (stream_of bytes) refl (ap of_read (sym e) ∙ p.says) p.leaves
 
 -- they lie within the slots
-pub numbers-within : (bytes slots : List ℕ) (r : ReadAnswer) (left : List ℕ) (count : ℕ) → Reads bytes slots r left →
-    r ≡ Count count → count ≤ length left
+pub numbers-within : (bytes slots : List ℕ) (r : Result ℕ Refusal) (left : List ℕ) (count : ℕ) → Reads bytes slots r left →
+    r ≡ Ok count → count ≤ length left
 numbers-within bytes slots r left count p e =
     let n : Numbered bytes slots count left = read-numbered bytes slots r left count p e in
     omega (arith, simp length-take at (ap length n.first), n.counts)
@@ -67,8 +66,8 @@ refused bytes slots number place (numbers ns) r room e =
     absurd (omega arith)
 refused bytes slots number place (broken n p) r room e = cc
 
-pub read-broken : (bytes slots : List ℕ) (r : ReadAnswer) (left : List ℕ) (refusal : Refusal) →
-    Reads bytes slots r left → Roomy bytes (length slots) → r ≡ Unread refusal → stream_of bytes ≡ broken refusal.number refusal.place
+pub read-broken : (bytes slots : List ℕ) (r : Result ℕ Refusal) (left : List ℕ) (refusal : Refusal) →
+    Reads bytes slots r left → Roomy bytes (length slots) → r ≡ Err refusal → stream_of bytes ≡ broken (number_of refusal.reason) refusal.place
 unfolding of_read of_refusal read_says
 read-broken bytes slots r left refusal p room e =
-    refused bytes slots refusal.number refusal.place (stream_of bytes) refl room (ap of_read (sym e) ∙ p.says)
+    refused bytes slots (number_of refusal.reason) refusal.place (stream_of bytes) refl room (ap of_read (sym e) ∙ p.says)

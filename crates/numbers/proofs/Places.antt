@@ -37,7 +37,7 @@ module _ (bytes : List ℕ) (index at left : ℕ) (p : Passing bytes index at le
   pub passing-found : left ≡ 0 → at ≡ place_of bytes index
   passing-found e = omega (arith, p.leads, rw (sym e) at (place_none (drop at bytes)))
 
-  pub passing-end : length bytes ≤ at → at ≡ place_of bytes index
+  pub passing-end : length bytes ≤ at → length bytes ≡ place_of bytes index
   unfolding place_of
   passing-end h = omega (arith, rw (drop_of_length-le bytes h) at p.leads)
 

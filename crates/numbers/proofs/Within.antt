@@ -1,4 +1,5 @@
 -- Reading one number byte by byte: what was read so far, and that no sum or product on the way passes 2^64.
+use Rattle.std.specs.Prelude.{Option, None, Some, Result, Ok, Err}
 use mathlib.Core.List.{List, [], ◌∷◌}
 use mathlib.Core.Logic.{⊎_elim}
 use mathlib.Core.Path.{◌≡◌, refl, sym, ap, ◌∙◌}
@@ -11,12 +12,13 @@ use lib.ListN.{length, drop, get_or, drop_of_length-le}
 use lib.Seq.{drop-cons}
 use mir.Syntax.{w8, w64}
 use mir.Val.{Fits}
+use Rattle.rules.specs.declared.Reason.{Reason}
+use Rattle.rules.specs.declared.Reason.TheVariants.{CutOff, Overlong}
 use Rattle.rules.specs.Numbers.{more, last, numbers, broken, end_at, stream_from, group_of}
 use Rattle.rules.proofs.Codec.{ends-first, group-ends, ByteIs, is-more, is_last, is-wrong, byte-is, stream-more, stream-last, stream-wrong}
 use Rattle.numbers.specs.declared.Group.{Group}
 use Rattle.numbers.specs.declared.Group.TheVariants as group
 use Rattle.numbers.specs.declared.Number.{Number}
-use Rattle.numbers.specs.declared.Number.TheVariants.{Whole, Cut, Wrong}
 use Rattle.numbers.specs.Parts.{of_group, stream_at, NumberAt}
 
 -- in the number that begins at `place`: the bytes before `at` give `value`, and the next group counts `weight` times
@@ -69,7 +71,7 @@ module _ (before byte g value weight : ℕ)
 
 -- one byte more: `r` is what the code found it to be
 module _ (bytes : List ℕ) (place at value weight : ℕ) (w : Within bytes place at value weight)
-    (inside : at < length bytes) (r : Group) (says : of_group r ≡ group_of (at - place) (get_or bytes at 0)) where
+    (inside : at < length bytes) (r : Option Group) (says : of_group r ≡ group_of (at - place) (get_or bytes at 0)) where
   abbrev byte : ℕ
   byte = get_or bytes at 0
 
@@ -79,10 +81,10 @@ module _ (bytes : List ℕ) (place at value weight : ℕ) (w : Within bytes plac
   leads-on : stream_from place before value (byte ∷ drop (suc at) bytes) ≡ stream_from place 0 0 (drop place bytes)
   leads-on = rw (drop-cons bytes at 0 inside) at w.leads
 
-  module _ (g : ℕ) (h : Fits w8 byte) (e : r ≡ group.More g) where
+  module _ (v : Group) (g : ℕ) (h : Fits w8 byte) (some : r ≡ Some v) (e : v ≡ group.More g) where
     is-group : group_of before byte ≡ more g
     unfolding of_group
-    is-group = sym says ∙ ap of_group e
+    is-group = sym says ∙ rw (some, e)
 
     adds : MoreAdds before byte g value weight w.weighs w.few w.small
     adds = more-adds before byte g value weight w.weighs w.few w.small h.fits is-group (byte-is before byte)
@@ -112,10 +114,10 @@ module _ (bytes : List ℕ) (place at value weight : ℕ) (w : Within bytes plac
         Within bytes place at' value' weight'
     within_more at' value' weight' ea ev ew = rw (ea, ev, ew) within-next
 
-  module _ (g : ℕ) (e : r ≡ group.Last g) where
+  module _ (v : Group) (g : ℕ) (some : r ≡ Some v) (e : v ≡ group.Last g) where
     ends-group : group_of before byte ≡ last g
     unfolding of_group
-    ends-group = sym says ∙ ap of_group e
+    ends-group = sym says ∙ rw (some, e)
 
     sum_fits : value + g * weight < 2 ^ 64
     sum_fits = last-adds before byte g value weight w.weighs w.few w.small ends-group (byte-is before byte)
@@ -126,22 +128,22 @@ module _ (bytes : List ℕ) (place at value weight : ℕ) (w : Within bytes plac
     pub last_sum : Fits w64 (value + g * weight)
     last_sum = record { fits = sum_fits }
 
-    pub number-whole : NumberAt bytes place (Whole (value + g * weight) (at + 1))
+    pub number-whole : NumberAt bytes place (Ok (record { value = value + g * weight; next = at + 1 }))
     unfolding stream_at
     number-whole =
         let behind : place + suc before ≡ suc at = omega arith in
         record {
           reads = rw (add-one at, w.weighs)
               (sym leads-on ∙ stream-last place before value byte (drop (suc at) bytes) g ends-group ∙ rw behind);
-          on = λ v n q. let e : n ≡ at + 1 = cc in (omega arith, omega arith);
+          on = λ n q. let e : n.next ≡ at + 1 = cc in (omega arith, omega arith);
         }
 
-  pub number-wrong : r ≡ group.Wrong → NumberAt bytes place Wrong
+  pub number-wrong : r ≡ None → NumberAt bytes place (Err Overlong)
   unfolding of_group stream_at
   number-wrong e =
       record {
         reads = sym leads-on ∙ stream-wrong place before value byte (drop (suc at) bytes) (sym says ∙ ap of_group e);
-        on = λ v n q. let z : ◌≡◌ {A = ℕ} 0 1 = cc in absurd (omega arith);
+        on = λ n q. let z : ◌≡◌ {A = ℕ} 0 1 = cc in absurd (omega arith);
       }
 
 -- the end of the bytes
@@ -160,17 +162,17 @@ module _ (bytes : List ℕ) (place at value weight : ℕ) (w : Within bytes plac
   unfolding stream_from
   leads-end = sym w.leads ∙ rw (drop_of_length-le bytes end)
 
-  pub number_cut : NumberAt bytes place Cut
+  pub number_cut : NumberAt bytes place (Err CutOff)
   unfolding stream_at
   number_cut =
       record {
         reads = leads-end ∙ cut_at place (at - place) (λ none. omega arith);
-        on = λ v n q. let z : ◌≡◌ {A = ℕ} 0 1 = cc in absurd (omega arith);
+        on = λ n q. let z : ◌≡◌ {A = ℕ} 0 1 = cc in absurd (omega arith);
       }
 
 -- a byte below 128 where a number begins is all of it
 pub number-one : (bytes : List ℕ) (place : ℕ) → place < length bytes → get_or bytes place 0 < 128
-    → NumberAt bytes place (Whole (get_or bytes place 0) (place + 1))
+    → NumberAt bytes place (Ok (record { value = get_or bytes place 0; next = place + 1 }))
 unfolding of_group
 number-one bytes place inside small =
     let byte : ℕ = get_or bytes place 0 in
@@ -178,12 +180,12 @@ number-one bytes place inside small =
     let says : last byte ≡ group_of (place - place) byte
     = sym (group-ends (place - place) byte (omega arith) small ∙ ends-first (place - place) byte first) in
     let value : 0 + byte * 1 ≡ byte = omega arith in
-    rw value at (number-whole bytes place place 0 1 (within-start bytes place) inside (group.Last byte) says byte refl)
+    rw value at (number-whole bytes place place 0 1 (within-start bytes place) inside (Some (group.Last byte)) says (group.Last byte) byte refl refl)
 
 -- behind a whole number fewer bytes are left
-pub number-ahead : (bytes : List ℕ) (place : ℕ) (r : Number) → NumberAt bytes place r →
-    (value next : ℕ) → r ≡ Whole value next → length bytes - next < length bytes - place
-number-ahead bytes place r found value next e = omega (arith, (found.on value next e).0, (found.on value next e).1)
+pub number-ahead : (bytes : List ℕ) (place : ℕ) (r : Result Number Reason) → NumberAt bytes place r →
+    (number : Number) → r ≡ Ok number → length bytes - number.next < length bytes - place
+number-ahead bytes place r found number e = omega (arith, (found.on number e).0, (found.on number e).1)
 
 pub ruleset withins = (
   within-start,

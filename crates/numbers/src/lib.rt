@@ -1,102 +1,79 @@
 // Bytes as numbers and back, and the places of numbers.
 #![tactic(auto)]
 
-ghost use Rattle.std.specs.Prelude.{◌≡◌, ◌∷◌, [], ◌+◌, ◌<◌, ◌≤◌, length};
+ghost use Rattle.std.specs.Prelude.{◌≡◌, ◌+◌, ◌<◌, ◌≤◌, length};
 ghost use Rattle.rules.specs.Numbers.{group_of, tenth, ends_with, stream_from, bytes_of_number, bytes_of, place_of};
-ghost use Rattle.rules.specs.Answers.{with_room, of_read, read_stream, read_says, read_leaves};
+ghost use Rattle.rules.specs.Answers.{of_read, read_stream, read_says, read_leaves};
 ghost use Rattle.rules.specs.Answers.{of_write, write_says, write_leaves};
 ghost use Rattle.numbers.specs.Promises.{Reads, Writes};
 ghost use Rattle.numbers.specs.Parts.{of_group, NumberAt, Readable, Stored};
 
-use rules::{ReadAnswer, Refusal, WriteAnswer};
+use rules::{Reason, Refusal};
 
 // The most bytes of a bench file.
 const MOST_BYTES: usize = 4096;
 
-// What a byte is in its number: a group with others behind it, the last group, or wrong there.
+// What a byte holds of its number: a group with others behind it, or the last group.
 #[derive(Clone, Copy)]
 enum Group {
     More(u64),
     Last(u64),
-    Wrong,
 }
 
-// What stands where a number begins: a number and where the next one begins, or one that is cut off or wrong.
+// A number, and where the next one begins.
 #[derive(Clone, Copy)]
-enum Number {
-    Whole { value: u64, next: usize },
-    Cut,
-    Wrong,
+struct Number {
+    value: u64,
+    next: usize,
 }
 
 // The bytes as numbers, into the slots from the first on: how many; or refused 1, 2, 3 or 13, with the slots as found.
-pub fn read(bytes: &[u8], slots: &mut [u64]) -> ReadAnswer
+pub fn read(bytes: &[u8], slots: &mut [u64]) -> Result<usize, Refusal>
     ensures { Reads bytes.now slots.old result slots.new }
 {
-    let answer = count(bytes, slots.len());
-    match answer {
-        ReadAnswer::Count(count) => {
-            fill(bytes, slots);
-            ReadAnswer::Count(count)
-        }
-        ReadAnswer::Unread(refusal) => ReadAnswer::Unread(refusal),
-    }
+    let count = count(bytes, slots.len())?;
+    fill(bytes, slots);
+    Ok(count)
 }
 
 // How many numbers the bytes hold, or why they are refused: 13 where that is more than there is room for.
-fn count(bytes: &[u8], room: usize) -> ReadAnswer
+fn count(bytes: &[u8], room: usize) -> Result<usize, Refusal>
     ensures { of_read result ≡ read_says bytes.now room }
 {
-    if bytes.len() == 0 {
-        unread(1, 0)
-    } else if MOST_BYTES < bytes.len() {
-        unread(1, 0)
-    } else {
-        count_numbers(bytes, room)
+    if bytes.len() == 0 || MOST_BYTES < bytes.len() {
+        return Err(Refusal {
+            reason: Reason::Size,
+            place: 0,
+        });
     }
+    count_numbers(bytes, room)
 }
 
 // The same for bytes of which there are neither too few nor too many. Most numbers are of one byte.
-fn count_numbers(bytes: &[u8], room: usize) -> ReadAnswer
+fn count_numbers(bytes: &[u8], room: usize) -> Result<usize, Refusal>
     ensures { of_read result ≡ read_stream (stream_from 0 0 0 bytes.now) room }
 {
     let mut count = 0;
     let mut at = 0;
     while at < bytes.len() {
-        let byte = bytes[at];
-        if byte < 128 {
-            count += 1;
+        if bytes[at] < 128 {
             at += 1;
-            continue;
-        }
-        match number_at(bytes, at) {
-            Number::Whole { value: _, next } => {
-                count += 1;
-                at = next;
+        } else {
+            match number_at(bytes, at) {
+                Ok(number) => at = number.next,
+                Err(reason) => return Err(Refusal { reason, place: at }),
             }
-            Number::Cut => return unread(2, at),
-            Number::Wrong => return unread(3, at),
         }
+        count += 1;
     }
-    counted(count, room)
-}
-
-// So many numbers, or 13 where that is more than there is room for.
-fn counted(count: usize, room: usize) -> ReadAnswer
-    ensures { of_read result ≡ with_room count room (1 ∷ count ∷ []) }
-{
     if count <= room {
-        ReadAnswer::Count(count)
+        Ok(count)
     } else {
-        unread(13, 0)
+        Err(Refusal {
+            reason: Reason::Room,
+            place: 0,
+        })
     }
-}
-
-// A refusal with its number and place.
-fn unread(number: u64, place: usize) -> ReadAnswer
-    ensures { of_read result ≡ 0 ∷ number ∷ place ∷ [] }
-{
-    ReadAnswer::Unread(Refusal { number, place })
 }
 
 // The numbers of bytes that read, into the slots from the first on.
@@ -110,118 +87,105 @@ fn fill(bytes: &[u8], slots: &mut [u64])
         let byte = bytes[at];
         if byte < 128 {
             slots[index] = byte as u64;
-            index += 1;
             at += 1;
-            continue;
+        } else {
+            let Ok(number) = number_at(bytes, at) else {
+                return;
+            };
+            slots[index] = number.value;
+            at = number.next;
         }
-        match number_at(bytes, at) {
-            Number::Whole { value, next } => {
-                slots[index] = value;
-                index += 1;
-                at = next;
-            }
-            Number::Cut => return,
-            Number::Wrong => return,
-        }
+        index += 1;
     }
 }
 
-// The number that begins at a place within the bytes.
-fn number_at(bytes: &[u8], place: usize) -> Number
+// The number that begins at a place within the bytes, or what is wrong there.
+fn number_at(bytes: &[u8], place: usize) -> Result<Number, Reason>
     requires { place < length bytes.now }
     ensures { NumberAt bytes.now place result }
 {
-    let mut at = place;
     let mut value: u64 = 0;
     let mut weight: u64 = 1;
-    while at < bytes.len() {
+    for at in place..bytes.len() {
         match group_of(at - place, bytes[at]) {
-            Group::More(group) => {
+            Some(Group::More(group)) => {
                 value += group * weight;
                 weight *= 128;
             }
-            Group::Last(group) => {
-                return Number::Whole {
+            Some(Group::Last(group)) => {
+                return Ok(Number {
                     value: value + group * weight,
                     next: at + 1,
-                };
+                });
             }
-            Group::Wrong => return Number::Wrong,
+            None => return Err(Reason::Overlong),
         }
-        at += 1;
     }
-    Number::Cut
+    Err(Reason::CutOff)
 }
 
-// A byte, behind so many others of its number.
-fn group_of(before: usize, byte: u8) -> Group
+// A byte, behind so many others of its number; none where it is wrong there.
+fn group_of(before: usize, byte: u8) -> Option<Group>
     ensures { of_group result ≡ group_of before byte }
 {
     if before == 9 {
         tenth(byte)
     } else if 128 <= byte {
-        Group::More((byte - 128) as u64)
+        Some(Group::More((byte - 128) as u64))
     } else {
         ends_with(before, byte)
     }
 }
 
 // The tenth byte of a number, which ends it.
-fn tenth(byte: u8) -> Group
+fn tenth(byte: u8) -> Option<Group>
     ensures { of_group result ≡ tenth byte }
 {
     if byte == 1 {
-        Group::Last(1)
+        Some(Group::Last(1))
     } else {
-        Group::Wrong
+        None
     }
 }
 
 // A byte below 128, behind so many others of its number.
-fn ends_with(before: usize, byte: u8) -> Group
+fn ends_with(before: usize, byte: u8) -> Option<Group>
     ensures { of_group result ≡ ends_with before byte }
 {
     if byte != 0 {
-        Group::Last(byte as u64)
+        Some(Group::Last(byte as u64))
     } else if before == 0 {
-        Group::Last(0)
+        Some(Group::Last(0))
     } else {
-        Group::Wrong
+        None
     }
 }
 
 // The numbers as bytes, into the bytes from the first on: how many; or refused 13, with the bytes as found.
-pub fn write(numbers: &[u64], bytes: &mut [u8]) -> WriteAnswer
+pub fn write(numbers: &[u64], bytes: &mut [u8]) -> Result<usize, Refusal>
     ensures { Writes numbers.now bytes.old result bytes.new }
 {
-    let answer = measure(numbers, bytes.len());
-    match answer {
-        WriteAnswer::Length(length) => {
-            store(numbers, bytes);
-            WriteAnswer::Length(length)
-        }
-        WriteAnswer::Unwritten(refusal) => WriteAnswer::Unwritten(refusal),
-    }
+    let length = measure(numbers, bytes.len())?;
+    store(numbers, bytes);
+    Ok(length)
 }
 
 // How many bytes the numbers take, or 13 where that is more than there is room for.
-fn measure(numbers: &[u64], room: usize) -> WriteAnswer
+fn measure(numbers: &[u64], room: usize) -> Result<usize, Refusal>
     ensures { of_write result ≡ write_says numbers.now room }
 {
     let mut taken = 0;
-    let mut index = 0;
-    while index < numbers.len() {
-        let more = length_of(numbers[index]);
+    for &number in numbers {
+        let more = length_of(number);
         if room - taken < more {
-            return WriteAnswer::Unwritten(Refusal {
-                number: 13,
+            return Err(Refusal {
+                reason: Reason::Room,
                 place: 0,
             });
         }
         taken += more;
-        index += 1;
     }
-    WriteAnswer::Length(taken)
+    Ok(taken)
 }
 
 // How many bytes a number takes.
@@ -243,10 +207,8 @@ fn store(numbers: &[u64], bytes: &mut [u8])
     ensures { bytes.new ≡ write_leaves numbers.now bytes.old }
 {
     let mut at = 0;
-    let mut index = 0;
-    while index < numbers.len() {
-        at = store_number(numbers[index], at, bytes);
-        index += 1;
+    for &number in numbers {
+        at = store_number(number, at, bytes);
     }
 }
 
@@ -270,16 +232,14 @@ fn store_number(number: u64, place: usize, bytes: &mut [u8]) -> usize
 pub fn place_of(bytes: &[u8], index: usize) -> usize
     ensures { result ≡ place_of bytes.now index }
 {
-    let mut at = 0;
     let mut left = index;
-    while at < bytes.len() {
+    for (at, byte) in bytes.iter().enumerate() {
         if left == 0 {
             return at;
         }
-        if bytes[at] < 128 {
+        if *byte < 128 {
             left -= 1;
         }
-        at += 1;
     }
-    at
+    bytes.len()
 }

@@ -1,6 +1,5 @@
 // Files of bytes: what each reads as; where it reads, the judge's verdict; where that accepts it, its result lines.
 use crate::print;
-use rules::{JudgeAnswer, ReadAnswer, WriteAnswer};
 use std::rt::Runtime;
 use std::{env, fs, io};
 
@@ -40,12 +39,12 @@ fn check(rt: &impl Print, name: &[u8], bytes: &[u8]) -> io::Result<()> {
     print::text(rt, name)?;
     print::read(rt, answer)?;
     match answer {
-        ReadAnswer::Count(count) => {
+        Ok(count) => {
             print::numbers(rt, &slots[..count], SHOWN)?;
             print::end(rt)?;
             judge(rt, name, bytes)
         }
-        ReadAnswer::Unread(_) => print::end(rt),
+        Err(_) => print::end(rt),
     }
 }
 
@@ -55,8 +54,8 @@ fn judge(rt: &impl Print, name: &[u8], bytes: &[u8]) -> io::Result<()> {
     print::judged(rt, answer)?;
     print::end(rt)?;
     match answer {
-        JudgeAnswer::Accepted { .. } => run(rt, name, bytes),
-        JudgeAnswer::Refused(_) => Ok(()),
+        Ok(_) => run(rt, name, bytes),
+        Err(_) => Ok(()),
     }
 }
 
@@ -66,12 +65,12 @@ fn run(rt: &impl Print, name: &[u8], bytes: &[u8]) -> io::Result<()> {
     let answer = bench::lines(bytes, &mut result);
     print::text(rt, name)?;
     match answer {
-        WriteAnswer::Length(length) => {
+        Ok(length) => {
             print::text(rt, b" ")?;
             print::text(rt, &result[..length])
         }
-        WriteAnswer::Unwritten(unwritten) => {
-            print::refusal(rt, unwritten)?;
+        Err(refusal) => {
+            print::refusal(rt, refusal)?;
             print::end(rt)
         }
     }

@@ -1,5 +1,5 @@
 // What is printed: words, and numbers and bytes with a blank before each.
-use rules::{JudgeAnswer, ReadAnswer, Refusal, WriteAnswer};
+use rules::{Acceptance, Refusal};
 use std::io;
 
 pub(crate) fn text(rt: &impl Print, words: &[u8]) -> io::Result<()> {
@@ -36,37 +36,36 @@ pub(crate) fn bytes(rt: &impl Print, list: &[u8]) -> io::Result<()> {
 
 pub(crate) fn refusal(rt: &impl Print, refusal: Refusal) -> io::Result<()> {
     text(rt, b" refused")?;
-    number(rt, refusal.number)?;
+    number(rt, refusal.reason.number())?;
     number(rt, refusal.place as u64)
 }
 
-pub(crate) fn read(rt: &impl Print, answer: ReadAnswer) -> io::Result<()> {
+pub(crate) fn read(rt: &impl Print, answer: Result<usize, Refusal>) -> io::Result<()> {
+    counted(rt, b" numbers", answer)
+}
+
+pub(crate) fn written(rt: &impl Print, answer: Result<usize, Refusal>) -> io::Result<()> {
+    counted(rt, b" length", answer)
+}
+
+// How many there are of what is named.
+fn counted(rt: &impl Print, name: &[u8], answer: Result<usize, Refusal>) -> io::Result<()> {
     match answer {
-        ReadAnswer::Count(count) => {
-            text(rt, b" numbers")?;
+        Ok(count) => {
+            text(rt, name)?;
             number(rt, count as u64)
         }
-        ReadAnswer::Unread(unread) => refusal(rt, unread),
+        Err(unread) => refusal(rt, unread),
     }
 }
 
-pub(crate) fn judged(rt: &impl Print, answer: JudgeAnswer) -> io::Result<()> {
+pub(crate) fn judged(rt: &impl Print, answer: Result<Acceptance, Refusal>) -> io::Result<()> {
     match answer {
-        JudgeAnswer::Accepted { ceiling, length } => {
+        Ok(file) => {
             text(rt, b" judged")?;
-            number(rt, ceiling)?;
-            number(rt, length as u64)
+            number(rt, file.ceiling)?;
+            number(rt, file.length as u64)
         }
-        JudgeAnswer::Refused(refused) => refusal(rt, refused),
-    }
-}
-
-pub(crate) fn written(rt: &impl Print, answer: WriteAnswer) -> io::Result<()> {
-    match answer {
-        WriteAnswer::Length(length) => {
-            text(rt, b" length")?;
-            number(rt, length as u64)
-        }
-        WriteAnswer::Unwritten(unwritten) => refusal(rt, unwritten),
+        Err(refused) => refusal(rt, refused),
     }
 }

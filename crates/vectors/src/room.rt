@@ -3,7 +3,7 @@
 ghost use Rattle.std.specs.Prelude.{◌≤◌, length};
 
 use crate::print;
-use rules::{ReadAnswer, WriteAnswer};
+use rules::Refusal;
 use std::io;
 
 // So many slots and bytes there are.
@@ -49,7 +49,7 @@ fn read(rt: &impl Print, bytes: &[u8], room: usize) -> io::Result<()>
 }
 
 // With the first `room` of the slots lent.
-fn read_into(bytes: &[u8], room: usize, slots: &mut [u64]) -> ReadAnswer
+fn read_into(bytes: &[u8], room: usize, slots: &mut [u64]) -> Result<usize, Refusal>
     requires { room ≤ length slots.old }
 {
     bench::read(bytes, &mut slots[0..room])
@@ -80,7 +80,7 @@ fn write(rt: &impl Print, list: &[u64], room: usize) -> io::Result<()>
 }
 
 // With the first `room` of the bytes lent.
-fn write_into(list: &[u64], room: usize, bytes: &mut [u8]) -> WriteAnswer
+fn write_into(list: &[u64], room: usize, bytes: &mut [u8]) -> Result<usize, Refusal>
     requires { room ≤ length bytes.old }
 {
     bench::write(list, &mut bytes[0..room])
@@ -102,8 +102,8 @@ fn round_trip(rt: &impl Print, list: &[u64]) -> io::Result<()> {
     print::numbers(rt, list, SHOWN)?;
     print::written(rt, answer)?;
     match answer {
-        WriteAnswer::Length(length) => read_back(rt, &bytes[0..length]),
-        WriteAnswer::Unwritten(_) => print::end(rt),
+        Ok(length) => read_back(rt, &bytes[0..length]),
+        Err(_) => print::end(rt),
     }
 }
 
@@ -112,9 +112,8 @@ fn read_back(rt: &impl Print, bytes: &[u8]) -> io::Result<()> {
     let answer = bench::read(bytes, &mut slots);
     print::text(rt, b" back")?;
     print::read(rt, answer)?;
-    match answer {
-        ReadAnswer::Count(count) => print::numbers(rt, &slots, count)?,
-        ReadAnswer::Unread(_) => {}
+    if let Ok(count) = answer {
+        print::numbers(rt, &slots, count)?;
     }
     print::end(rt)
 }

@@ -6,8 +6,8 @@ use Rattle.bench.proofs.judge_numbers.Goals as goal
 pub judge-verdict-requires : goal.judge-verdict-requires
 judge-verdict-requires c = search (verdicts, rules)
 
-pub returns-in-Accepted : goal.returns-in-Accepted
-returns-in-Accepted c = search (verdicts, rules)
+pub returns-in-Ok : goal.returns-in-Ok
+returns-in-Ok c = search (verdicts, rules)
 
-pub returns-in-Refused : goal.returns-in-Refused
-returns-in-Refused c = search (verdicts, rules)
+pub returns-in-Err : goal.returns-in-Err
+returns-in-Err c = search (verdicts, rules)

@@ -9,8 +9,8 @@ slice_bounds-results-end c = search (printings, rules)
 pub slice_bounds-ended-end : goal.slice_bounds-ended-end
 slice_bounds-ended-end c = search (printings, rules)
 
-pub returns-in-Ended : goal.returns-in-Ended
-returns-in-Ended c = search (printings, rules)
+pub returns-in-Ok : goal.returns-in-Ok
+returns-in-Ok c = search (printings, rules)
 
-pub returns-in-Unrun : goal.returns-in-Unrun
-returns-in-Unrun c = search (printings, rules)
+pub returns-in-Err : goal.returns-in-Err
+returns-in-Err c = search (printings, rules)

@@ -5,6 +5,3 @@ use Rattle.bench.proofs.run_accepted.Goals as goal
 
 pub returns-then-working-lt-WORKING : goal.returns-then-working-lt-WORKING
 returns-then-working-lt-WORKING c = search (rooms, rules)
-
-pub returns-then-results-length : goal.returns-then-results-length
-returns-then-results-length c = search (rooms, rules)

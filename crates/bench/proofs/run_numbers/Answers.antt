@@ -8,10 +8,10 @@ pub judge-verdict-requires : goal.judge-verdict-requires
 judge-verdict-requires c = search (runs, rules)
 
 pub run_accepted-requires : goal.run_accepted-requires
-run_accepted-requires c = verdict-accepted _ _ [] [] c.requires _ _ _ _ _ _ c.judge-verdict.ensures _ _ _ c.in-Accepted.is _ c.prepare.ensures
+run_accepted-requires c = verdict-accepted _ _ [] [] c.requires _ _ _ _ _ _ c.judge-verdict.ensures _ c.in-Ok.is _ c.prepare.ensures
 
-pub returns-in-Accepted : goal.returns-in-Accepted
-returns-in-Accepted c = verdict-runs _ _ _ _ c.requires _ _ _ _ _ _ c.judge-verdict.ensures _ _ _ c.in-Accepted.is _ c.prepare.ensures _ _ _ c.run_accepted.ensures
+pub returns-in-Ok : goal.returns-in-Ok
+returns-in-Ok c = verdict-runs _ _ _ _ c.requires _ _ _ _ _ _ c.judge-verdict.ensures _ c.in-Ok.is _ c.prepare.ensures _ _ _ c.run_accepted.ensures
 
-pub returns-in-Refused : goal.returns-in-Refused
-returns-in-Refused c = search (runs, rules)
+pub returns-in-Err : goal.returns-in-Err
+returns-in-Err c = search (runs, rules)

@@ -3,8 +3,8 @@ use borrow.Author.Rules.{rules}
 use Rattle.calls.proofs.Telling.{cases}
 use Rattle.calls.proofs.of_judge.Goals as goal
 
-pub returns-in-Accepted : goal.returns-in-Accepted
-returns-in-Accepted c = search (cases, rules)
+pub returns-in-Ok : goal.returns-in-Ok
+returns-in-Ok c = search (cases, rules)
 
-pub returns-in-Refused : goal.returns-in-Refused
-returns-in-Refused c = search (cases, rules)
+pub returns-in-Err : goal.returns-in-Err
+returns-in-Err c = search (cases, rules)

@@ -3,8 +3,8 @@ use borrow.Author.Rules.{rules}
 use Rattle.calls.proofs.Telling.{cases}
 use Rattle.calls.proofs.of_run.Goals as goal
 
-pub returns-in-Ended : goal.returns-in-Ended
-returns-in-Ended c = search (cases, rules)
+pub returns-in-Ok : goal.returns-in-Ok
+returns-in-Ok c = search (cases, rules)
 
-pub returns-in-Unrun : goal.returns-in-Unrun
-returns-in-Unrun c = search (cases, rules)
+pub returns-in-Err : goal.returns-in-Err
+returns-in-Err c = search (cases, rules)

@@ -9,8 +9,8 @@ overflow_add-more c = search (measurings, rules)
 pub returns-then-room-taken : goal.returns-then-room-taken
 returns-then-room-taken c = search (measurings, rules)
 
-pub loop-index-preserved : goal.loop-index-preserved
-loop-index-preserved c = search (measurings, rules)
+pub loop-number-preserved : goal.loop-number-preserved
+loop-number-preserved c = search (measurings, rules)
 
 pub returns : goal.returns
 returns c = search (measurings, rules)

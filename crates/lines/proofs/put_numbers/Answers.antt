@@ -6,8 +6,8 @@ use Rattle.lines.proofs.put_numbers.Goals as goal
 pub put_behind-at-requires : goal.put_behind-at-requires
 put_behind-at-requires c = search (numberings, rules)
 
-pub loop-index-preserved : goal.loop-index-preserved
-loop-index-preserved c = search (numberings, rules)
+pub loop-number-preserved : goal.loop-number-preserved
+loop-number-preserved c = search (numberings, rules)
 
 pub returns : goal.returns
 returns c = search (numberings, rules)

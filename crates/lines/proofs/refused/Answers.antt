@@ -6,8 +6,8 @@ use Rattle.lines.proofs.refused.Goals as goal
 pub put_line-requires : goal.put_line-requires
 put_line-requires c = search (refusals, rules)
 
-pub returns-then-length-bytes : goal.returns-then-length-bytes
-returns-then-length-bytes c = search (refusals, rules)
+pub returns-then-bytes-length : goal.returns-then-bytes-length
+returns-then-bytes-length c = search (refusals, rules)
 
-pub returns-else-length-bytes : goal.returns-else-length-bytes
-returns-else-length-bytes c = search (refusals, rules)
+pub returns : goal.returns
+returns c = search (refusals, rules)

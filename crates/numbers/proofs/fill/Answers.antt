@@ -9,20 +9,14 @@ loop-at-init c = search (fillings, rules)
 pub bounds-slots-index : goal.bounds-slots-index
 bounds-slots-index c = search (fillings, rules)
 
-pub loop-at-preserved-then-byte-lt128 : goal.loop-at-preserved-then-byte-lt128
-loop-at-preserved-then-byte-lt128 c = search (fillings, rules)
-
-pub bounds-slots-index-in-Whole : goal.bounds-slots-index-in-Whole
-bounds-slots-index-in-Whole c = search (fillings, rules)
+pub bounds-slots-index-else-byte-lt128 : goal.bounds-slots-index-else-byte-lt128
+bounds-slots-index-else-byte-lt128 c = search (fillings, rules)
 
 pub loop-at-preserved : goal.loop-at-preserved
 loop-at-preserved c = search (fillings, rules)
 
-pub returns-in-Cut : goal.returns-in-Cut
-returns-in-Cut c = search (fillings, rules)
-
-pub returns-in-Wrong : goal.returns-in-Wrong
-returns-in-Wrong c = search (fillings, rules)
+pub returns-in_default : goal.returns-in_default
+returns-in_default c = search (fillings, rules)
 
 pub returns : goal.returns
 returns c = search (fillings, rules)

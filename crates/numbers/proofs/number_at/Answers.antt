@@ -12,20 +12,20 @@ overflow_add-value c = search (withins, rules)
 pub overflow_mul-weight : goal.overflow_mul-weight
 overflow_mul-weight c = search (withins, rules)
 
-pub overflow_mul-result : goal.overflow_mul-result
-overflow_mul-result c = search (withins, rules)
-
 pub overflow_add-result : goal.overflow_add-result
 overflow_add-result c = search (withins, rules)
 
-pub returns-in-Last : goal.returns-in-Last
-returns-in-Last c = search (withins, rules)
+pub returns-in-Some-Last : goal.returns-in-Some-Last
+returns-in-Some-Last c = search (withins, rules)
 
-pub returns-in-Wrong : goal.returns-in-Wrong
-returns-in-Wrong c = search (withins, rules)
+pub returns-in-None : goal.returns-in-None
+returns-in-None c = search (withins, rules)
 
 pub loop-at-preserved : goal.loop-at-preserved
 loop-at-preserved c = search (withins, rules)
 
 pub returns : goal.returns
 returns c = search (withins, rules)
+
+pub overflow_mul-result : goal.overflow_mul-result
+overflow_mul-result c = search (withins, rules)

@@ -3,14 +3,14 @@ use borrow.Author.Rules.{rules}
 use Rattle.numbers.proofs.Storing.{storings}
 use Rattle.numbers.proofs.store.Goals as goal
 
-pub loop-index-init : goal.loop-index-init
-loop-index-init c = search (storings, rules)
+pub loop-number-init : goal.loop-number-init
+loop-number-init c = search (storings, rules)
 
 pub store_number-at-requires : goal.store_number-at-requires
 store_number-at-requires c = search (storings, rules)
 
-pub loop-index-preserved : goal.loop-index-preserved
-loop-index-preserved c = search (storings, rules)
+pub loop-number-preserved : goal.loop-number-preserved
+loop-number-preserved c = search (storings, rules)
 
 pub returns : goal.returns
 returns c = search (storings, rules)

@@ -7,5 +7,5 @@ use Rattle.vectors.proofs.files.run.Goals as goal
 pub slice_bounds-result-end : goal.slice_bounds-result-end
 slice_bounds-result-end g c = search (lines-within, rules)
 
-pub slice_bounds-text-end-in-Length : goal.slice_bounds-text-end-in-Length
-slice_bounds-text-end-in-Length g c = search (lines-within, part-whole, rules)
+pub slice_bounds-text-end-in-Ok : goal.slice_bounds-text-end-in-Ok
+slice_bounds-text-end-in-Ok g c = search (lines-within, part-whole, rules)

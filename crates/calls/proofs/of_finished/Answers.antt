@@ -1,7 +1,7 @@
--- `calls::of_ended` meets its contract: each case of the signal in five slots.
+-- `calls::of_finished` meets its contract: each case of the signal in five slots.
 use borrow.Author.Rules.{rules}
 use Rattle.calls.proofs.Telling.{cases}
-use Rattle.calls.proofs.of_ended.Goals as goal
+use Rattle.calls.proofs.of_finished.Goals as goal
 
 pub returns-in-Done : goal.returns-in-Done
 returns-in-Done c = search (cases, rules)
