@@ -4,6 +4,7 @@ use mathlib.Core.Path.{◌≡◌, refl, sym, ◌∙◌}
 use mathlib.Core.List.{List}
 use Prim.Native.Nat.{ℕ, zero, suc, ◌+◌, ◌-◌, ◌≤◌, ◌<◌}
 use native.Mathlib.Omega.{arith}
+use native.Mathlib.Nat.{sub-zero}
 use native.Mathlib.Numerals.{add-one, sub-one}
 use lib.ListN.{length, get_or, drop, drop_of_length-le}
 use lib.Seq.{drop-cons}
@@ -25,21 +26,26 @@ abbrev byte : Reader ℕ
 byte = passing 16 is_byte
 
 -- so many bytes, of which some are still to be read from an index on
-pub record BytesLeft (nums : List ℕ) (count at left next : ℕ) : Type 0 where
-  pub same : scan_of (repeat count byte) nums at ≡ scan_of (repeat left byte) nums next
+pub record BytesLeft (nums : List ℕ) (count at done next : ℕ) : Type 0 where
+  pub same : scan_of (repeat count byte) nums at ≡ scan_of (repeat (count - done) byte) nums next
 
-pub bytes-begin : (nums : List ℕ) (count at : ℕ) → BytesLeft nums count at count at
-bytes-begin nums count at = record { same = refl }
+pub bytes-begin : (nums : List ℕ) (count at : ℕ) → BytesLeft nums count at 0 at
+bytes-begin nums count at = record { same = rw sub-zero refl }
 
-module _ (nums : List ℕ) (count at left next : ℕ) (b : BytesLeft nums count at left next) where
-  module _ (more : left ≡ 0 → ⊥) (a : Scan) (q : a ≡ scan_of (passing 16 (fits_width 8)) nums next) where
+module _ (nums : List ℕ) (count at done next : ℕ) (b : BytesLeft nums count at done next) where
+  module _ (m : done < count) (a : Scan) (q : a ≡ scan_of (passing 16 (fits_width 8)) nums next) where
     byte-scan : a ≡ scan_of byte nums next
     unfolding is_byte fits_width
     byte-scan = q
 
-    pub bytes-again : (end : ℕ) → a ≡ Past end → BytesLeft nums count at (left - 1) end
+    more : count - done ≡ 0 → ⊥
+    more e = omega (arith, e)
+
+    pub bytes-again : (end : ℕ) → a ≡ Past end → BytesLeft nums count at (done + 1) end
     unfolding repeat pure scan_of ◌>>=◌ and_then
-    bytes-again end p = record { same = b.same ∙ go left more }
+    bytes-again end p =
+        let e : count - done - 1 ≡ count - (done + 1) = omega arith in
+        record { same = b.same ∙ rw e at (go (count - done) more) }
       where
         d : Read (Passing is_byte) byte nums next end
         d = past-read nums next end a (placed-passing 16 is_byte) byte-scan p
@@ -50,15 +56,15 @@ module _ (nums : List ℕ) (count at left next : ℕ) (b : BytesLeft nums count 
 
     pub bytes-fault : (f i : ℕ) → a ≡ Fault f i → Fault f i ≡ scan_of (repeat count byte) nums at
     unfolding repeat
-    bytes-fault f i p = go left more ∙ sym b.same
+    bytes-fault f i p = go (count - done) more ∙ sym b.same
       where
         go : (n : ℕ) → (n ≡ 0 → ⊥) → Fault f i ≡ scan_of (repeat n byte) nums next
         go zero x = absurd (x refl)
         go (suc n) x = then-fault byte _ nums next f i a byte-scan p
 
-  pub bytes-done : left ≡ 0 → Past next ≡ scan_of (repeat count byte) nums at
+  pub bytes-done : count ≤ done → Past next ≡ scan_of (repeat count byte) nums at
   unfolding repeat pure scan_of forget
-  bytes-done e = rw (b.same, e)
+  bytes-done m = let e : count - done ≡ 0 = omega arith in rw (b.same, e)
 
 pub ruleset bytes = (bytes-begin, bytes-again, bytes-fault, bytes-done)
 

@@ -10,8 +10,6 @@ use rules::{Fault, Reason};
 use shape::Scanned;
 use shape::limits::has_parser;
 
-// The refusal of a bad or missing number of the packet.
-// The refusal of numbers left over.
 // The most bytes of a packet.
 const MOST_PACKET: u64 = 512;
 // A byte is a number of eight bits.
@@ -22,11 +20,8 @@ fn bytes_at(nums: &[u64], count: u64, at: usize) -> Scanned
     ensures { told result ≡ scan_of (repeat count (passing 16 is_byte)) nums.now at }
 {
     let mut next = at;
-    let mut left = count;
-    while left != 0 {
-        let end = value_at(nums, Reason::Packet, BYTE, next)?;
-        next = end;
-        left -= 1;
+    for _ in 0..count {
+        next = value_at(nums, Reason::Packet, BYTE, next)?;
     }
     Ok(next)
 }

@@ -90,18 +90,11 @@ pub fn patterns_at(
     requires { AsksPatterns source.now.nums.now source.now.ends.now widths.now key count slot }
     ensures { JudgesPatterns source.now.nums.now source.now.ends.now widths.now key count slot at (told result) }
 {
-    if count == 0 {
-        Ok(at)
-    } else {
-        let next = pattern_at(source.nums, source.nums[key], widths[slot], at)?;
-        let last = patterns_at(
-            source,
-            widths,
-            source.ends[key + 1] as usize,
-            count - 1,
-            slot + 1,
-            next,
-        )?;
-        Ok(last)
+    let mut next = at;
+    let mut here = key;
+    for i in 0..count as usize {
+        next = pattern_at(source.nums, source.nums[here], widths[slot + i], next)?;
+        here = source.ends[here + 1] as usize;
     }
+    Ok(next)
 }

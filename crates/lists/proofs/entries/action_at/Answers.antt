@@ -3,14 +3,14 @@ use Rattle.lists.proofs.Actions.{actions}
 use borrow.Author.Rules.{rules}
 use Rattle.lists.proofs.entries.action_at.Goals as goal
 
-pub bounds-nums-actions-then-position-nums : goal.bounds-nums-actions-then-position-nums
-bounds-nums-actions-then-position-nums c = search (actions, rules)
+pub bounds-source-actions-then-position-source : goal.bounds-source-actions-then-position-source
+bounds-source-actions-then-position-source c = search (actions, rules)
 
-pub returns-then-position-nums : goal.returns-then-position-nums
-returns-then-position-nums c = search (actions, rules)
+pub returns-then-position-source : goal.returns-then-position-source
+returns-then-position-source c = search (actions, rules)
 
-pub returns-else-position-nums : goal.returns-else-position-nums
-returns-else-position-nums c = search (actions, rules)
+pub returns-else-position-source : goal.returns-else-position-source
+returns-else-position-source c = search (actions, rules)
 
-pub returns-else-at-nums : goal.returns-else-at-nums
-returns-else-at-nums c = search (actions, rules)
+pub returns-else-at-source : goal.returns-else-at-source
+returns-else-at-source c = search (actions, rules)

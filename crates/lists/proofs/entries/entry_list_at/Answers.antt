@@ -9,5 +9,5 @@ returns-then-count-le-MOST_ENTRIES c = search (entry_lists, rules)
 pub returns-else-count-le-MOST_ENTRIES : goal.returns-else-count-le-MOST_ENTRIES
 returns-else-count-le-MOST_ENTRIES c = search (entry_lists, rules)
 
-pub returns-else-at-nums : goal.returns-else-at-nums
-returns-else-at-nums c = search (entry_lists, rules)
+pub returns-else-at-source : goal.returns-else-at-source
+returns-else-at-source c = search (entry_lists, rules)
