@@ -6,9 +6,9 @@ ghost use Rattle.rules.specs.Lists.{passing};
 ghost use Rattle.shape.specs.Scans.{told, scan_of};
 ghost use Rattle.lists.specs.Parts.{JudgesLimit, JudgesPattern, AsksPatterns, JudgesPatterns};
 
-use super::values::value_at;
+use super::values::{passing_at, value_at};
 use program::{EXACT, LPM, Source, WIDTHS};
-use rules::{Fault, Reason};
+use rules::Reason;
 use shape::Scanned;
 
 // A prefix length within the width, outside which the value is 0.
@@ -16,21 +16,9 @@ fn prefix_at(nums: &[u64], width: u64, value: u64, at: usize) -> Scanned
     requires { width ≤ widest }
     ensures { told result ≡ scan_of (passing 10 (prefix_fits width value)) nums.now at }
 {
-    if at < nums.len() {
-        if words::keys::prefix_fits(width, value, nums[at]) {
-            Ok(at + 1)
-        } else {
-            Err(Fault {
-                reason: Reason::Entries,
-                index: at,
-            })
-        }
-    } else {
-        Err(Fault {
-            reason: Reason::Entries,
-            index: at,
-        })
-    }
+    passing_at(nums, Reason::Entries, at, |prefix| {
+        words::keys::prefix_fits(width, value, prefix)
+    })
 }
 
 // A mask that fits the width, outside which the value is 0.
@@ -38,21 +26,9 @@ fn mask_at(nums: &[u64], width: u64, value: u64, at: usize) -> Scanned
     requires { width ≤ widest }
     ensures { told result ≡ scan_of (passing 10 (mask_fits width value)) nums.now at }
 {
-    if at < nums.len() {
-        if words::keys::mask_fits(width, value, nums[at]) {
-            Ok(at + 1)
-        } else {
-            Err(Fault {
-                reason: Reason::Entries,
-                index: at,
-            })
-        }
-    } else {
-        Err(Fault {
-            reason: Reason::Entries,
-            index: at,
-        })
-    }
+    passing_at(nums, Reason::Entries, at, |mask| {
+        words::keys::mask_fits(width, value, mask)
+    })
 }
 
 // What stands behind the value of a key of a kind: one that is neither exact nor lpm is ternary.
