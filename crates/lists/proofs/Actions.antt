@@ -18,12 +18,12 @@ use Rattle.rules.proofs.Readers.{looked-in, looked-out}
 use Rattle.shape.specs.Scans.{Scan, Past, Fault}
 use Rattle.shape.specs.Scans.{forget, scan_of}
 use Rattle.program.specs.Codes.{ty_of}
-use Rattle.program.specs.Stands.{StandsNumeral, StandsProgram}
+use Rattle.program.specs.Stands.{Holds, StandsNumeral, StandsProgram}
 use Rattle.program.specs.Looks.{Has, Finds, callables_of, FoundHead}
 use Rattle.program.proofs.Firsts.{FirstParameter, first-parameter}
 use Rattle.program.proofs.Found.{At, member-at}
 use Rattle.program.proofs.Members.{numeral-at}
-use Rattle.lists.specs.Parts.{Typed, AsksArguments, JudgesArguments, arguments_of, AsksCalled, JudgesCalled}
+use Rattle.lists.specs.Parts.{Lacks, Typed, AsksArguments, JudgesArguments, arguments_of, AsksCalled, JudgesCalled}
 use Rattle.lists.specs.Parts.{read_action, ListsActions, AsksAction, JudgesAction}
 use Rattle.lists.proofs.Places.{placed-passing}
 use Rattle.lists.proofs.Steps.{then-fault, then-past, alike-made, alike-scan}
@@ -194,14 +194,14 @@ module _ (nums directory ends : List ℕ) (f at : ℕ) where
 pub ruleset calls = (called-asks, called-arguments, called-is, called-none)
 
 -- an action's position is looked up in the list, and its number among the callables
-action-scan : (P : Program) (T : Table) (nums : List ℕ) (at : ℕ) → at < length nums
-    → scan_of (read_action P T) nums at ≡ arguments_of P nums at (action_at P T (get_or nums at 0))
+action-scan : (P : Program) (T : Table) (nums : List ℕ) (at n : ℕ) → Holds nums at n
+    → scan_of (read_action P T) nums at ≡ arguments_of P nums at (action_at P T n)
 unfolding read_action scan_of forget ◌>>=◌ and_then meaning numbered and_look arguments_of
-action-scan P T nums at h =
-    rw (looked-in 10 (numbered (action_at P T)) nums at h) (go (action_at P T (get_or nums at 0)) refl)
+action-scan P T nums at n h =
+    rw (looked-in 10 (numbered (action_at P T)) nums at h.inside, h.is) (go (action_at P T n) refl)
   where
-    go : (o : Option Callable) → action_at P T (get_or nums at 0) ≡ o
-        → forget (and_then (meaning 10 (numbered (action_at P T) (get_or nums at 0)) (drop (suc at) nums) at)
+    go : (o : Option Callable) → action_at P T n ≡ o
+        → forget (and_then (meaning 10 (numbered (action_at P T) n) (drop (suc at) nums) at)
         (λ action. read_arguments true P action.1.parameters)) ≡ arguments_of P nums at o
     go none e = rw e
     go (some c) e = rw (e, add-one at)
@@ -231,36 +231,34 @@ module _ (nums directory ends : List ℕ) (actions : ℕ) where
   position-next i h l = omega (arith, position-inside i h l, h.asks.stands.numbers)
 
   module _ (at : ℕ) where
-    pub action-asks : AsksAction nums directory ends actions → at < length nums → AsksCalled nums directory ends at
-    action-asks h l = record { asks = h.asks; inside = l }
+    pub action-asks : (n : ℕ) → AsksAction nums directory ends actions → Holds nums at n
+        → AsksCalled nums directory ends at
+    action-asks n h l = record { asks = h.asks; inside = l.inside }
 
-    pub action-is : (r : Scan) → at < length nums → get_or nums at 0 < get_or nums actions 0
-        → JudgesCalled nums directory ends (get_or nums (actions + 1 + get_or nums at 0) 0) at r
+    pub action-is : (n : ℕ) (r : Scan) → Holds nums at n → n < get_or nums actions 0
+        → JudgesCalled nums directory ends (get_or nums (actions + 1 + n) 0) at r
         → JudgesAction nums directory ends actions at r
     unfolding action_at and_look
-    action-is r h l g = record {
+    action-is n r h l g = record {
       judged = λ P end T s lists.
-          let m : At T.actions (get_or nums at 0) = listed_at T lists (get_or nums at 0) l in
-          let k : StandsNumeral nums (actions + 1 + get_or nums at 0) m.member
-          = listed-stands T lists (get_or nums at 0) l in
-          g.judged P end s ∙ rw (action-scan P T nums at h, m.is, k.holds.is);
+          let m : At T.actions n = listed_at T lists n l in
+          let k : StandsNumeral nums (actions + 1 + n) m.member = listed-stands T lists n l in
+          g.judged P end s ∙ rw (action-scan P T nums at n h, m.is, k.holds.is);
     }
 
-    pub action-none : at < length nums → get_or nums actions 0 ≤ get_or nums at 0
+    pub action-none : (n : ℕ) → Holds nums at n → get_or nums actions 0 ≤ n
         → JudgesAction nums directory ends actions at (Fault 10 at)
     unfolding action_at and_look arguments_of
-    action-none h l = record {
+    action-none n h l = record {
       judged = λ P end T s lists.
-          rw (
-            action-scan P T nums at h,
-            no_member T.actions (get_or nums at 0) (rw lists.count.holds.is at l),
-          );
+          rw (action-scan P T nums at n h, no_member T.actions n (rw lists.count.holds.is at l));
     }
 
-    pub action-missing : length nums ≤ at → JudgesAction nums directory ends actions at (Fault 10 at)
+    pub action-missing : (n i : ℕ) → Lacks nums 10 at n i → JudgesAction nums directory ends actions at (Fault n i)
     unfolding read_action scan_of forget ◌>>=◌ and_then
-    action-missing h = record {
-      judged = λ P end T s lists. rw (looked-out 10 (numbered (action_at P T)) nums at h);
+    action-missing n i h = record {
+      judged = λ P end T s lists.
+          rw (h.number_is, h.index_is, looked-out 10 (numbered (action_at P T)) nums at h.beyond);
     }
 
 pub ruleset actions = (

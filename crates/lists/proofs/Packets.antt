@@ -18,7 +18,7 @@ use Rattle.shape.specs.Scans.{Scan, Past, Fault}
 use Rattle.shape.specs.Scans.{forget, scan_of}
 use Rattle.program.specs.Stands.{Holds}
 use Rattle.lists.specs.Listing.{read_last}
-use Rattle.lists.specs.Parts.{JudgesPacket, JudgesLast}
+use Rattle.lists.specs.Parts.{Lacks, JudgesPacket, JudgesLast}
 use Rattle.lists.proofs.Places.{Passing, placed-passing, PacketAt, placed-packet}
 use Rattle.lists.proofs.Steps.{Read, past-read, then-fault, alike-made}
 
@@ -70,29 +70,30 @@ pub ruleset bytes = (bytes-begin, bytes-again, bytes-fault, bytes-done)
 
 -- the list of them, its count first
 module _ (nums : List ℕ) (at : ℕ) where
-  pub packet-is : (r : Scan) → at < length nums → get_or nums at 0 ≤ 512
-      → r ≡ scan_of (repeat (get_or nums at 0) byte) nums (at + 1) → r ≡ scan_of read_bytes nums at
+  pub packet-is : (count : ℕ) (r : Scan) → Holds nums at count → count ≤ 512
+      → r ≡ scan_of (repeat count byte) nums (at + 1) → r ≡ scan_of read_bytes nums at
   unfolding read_bytes scan_of ◌>>=◌ and_then meaning within
-  packet-is r h m q = rw (
-    looked-in 16 (within 0 most_packet) nums at h,
+  packet-is count r h m q = rw (
+    looked-in 16 (within 0 most_packet) nums at h.inside,
     within,
     le-leb 0 (get_or nums at 0) (omega arith),
-    le-leb (get_or nums at 0) 512 m,
+    le-leb (get_or nums at 0) 512 (rw h.is m),
     ← add-one at,
-  ) q
+  ) (rw h.is q)
 
-  pub packet-high : at < length nums → 512 < get_or nums at 0 → Fault 16 at ≡ scan_of read_bytes nums at
+  pub packet-high : (count : ℕ) → Holds nums at count → 512 < count → Fault 16 at ≡ scan_of read_bytes nums at
   unfolding read_bytes scan_of forget ◌>>=◌ and_then meaning within
-  packet-high h m = rw (
-    looked-in 16 (within 0 most_packet) nums at h,
+  packet-high count h m = rw (
+    looked-in 16 (within 0 most_packet) nums at h.inside,
+    h.is,
     within,
-    le-leb 0 (get_or nums at 0) (omega arith),
-    lt-leb (get_or nums at 0) 512 m,
+    le-leb 0 count (omega arith),
+    lt-leb count 512 m,
   )
 
-  pub packet-missing : length nums ≤ at → Fault 16 at ≡ scan_of read_bytes nums at
+  pub packet-missing : (n i : ℕ) → Lacks nums 16 at n i → Fault n i ≡ scan_of read_bytes nums at
   unfolding read_bytes scan_of forget ◌>>=◌ and_then
-  packet-missing h = rw (looked-out 16 (within 0 most_packet) nums at h)
+  packet-missing n i h = rw (h.number_is, h.index_is, looked-out 16 (within 0 most_packet) nums at h.beyond)
 
   -- where the version has one
   module _ (b : Bool) (e : b ≡ has_parser (get_or nums 0 0)) where

@@ -15,10 +15,10 @@ use Rattle.rules.proofs.Readers.{looked-in, looked-out}
 use Rattle.shape.specs.Scans.{Scan, Past, Fault}
 use Rattle.shape.specs.Scans.{forget, scan_of}
 use Rattle.shape.specs.Walks.{Laid, Lays}
-use Rattle.program.specs.Stands.{StandsProgram}
+use Rattle.program.specs.Stands.{Holds, StandsProgram}
 use Rattle.program.specs.Keys.{WidthsOf}
 use Rattle.lists.specs.Listing.{starts_from}
-use Rattle.lists.specs.Parts.{JudgesEntry, lay_starts, JudgesEntries, lay_entries, JudgesEntryList}
+use Rattle.lists.specs.Parts.{Lacks, JudgesEntry, lay_starts, JudgesEntries, lay_entries, JudgesEntryList}
 use Rattle.lists.proofs.Places.{PlacedAt, placed-entry, EntryAt, EntriesAt, placed-repeat}
 use Rattle.lists.proofs.Steps.{Read, past-read, fault-read, alike-made, lays-bad}
 
@@ -112,24 +112,26 @@ pub ruleset rows = (rows-first, rows-past, rows-fault, rows-none)
 
 -- the list of them
 module _ (nums : List ℕ) (at : ℕ) (P : Program) where
-  list-reads : at < length nums → get_or nums at 0 ≤ 64
-      → read_entries true P (drop at nums) at ≡ repeat (get_or nums at 0) (read_entry true P) (drop (at + 1) nums) (at + 1)
+  list-reads : (count : ℕ) → Holds nums at count → count ≤ 64
+      → read_entries true P (drop at nums) at ≡ repeat count (read_entry true P) (drop (at + 1) nums) (at + 1)
   unfolding read_entries ◌>>=◌ and_then meaning within
-  list-reads h m = rw (
-    looked-in 10 (within 0 most_entries) nums at h,
+  list-reads count h m = rw (
+    ← h.is,
+    looked-in 10 (within 0 most_entries) nums at h.inside,
     within,
     le-leb 0 (get_or nums at 0) (omega arith),
-    le-leb (get_or nums at 0) 64 m,
+    le-leb (get_or nums at 0) 64 (rw h.is m),
     add-one at,
   )
 
-  list-above : at < length nums → 64 < get_or nums at 0 → read_entries true P (drop at nums) at ≡ bad 10 at
+  list-above : (count : ℕ) → Holds nums at count → 64 < count → read_entries true P (drop at nums) at ≡ bad 10 at
   unfolding read_entries ◌>>=◌ and_then meaning within
-  list-above h m = rw (
-    looked-in 10 (within 0 most_entries) nums at h,
+  list-above count h m = rw (
+    looked-in 10 (within 0 most_entries) nums at h.inside,
+    h.is,
     within,
-    le-leb 0 (get_or nums at 0) (omega arith),
-    lt-leb (get_or nums at 0) 64 m,
+    le-leb 0 count (omega arith),
+    lt-leb count 64 m,
   )
 
   list-beyond : length nums ≤ at → read_entries true P (drop at nums) at ≡ bad 10 at
@@ -143,24 +145,27 @@ module _ (nums directory ends widths : List ℕ) (at : ℕ) (found filled : List
   counted P n (got es left next) p l = rw (add-one at, ← p.1.counted) at l
   counted P n (bad fault index) p l = tt
 
-  pub list-is : (r : Scan) → at < length nums → get_or nums at 0 ≤ 64
-      → JudgesEntries nums directory ends widths (get_or nums at 0) (at + 1) 1 (set found 0 (get_or nums at 0)) filled r
+  pub list-is : (count : ℕ) (r : Scan) → Holds nums at count → count ≤ 64
+      → JudgesEntries nums directory ends widths count (at + 1) 1 (set found 0 count) filled r
       → JudgesEntryList nums directory ends widths at found filled r
   unfolding scan_of
-  list-is r h m g = record {
+  list-is count r h m g = record {
     judged = λ P end s w. record {
-      scan = rw (list-reads nums at P h m) (g.judged P end s w).scan;
-      laid = rw (list-reads nums at P h m)
-          (counted P (get_or nums at 0) (repeat (get_or nums at 0) (read_entry true P) (drop (at + 1) nums) (at + 1))
-          ((placed-repeat P (get_or nums at 0)).placed nums (at + 1)) (g.judged P end s w).laid);
+      scan = rw (list-reads nums at P count h m) (g.judged P end s w).scan;
+      laid = rw (list-reads nums at P count h m)
+          (counted P count (repeat count (read_entry true P) (drop (at + 1) nums) (at + 1))
+          ((placed-repeat P count).placed nums (at + 1)) (g.judged P end s w).laid);
     };
   }
 
-  pub list-high : at < length nums → 64 < get_or nums at 0
+  pub list-high : (count : ℕ) → Holds nums at count → 64 < count
       → JudgesEntryList nums directory ends widths at found filled (Fault 10 at)
-  list-high h m = record { judged = λ P end s w. lays-bad _ _ nums at 10 at found filled (list-above nums at P h m) }
+  list-high count h m =
+      record { judged = λ P end s w. lays-bad _ _ nums at 10 at found filled (list-above nums at P count h m) }
 
-  pub list-missing : length nums ≤ at → JudgesEntryList nums directory ends widths at found filled (Fault 10 at)
-  list-missing h = record { judged = λ P end s w. lays-bad _ _ nums at 10 at found filled (list-beyond nums at P h) }
+  pub list-missing : (n i : ℕ) → Lacks nums 10 at n i
+      → JudgesEntryList nums directory ends widths at found filled (Fault n i)
+  list-missing n i h = rw (h.number_is, h.index_is)
+      (record { judged = λ P end s w. lays-bad _ _ nums at 10 at found filled (list-beyond nums at P h.beyond) })
 
 pub ruleset entry_lists = (list-is, list-high, list-missing)

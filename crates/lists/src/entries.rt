@@ -8,7 +8,7 @@ ghost use Rattle.program.specs.In.{In};
 ghost use Rattle.shape.specs.Scans.{told};
 
 use super::patterns::patterns_at;
-use super::values::typed_at;
+use super::values::{number_at, typed_at};
 use program::{MOST_KEYS, Source, WIDTHS};
 use rules::{Fault, Reason};
 use shape::Scanned;
@@ -50,16 +50,9 @@ fn action_at(source: &Source, actions: usize, at: usize) -> Scanned
     requires { In AsksAction source.now actions }
     ensures { In JudgesAction source.now actions at (told result) }
 {
-    if at < source.nums.len() {
-        let position = source.nums[at];
-        if position < source.nums[actions] {
-            called_at(source, source.nums[actions + 1 + position as usize], at)
-        } else {
-            Err(Fault {
-                reason: Reason::Entries,
-                index: at,
-            })
-        }
+    let position = number_at(source.nums, Reason::Entries, at)?;
+    if position < source.nums[actions] {
+        called_at(source, source.nums[actions + 1 + position as usize], at)
     } else {
         Err(Fault {
             reason: Reason::Entries,
@@ -91,16 +84,9 @@ fn entry_at(source: &Source, widths: &[u64; WIDTHS], at: usize) -> Scanned
     requires { In AsksLists source.now widths.now }
     ensures { In JudgesEntry source.now widths.now at (told result) }
 {
-    if at < source.nums.len() {
-        let t = source.nums[at];
-        if t < source.directory[shape::TABLES] {
-            of_table_at(source, widths, t as usize, at + 1)
-        } else {
-            Err(Fault {
-                reason: Reason::Entries,
-                index: at,
-            })
-        }
+    let t = number_at(source.nums, Reason::Entries, at)?;
+    if t < source.directory[shape::TABLES] {
+        of_table_at(source, widths, t as usize, at + 1)
     } else {
         Err(Fault {
             reason: Reason::Entries,
@@ -139,17 +125,10 @@ pub fn entry_list_at(
     requires { In AsksLists source.now widths.now }
     ensures { In JudgesEntryList source.now widths.now at entries.old entries.new (told result) }
 {
-    if at < source.nums.len() {
-        let count = source.nums[at];
-        if count <= MOST_ENTRIES {
-            entries[0] = count;
-            entries_at(source, widths, count, at + 1, entries)
-        } else {
-            Err(Fault {
-                reason: Reason::Entries,
-                index: at,
-            })
-        }
+    let count = number_at(source.nums, Reason::Entries, at)?;
+    if count <= MOST_ENTRIES {
+        entries[0] = count;
+        entries_at(source, widths, count, at + 1, entries)
     } else {
         Err(Fault {
             reason: Reason::Entries,

@@ -5,7 +5,7 @@ ghost use Rattle.rules.specs.Lists.{passing, is_byte, read_bytes};
 ghost use Rattle.shape.specs.Scans.{told, scan_of};
 ghost use Rattle.lists.specs.Parts.{JudgesPacket, JudgesLast};
 
-use super::values::value_at;
+use super::values::{number_at, value_at};
 use rules::{Fault, Reason};
 use shape::Scanned;
 use shape::limits::has_parser;
@@ -30,16 +30,9 @@ fn bytes_at(nums: &[u64], count: u64, at: usize) -> Scanned
 fn byte_list_at(nums: &[u64], at: usize) -> Scanned
     ensures { told result ≡ scan_of read_bytes nums.now at }
 {
-    if at < nums.len() {
-        let count = nums[at];
-        if count <= MOST_PACKET {
-            bytes_at(nums, count, at + 1)
-        } else {
-            Err(Fault {
-                reason: Reason::Packet,
-                index: at,
-            })
-        }
+    let count = number_at(nums, Reason::Packet, at)?;
+    if count <= MOST_PACKET {
+        bytes_at(nums, count, at + 1)
     } else {
         Err(Fault {
             reason: Reason::Packet,
