@@ -18,11 +18,7 @@ pub const BOOL: u64 = 1;
 pub fn number_at(nums: &[u64], reason: Reason, at: usize) -> Result<u64, Fault>
     ensures { NumberAt nums.now (number_of reason) at result }
 {
-    if at < nums.len() {
-        Ok(nums[at])
-    } else {
-        Err(Fault { reason, index: at })
-    }
+    nums.get(at).copied().ok_or(Fault { reason, index: at })
 }
 
 // A number that passes a test, with the fault that is given where it does not or is missing.
