@@ -121,31 +121,31 @@ pub record Rest (nums ends : List ℕ) (depth next left total : ℕ) (kept : Lis
   pub sum : cut (ceiling_args (callee_below P reach) xs) ≡ cut (total + ceiling_args (callee_below P reach) rest)
   pub keeps : Kept P kept
 
-pub record Summed (nums directory ends kept : List ℕ) (reach depth at count : ℕ) (kept₁ : List ℕ) (total next left : ℕ)
+pub record Summed (nums directory ends kept : List ℕ) (reach depth at count : ℕ) (kept₁ : List ℕ) (total next done : ℕ)
     : Type 0 where
   pub low : total ≤ suc most_steps
   pub going : (P : Program) (xs : Args) → Setting nums directory ends kept reach P → StandsArgs nums ends depth at xs
-      → count ≡ arg_count xs → Rest nums ends depth next left total kept₁ P reach xs
+      → count ≡ arg_count xs → Rest nums ends depth next (count - done) total kept₁ P reach xs
 
 pub sum-begins : (nums directory ends kept : List ℕ) (reach depth at count : ℕ)
-    → Summed nums directory ends kept reach depth at count kept 0 at count
+    → Summed nums directory ends kept reach depth at count kept 0 at 0
 sum-begins nums directory ends kept reach depth at count = record {
   low = omega arith;
-  going = λ P xs s w e. record { rest = xs; stand = w; counts = e; sum = cut-begin _; keeps = s.keeps };
+  going = λ P xs s w e. record { rest = xs; stand = w; counts = omega (arith, e); sum = cut-begin _; keeps = s.keeps };
 }
 
-module _ (nums directory ends kept : List ℕ) (reach depth at count : ℕ) (kept₁ : List ℕ) (total next left : ℕ)
-    (g : Summed nums directory ends kept reach depth at count kept₁ total next left) where
-  module _ (m : 0 < left) where
-    more_left : left ≡ 0 → ⊥
+module _ (nums directory ends kept : List ℕ) (reach depth at count : ℕ) (kept₁ : List ℕ) (total next done : ℕ)
+    (g : Summed nums directory ends kept reach depth at count kept₁ total next done) where
+  module _ (m : done < count) where
+    more_left : count - done ≡ 0 → ⊥
     more_left e = omega (arith, e)
 
     module _ (a : AsksExprs nums directory ends kept reach depth at count) where
-      rest_of : Rest nums ends depth next left total kept₁ a.program reach a.args
+      rest_of : Rest nums ends depth next (count - done) total kept₁ a.program reach a.args
       rest_of = g.going a.program a.args a.setting a.stand a.counts
 
-      first_of : ArgView nums ends depth next left rest_of.rest
-      first_of = arg_view left rest_of.rest rest_of.stand rest_of.counts more_left
+      first_of : ArgView nums ends depth next (count - done) rest_of.rest
+      first_of = arg_view (count - done) rest_of.rest rest_of.stand rest_of.counts more_left
 
       pub member-asks : AsksExpr nums directory ends kept₁ reach depth next
       member-asks = record {
@@ -167,13 +167,13 @@ module _ (nums directory ends kept : List ℕ) (reach depth at count : ℕ) (kep
     pub sum-again : (kept₂ : List ℕ) (one total₁ next₁ : ℕ)
         → CountsExpr nums directory ends kept₁ kept₂ reach depth next one
         → total₁ ≡ cut (total + one) → next₁ ≡ get_or ends next 0
-        → Summed nums directory ends kept reach depth at count kept₂ total₁ next₁ (left - 1)
+        → Summed nums directory ends kept reach depth at count kept₂ total₁ next₁ (done + 1)
     unfolding ceiling_expr
     sum-again kept₂ one total₁ next₁ c e n = record {
       low = cut_low total₁ (total + one) e;
       going = λ P xs s w k.
-          let r : Rest nums ends depth next left total kept₁ P reach xs = g.going P xs s w k in
-          let v : ArgView nums ends depth next left r.rest = arg_view left r.rest r.stand
+          let r : Rest nums ends depth next (count - done) total kept₁ P reach xs = g.going P xs s w k in
+          let v : ArgView nums ends depth next (count - done) r.rest = arg_view (count - done) r.rest r.stand
           r.counts more_left in
           let q : Counted P (ceiling_expr (callee_below P reach) v.first) one kept₂
           = c.counted P v.first
@@ -181,18 +181,18 @@ module _ (nums directory ends kept : List ℕ) (reach depth at count : ℕ) (kep
           record {
             rest = v.others;
             stand = rw n v.others_stand;
-            counts = v.fewer;
+            counts = omega (arith, v.fewer);
             sum = cut-more total one total₁ _ _ _ q.is e (rw v.same at r.sum);
             keeps = q.keeps;
           };
     }
 
-  pub sum-ends : left ≤ 0 → CountsExprs nums directory ends kept kept₁ reach depth at count total
+  pub sum-ends : count ≤ done → CountsExprs nums directory ends kept kept₁ reach depth at count total
   unfolding ceiling_expr
   sum-ends m = record {
     low = g.low;
     counted = λ P xs s w k.
-        let r : Rest nums ends depth next left total kept₁ P reach xs = g.going P xs s w k in
+        let r : Rest nums ends depth next (count - done) total kept₁ P reach xs = g.going P xs s w k in
         let none : r.rest ≡ no_args = no-args r.rest (omega (arith, r.counts)) in
         record { is = cut-done total _ g.low (rw none at r.sum); keeps = r.keeps };
   }

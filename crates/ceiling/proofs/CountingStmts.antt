@@ -392,32 +392,32 @@ pub record RestStmts (nums ends : List ℕ) (depth next left total : ℕ) (kept 
   pub keeps : Kept P kept
 
 pub record SummedStmts (nums directory ends tables kept : List ℕ) (reach depth at count : ℕ) (kept₁ : List ℕ)
-    (total next left : ℕ) : Type 0 where
+    (total next done : ℕ) : Type 0 where
   pub low : total ≤ suc most_steps
   pub going : (P : Program) (ss : Stmts) → Setting nums directory ends kept reach P → (table : ℕ → ℕ)
       → TablesKept P reach tables table
       → StandsStmts nums ends depth at ss → count ≡ member_count ss
-      → RestStmts nums ends depth next left total kept₁ P reach table ss
+      → RestStmts nums ends depth next (count - done) total kept₁ P reach table ss
 
 pub stmts-begin : (nums directory ends tables kept : List ℕ) (reach depth at count : ℕ)
-    → SummedStmts nums directory ends tables kept reach depth at count kept 0 at count
+    → SummedStmts nums directory ends tables kept reach depth at count kept 0 at 0
 stmts-begin nums directory ends tables kept reach depth at count = record {
   low = omega arith;
-  going = λ P ss s table tabled w e. record { rest = ss; stand = w; counts = e; sum = cut-begin _; keeps = s.keeps };
+  going = λ P ss s table tabled w e. record { rest = ss; stand = w; counts = omega (arith, e); sum = cut-begin _; keeps = s.keeps };
 }
 
-module _ (nums directory ends tables kept : List ℕ) (reach depth at count : ℕ) (kept₁ : List ℕ) (total next left : ℕ)
-    (g : SummedStmts nums directory ends tables kept reach depth at count kept₁ total next left) where
-  module _ (m : 0 < left) where
-    more_left : left ≡ 0 → ⊥
+module _ (nums directory ends tables kept : List ℕ) (reach depth at count : ℕ) (kept₁ : List ℕ) (total next done : ℕ)
+    (g : SummedStmts nums directory ends tables kept reach depth at count kept₁ total next done) where
+  module _ (m : done < count) where
+    more_left : count - done ≡ 0 → ⊥
     more_left e = omega (arith, e)
 
     module _ (a : AsksStmts nums directory ends tables kept reach depth at count) where
-      rest_of : RestStmts nums ends depth next left total kept₁ a.program reach a.table a.stmts
+      rest_of : RestStmts nums ends depth next (count - done) total kept₁ a.program reach a.table a.stmts
       rest_of = g.going a.program a.stmts a.setting a.table a.tabled a.stand a.counts
 
-      first_of : MemberView nums ends depth next left rest_of.rest
-      first_of = member-view left rest_of.rest rest_of.stand rest_of.counts more_left
+      first_of : MemberView nums ends depth next (count - done) rest_of.rest
+      first_of = member-view (count - done) rest_of.rest rest_of.stand rest_of.counts more_left
 
       pub stmts-asks : AsksStmt nums directory ends tables kept₁ reach depth next
       stmts-asks = record {
@@ -441,13 +441,13 @@ module _ (nums directory ends tables kept : List ℕ) (reach depth at count : �
     pub stmts-again : (kept₂ : List ℕ) (one total₁ next₁ : ℕ)
         → CountsStmt nums directory ends tables kept₁ kept₂ reach depth next one
         → total₁ ≡ cut (total + one) → next₁ ≡ get_or ends next 0
-        → SummedStmts nums directory ends tables kept reach depth at count kept₂ total₁ next₁ (left - 1)
+        → SummedStmts nums directory ends tables kept reach depth at count kept₂ total₁ next₁ (done + 1)
     unfolding ceiling_stmt
     stmts-again kept₂ one total₁ next₁ c e n = record {
       low = cut_low total₁ (total + one) e;
       going = λ P ss s table tabled w k.
-          let r : RestStmts nums ends depth next left total kept₁ P reach table ss = g.going P ss s table tabled w k in
-          let v : MemberView nums ends depth next left r.rest = member-view left r.rest r.stand
+          let r : RestStmts nums ends depth next (count - done) total kept₁ P reach table ss = g.going P ss s table tabled w k in
+          let v : MemberView nums ends depth next (count - done) r.rest = member-view (count - done) r.rest r.stand
           r.counts more_left in
           let q : Counted P (ceiling_stmt (callee_below P reach) (applied_in P reach table) v.first) one kept₂
           = c.counted P v.first
@@ -456,18 +456,18 @@ module _ (nums directory ends tables kept : List ℕ) (reach depth at count : �
           record {
             rest = v.others;
             stand = rw n v.others_stand;
-            counts = v.fewer;
+            counts = omega (arith, v.fewer);
             sum = cut-more total one total₁ _ _ _ q.is e (rw v.same at r.sum);
             keeps = q.keeps;
           };
     }
 
-  pub stmts-end : left ≤ 0 → CountsStmts nums directory ends tables kept kept₁ reach depth at count total
+  pub stmts-end : count ≤ done → CountsStmts nums directory ends tables kept kept₁ reach depth at count total
   unfolding ceiling_stmt
   stmts-end m = record {
     low = g.low;
     counted = λ P ss s table tabled w k.
-        let r : RestStmts nums ends depth next left total kept₁ P reach table ss = g.going P ss s table tabled w k in
+        let r : RestStmts nums ends depth next (count - done) total kept₁ P reach table ss = g.going P ss s table tabled w k in
         let none : r.rest ≡ no_stmts = no-members r.rest (omega (arith, r.counts)) in
         record { is = cut-done total _ g.low (rw none at r.sum); keeps = r.keeps };
   }

@@ -59,12 +59,10 @@ fn count_exprs(
 {
     let mut total = 0;
     let mut next = at;
-    let mut left = count;
-    while 0 < left {
+    for _ in 0..count {
         let one = count_expr(source, tables, reach, depth, next, kept);
         total = operands::add(total, one);
         next = behind(source.ends, next);
-        left = left - 1;
     }
     total
 }
@@ -185,12 +183,10 @@ fn count_stmts(
 {
     let mut total = 0;
     let mut next = at;
-    let mut left = count;
-    while 0 < left {
+    for _ in 0..count {
         let one = count_stmt(source, tables, reach, depth, next, kept);
         total = operands::add(total, one);
         next = behind(source.ends, next);
-        left = left - 1;
     }
     total
 }

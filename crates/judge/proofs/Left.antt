@@ -19,14 +19,12 @@ use Rattle.shape.specs.Scans.{Past}
 use Rattle.program.specs.Stands.{StandsProgram}
 use Rattle.program.specs.Keys.{WidthsOf}
 use Rattle.form.proofs.Laid.{keys-laid}
-use Rattle.lists.specs.declared.Listed.{Listed}
-use Rattle.lists.specs.declared.Listed.TheVariants.{Fine, Fault}
-use Rattle.lists.specs.Listing.{Lists, listing, listed_of, ListsJudged}
+use Rattle.lists.specs.Listing.{Listed, Fine, Fault, Lists, listing, listed_of, ListsJudged}
 use Rattle.lists.specs.Stands.{ListsStand}
 use Rattle.lists.proofs.Laid.{listing-made, lists-stand}
-use Rattle.judge.specs.declared.Verdict.{Verdict}
-use Rattle.judge.specs.declared.Verdict.TheVariants.{Accepted}
-use Rattle.judge.specs.Verdicts.{after_lists, after_ceiling, after_form, after_shape, widths_after, lists_judged, entries_after, offsets_after, AsksJudge, JudgesNumbers}
+use Rattle.std.specs.Prelude.{Result, Ok}
+use Rattle.judge.specs.declared.Verdict as coded
+use Rattle.judge.specs.Verdicts.{Verdict, Accepted, after_lists, after_ceiling, after_form, after_shape, widths_after, lists_judged, entries_after, offsets_after, AsksJudge, JudgesNumbers}
 use Rattle.judge.proofs.Bridge.{bench, behind}
 use Rattle.judge.proofs.Passes.{stands, fine-judged}
 
@@ -79,25 +77,25 @@ judging-is nums P left end lists rest next read formed bounded listed =
     rw (read, formed, bounded) (behind-is P left end lists rest next listed)
 
 module _ (nums directory directory' ends ends' widths widths' entries entries' offsets offsets' : List ℕ)
-    (ceiling store size : ℕ) where
+    (v : coded.Verdict) where
   pub accepted-leaves : JudgesNumbers nums directory directory' ends ends' widths widths' entries entries' offsets
-      offsets' (Accepted ceiling store size)
+      offsets' (Ok v)
       → AsksJudge nums directory ends widths → length entries ≡ suc most_entries → length offsets ≡ suc most_globals
-      → Leaves nums directory' ends' widths' entries' offsets' ceiling store size
+      → Leaves nums directory' ends' widths' entries' offsets' v.ceiling v.store v.length
   unfolding Kept
   accepted-leaves j a entry_room offset_room = go (read_program nums 0) refl (keeps-program.kept nums 0)
     where
       go : (x : Got Program) → read_program nums 0 ≡ x → Kept nums 0 x
-          → Leaves nums directory' ends' widths' entries' offsets' ceiling store size
+          → Leaves nums directory' ends' widths' entries' offsets' v.ceiling v.store v.length
       go (bad number index) q k = unfold after_shape in
-          let e : Accepted ceiling store size ≡ after_shape (bad number index) = rw q at j.verdict in
+          let e : Accepted v.ceiling v.store v.length ≡ after_shape (bad number index) = rw q at j.verdict in
           let z : ◌≡◌ {A = ℕ} 0 1 = cc in absurd (omega arith)
       go (got P left end) q k = unfold after_shape widths_after entries_after offsets_after scan_of forget in
           let read : read_program nums 0 ≡ got P (drop end nums) end = q ∙ rw k.rest refl in
-          let v : Accepted ceiling store size ≡ after_form P (drop end nums) end (judge_program P) = rw read at j.verdict in
-          let f = after-form ceiling store size P (drop end nums) end (judge_program P) v in
-          let b = after-ceiling ceiling store size P (drop end nums) end (leb (ceiling_of P) most_steps) f.1 in
-          let l = after-lists ceiling store size P (drop end nums) end (ceiling_of P)
+          let fine : Accepted v.ceiling v.store v.length ≡ after_form P (drop end nums) end (judge_program P) = rw read at j.verdict in
+          let f = after-form v.ceiling v.store v.length P (drop end nums) end (judge_program P) fine in
+          let b = after-ceiling v.ceiling v.store v.length P (drop end nums) end (leb (ceiling_of P) most_steps) f.1 in
+          let l = after-lists v.ceiling v.store v.length P (drop end nums) end (ceiling_of P)
           (listed_of end (listing P (drop end nums) end)) b.1 in
           let both : lists_judged P ≡ true = fine-judged P f.0 ∙ b.0 in
           let scans : ScansProgram nums directory directory' ends ends' (Past end)
@@ -105,12 +103,12 @@ module _ (nums directory directory' ends ends' widths widths' entries entries' o
           let s : StandsProgram nums directory' ends' P end
           = stands nums directory directory' ends ends' (Past end) scans a.lent end
           (record { program = P; read = read }) in
-          let lists : ListsJudged P end nums entries entries' offsets offsets' (Fine store size) = record {
+          let lists : ListsJudged P end nums entries entries' offsets offsets' (Fine v.store v.length) = record {
             answer = l.1;
             entries_are = rw (read, both, entries_after) at j.entries_are;
             offsets_are = rw (read, both, offsets_after) at j.offsets_are;
           } in
-          let stand = lists-stand nums directory' ends' entries entries' offsets offsets' store size P end lists entry_room
+          let stand = lists-stand nums directory' ends' entries entries' offsets offsets' v.store v.length P end lists entry_room
           offset_room s in
           record {
             program = P;

@@ -10,7 +10,9 @@ use Rattle.rules.specs.Reading.{Got, got, bad, most_keys, read_program}
 use Rattle.rules.specs.Form.{Res, ok, fault, judge_program}
 use Rattle.form.specs.Claims.{key_widths, lay_tables, widths_left}
 use Rattle.lists.specs.Listing.{Lists, starts_from, offsets_from, listing, entries_left, offsets_left}
-use Rattle.judge.specs.declared.Verdict.{Verdict}
+use Rattle.std.specs.Prelude.{Result}
+use Rattle.rules.specs.declared.Fault as rules
+use Rattle.judge.specs.declared.Verdict as coded
 use Rattle.judge.specs.Verdicts.{widths_after, lists_judged, entries_after, offsets_after, JudgesNumbers}
 
 -- the widths
@@ -66,7 +68,7 @@ pub record Long (widths widths' entries entries' offsets offsets' : List ℕ) : 
   pub globals : length offsets' ≡ length offsets
 
 pub judged-long : {nums directory directory' ends ends' widths widths' entries entries' offsets offsets' : List ℕ}
-    {r : Verdict}
+    {r : Result coded.Verdict rules.Fault}
     → JudgesNumbers nums directory directory' ends ends' widths widths' entries entries' offsets offsets' r
     → Long widths widths' entries entries' offsets offsets'
 judged-long {nums = nums} {widths = widths} {entries = entries} {offsets = offsets} j = record {

@@ -16,25 +16,25 @@ use Rattle.rules.proofs.Readers.{Kept, keeps-program}
 use Rattle.shape.specs.Directory.{directory_left, slot_count}
 use Rattle.shape.specs.Ends.{most_numbers, ScansProgram}
 use Rattle.shape.specs.Scans.{forget, scan_of}
-use Rattle.shape.specs.Scans.{Scan, Past}
+use Rattle.shape.specs.Scans.{Scan, Past, told}
 use Rattle.shape.specs.Scans as scans
 use Rattle.program.specs.Stands.{StandsProgram, SomeProgram}
 use Rattle.shape.proofs.Entries.{directory-long}
 use Rattle.shape.proofs.Lines.{scan-long}
 use Rattle.program.proofs.Standing.{program-stands}
-use Rattle.form.specs.declared.Formal.{Formal}
-use Rattle.form.specs.declared.Formal.TheVariants.{Well, Ill}
+use Rattle.std.specs.Prelude.{Result, Ok, Err}
+use Rattle.rules.specs.declared.Fault as rules
+use Rattle.rules.specs.declared.Reason.TheVariants as reason
+use Rattle.rules.specs.Answers.{number_of}
 use Rattle.form.specs.Claims.{told_form, JudgesForm}
 use Rattle.form.proofs.Laid.{form-laid}
 use Rattle.ceiling.specs.Claims.{TellsCeiling}
 use Rattle.ceiling.proofs.Whole.{told-exact, told_over}
-use Rattle.lists.specs.declared.Listed.{Listed}
-use Rattle.lists.specs.declared.Listed.TheVariants as listed
+use Rattle.lists.specs.declared.Lists as lists
 use Rattle.program.specs.Keys.{WidthsOf}
-use Rattle.lists.specs.Listing.{AsksLists, ListsJudged, JudgesLists}
-use Rattle.judge.specs.declared.Verdict.{Verdict}
-use Rattle.judge.specs.declared.Verdict.TheVariants.{Accepted, Refused}
-use Rattle.judge.specs.Verdicts.{after_lists, after_ceiling, after_form, after_shape, widths_after, lists_judged, entries_after, offsets_after, Lent, JudgesNumbers}
+use Rattle.lists.specs.Listing.{told_listed, AsksLists, ListsJudged, JudgesLists}
+use Rattle.judge.specs.declared.Verdict as coded
+use Rattle.judge.specs.Verdicts.{Accepted, Refused, told_verdict, after_lists, after_ceiling, after_form, after_shape, widths_after, lists_judged, entries_after, offsets_after, Lent, JudgesNumbers}
 use Rattle.judge.specs.Passes.{AsksBounded, Bounded, JudgesBounded, AsksProgram, Judged, JudgesProgram}
 use Rattle.judge.proofs.Bridge.{passes-say}
 
@@ -47,7 +47,7 @@ module _ (nums directory ends widths : List ℕ) where
   bounded-lists a = record { program = a.program; end = a.end; stands = a.stands; known = a.known }
 
   pub over-ceiling : (entries offsets : List ℕ) (c : ℕ) → TellsCeiling nums directory ends c → most_steps < c
-      → JudgesBounded nums directory ends widths entries entries offsets offsets (Refused 9 0)
+      → JudgesBounded nums directory ends widths entries entries offsets offsets (Err (record { reason = reason.Ceiling; index = 0 }))
   unfolding after_ceiling
   over-ceiling entries offsets c t h = record {
     judged = λ P end s w.
@@ -58,15 +58,15 @@ module _ (nums directory ends widths : List ℕ) where
 
   module _ (entries entries' offsets offsets' : List ℕ) (c : ℕ) (t : TellsCeiling nums directory ends c)
       (h : c ≤ most_steps)
-      (r : Listed) (j : JudgesLists nums directory ends widths entries entries' offsets offsets' r) where
-    listed-as : (v : Verdict) → v ≡ after_lists c r
+      (r : Result lists.Lists rules.Fault) (j : JudgesLists nums directory ends widths entries entries' offsets offsets' r) where
+    listed-as : (v : Result coded.Verdict rules.Fault) → told_verdict v ≡ after_lists c (told_listed r)
         → JudgesBounded nums directory ends widths entries entries' offsets offsets' v
     unfolding after_ceiling
     listed-as v e = record {
       judged = λ P end s w.
           let exact : c ≡ ceiling_of P = told-exact nums directory ends c P end s t h in
           let within : leb (ceiling_of P) most_steps ≡ true = le-leb (ceiling_of P) most_steps (rw exact at h) in
-          let l : ListsJudged P end nums entries entries' offsets offsets' r = j.judged P end s w in
+          let l : ListsJudged P end nums entries entries' offsets offsets' (told_listed r) = j.judged P end s w in
           record {
             verdict = rw within (e ∙ rw (exact, l.answer));
             entries_are = rw within l.entries_are;
@@ -74,15 +74,16 @@ module _ (nums directory ends widths : List ℕ) where
           };
     }
 
-    pub listed-fine : (store size : ℕ) → r ≡ listed.Fine store size
-        → JudgesBounded nums directory ends widths entries entries' offsets offsets' (Accepted c store size)
+    pub listed-fine : (l : lists.Lists) → r ≡ Ok l
+        → JudgesBounded nums directory ends widths entries entries' offsets offsets'
+        (Ok (record { ceiling = c; store = l.store; length = l.length }))
     unfolding after_lists
-    listed-fine store size e = listed-as (Accepted c store size) (rw e)
+    listed-fine l e = listed-as (Ok (record { ceiling = c; store = l.store; length = l.length })) (rw e)
 
-    pub listed-fault : (number index : ℕ) → r ≡ listed.Fault number index
-        → JudgesBounded nums directory ends widths entries entries' offsets offsets' (Refused number index)
+    pub listed-fault : (f : rules.Fault) → r ≡ Err f
+        → JudgesBounded nums directory ends widths entries entries' offsets offsets' (Err f)
     unfolding after_lists
-    listed-fault number index e = listed-as (Refused number index) (rw e)
+    listed-fault f e = listed-as (Err f) (rw e)
 
 pub ruleset bounded = (bounded-program, bounded-lists, over-ceiling, listed-fine, listed-fault)
 
@@ -95,18 +96,18 @@ pub fine-judged : (P : Program) → judge_program P ≡ ok tt → lists_judged P
 unfolding lists_judged is_fine
 fine-judged P e = rw (lists_judged, e)
 
-module _ (nums directory ends widths widths₁ : List ℕ) (formal : Formal)
+module _ (nums directory ends widths widths₁ : List ℕ) (formal : Result (Unit {0}) rules.Fault)
     (j : JudgesForm nums directory ends widths widths₁ formal) where
-  well-formed : formal ≡ Well → (P : Program) (end : ℕ) → StandsProgram nums directory ends P end
+  well-formed : formal ≡ Ok tt → (P : Program) (end : ℕ) → StandsProgram nums directory ends P end
       → judge_program P ≡ ok tt
   unfolding told_form
   well-formed e P end s = sym (j.judged P end s) ∙ rw e
 
-  widths-known : formal ≡ Well → length widths ≡ most_keys * most_tables → (P : Program) (end : ℕ)
+  widths-known : formal ≡ Ok tt → length widths ≡ most_keys * most_tables → (P : Program) (end : ℕ)
       → StandsProgram nums directory ends P end → WidthsOf P widths₁
   widths-known e room P end s = form-laid nums directory ends widths widths₁ (rw e at j) room P end s
 
-  pub well-asks : AsksProgram nums directory ends widths → formal ≡ Well → AsksBounded nums directory ends widths₁
+  pub well-asks : AsksProgram nums directory ends widths → formal ≡ Ok tt → AsksBounded nums directory ends widths₁
   well-asks a e = record {
     program = a.program;
     end = a.end;
@@ -114,14 +115,14 @@ module _ (nums directory ends widths widths₁ : List ℕ) (formal : Formal)
     known = widths-known e a.slots a.program a.end a.stands;
   }
 
-  pub well-judged : (entries entries' offsets offsets' : List ℕ) (r : Verdict) → formal ≡ Well
+  pub well-judged : (entries entries' offsets offsets' : List ℕ) (r : Result coded.Verdict rules.Fault) → formal ≡ Ok tt
       → AsksProgram nums directory ends widths → JudgesBounded nums directory ends widths₁ entries entries' offsets offsets' r
       → JudgesProgram nums directory ends widths widths₁ entries entries' offsets offsets' r
   unfolding after_form
   well-judged entries entries' offsets offsets' r e a b = record {
     judged = λ P end s.
         let fine : judge_program P ≡ ok tt = well-formed e P end s in
-        let c : Bounded P end nums entries entries' offsets offsets' r
+        let c : Bounded P end nums entries entries' offsets offsets' (told_verdict r)
         = b.judged P end s (widths-known e a.slots P end s) in
         record {
           verdict = rw fine c.verdict;
@@ -131,12 +132,12 @@ module _ (nums directory ends widths widths₁ : List ℕ) (formal : Formal)
         };
   }
 
-  pub ill-judged : (entries offsets : List ℕ) (number index : ℕ) → formal ≡ Ill number index
-      → JudgesProgram nums directory ends widths widths₁ entries entries offsets offsets (Refused number index)
+  pub ill-judged : (entries offsets : List ℕ) (f : rules.Fault) → formal ≡ Err f
+      → JudgesProgram nums directory ends widths widths₁ entries entries offsets offsets (Err f)
   unfolding told_form after_form lists_judged is_fine
-  ill-judged entries offsets number index e = record {
+  ill-judged entries offsets f e = record {
     judged = λ P end s.
-        let bad : judge_program P ≡ fault number index = sym (j.judged P end s) ∙ rw e in
+        let bad : judge_program P ≡ fault (number_of f.reason) f.index = sym (j.judged P end s) ∙ rw e in
         record {
           verdict = rw bad;
           widths_are = j.laid P end s;
@@ -182,16 +183,16 @@ module _ (nums directory directory' ends ends' : List ℕ) (scan : Scan)
         let f : Found end = found end e in
         record { program = f.program; end = end; stands = stands end f; slots = room }
 
-    pub judged-past : (end : ℕ) (widths widths' entries entries' offsets offsets' : List ℕ) (r : Verdict)
+    pub judged-past : (end : ℕ) (widths widths' entries entries' offsets offsets' : List ℕ) (r : Result coded.Verdict rules.Fault)
         → scan ≡ Past end
         → JudgesProgram nums directory' ends' widths widths' entries entries' offsets offsets' r
         → JudgesNumbers nums directory directory' ends ends' widths widths' entries entries' offsets offsets' r
     unfolding after_shape widths_after entries_after offsets_after
     judged-past end widths widths' entries entries' offsets offsets' r e j =
         let f : Found end = found end e in
-        let k : Judged f.program end nums widths widths' entries entries' offsets offsets' r
+        let k : Judged f.program end nums widths widths' entries entries' offsets offsets' (told_verdict r)
         = j.judged f.program end (stands end f) in
-        let verdict : r ≡ after_shape (read_program nums 0) = rw f.read k.verdict in
+        let verdict : told_verdict r ≡ after_shape (read_program nums 0) = rw f.read k.verdict in
         record {
           answer = rw verdict (passes-say nums);
           verdict = verdict;
@@ -202,20 +203,18 @@ module _ (nums directory directory' ends ends' : List ℕ) (scan : Scan)
           offsets_are = rw f.read k.offsets_are;
         }
 
-  pub judged-fault : (number index : ℕ) (widths entries offsets : List ℕ) → scan ≡ scans.Fault number index
-      → JudgesNumbers nums directory directory' ends ends' widths widths entries entries offsets offsets
-      (Refused number index)
+  pub judged-fault : (f : rules.Fault) (widths entries offsets : List ℕ) → scan ≡ told (Err f)
+      → JudgesNumbers nums directory directory' ends ends' widths widths entries entries offsets offsets (Err f)
   unfolding scan_of forget after_shape widths_after entries_after offsets_after
-  judged-fault number index widths entries offsets e = go (read_program nums 0) refl (sym e ∙ w.answer)
+  judged-fault f widths entries offsets e = go (read_program nums 0) refl (sym e ∙ w.answer)
     where
-      go : (x : Got Program) → read_program nums 0 ≡ x → scans.Fault number index ≡ forget x
-          → JudgesNumbers nums directory directory' ends ends' widths widths entries entries offsets offsets
-          (Refused number index)
-      go (got P left next) q f = let z : ◌≡◌ {A = ℕ} 0 1 = cc in absurd (omega arith)
-      go (bad n i) q f =
-          let same_n : n ≡ number = cc in
-          let same_i : i ≡ index = cc in
-          let verdict : Refused number index ≡ after_shape (read_program nums 0) = rw (q, same_n, same_i) in
+      go : (x : Got Program) → read_program nums 0 ≡ x → told (Err f) ≡ forget x
+          → JudgesNumbers nums directory directory' ends ends' widths widths entries entries offsets offsets (Err f)
+      go (got P left next) q g = let z : ◌≡◌ {A = ℕ} 0 1 = cc in absurd (omega arith)
+      go (bad n i) q g =
+          let same_n : n ≡ number_of f.reason = cc in
+          let same_i : i ≡ f.index = cc in
+          let verdict : Refused (number_of f.reason) f.index ≡ after_shape (read_program nums 0) = rw (q, same_n, same_i) in
           record {
             answer = rw verdict (passes-say nums);
             verdict = verdict;

@@ -1,5 +1,6 @@
 -- What the passes behind the scan promise one another, whatever program stands there.
-use Rattle.std.specs.Prelude.{true, false, ◌≡◌, List, ℕ, ◌*◌, leb, length, drop}
+use Rattle.std.specs.Prelude.{true, false, ◌≡◌, List, ℕ, ◌*◌, leb, length, drop, Result}
+use Rattle.rules.specs.declared.Fault as rules
 use Rattle.rules.specs.Syntax.{Program}
 use Rattle.rules.specs.Reading.{most_keys, most_tables}
 use Rattle.rules.specs.Form.{judge_program}
@@ -8,8 +9,8 @@ use Rattle.program.specs.Stands.{StandsProgram}
 use Rattle.form.specs.Claims.{widths_left}
 use Rattle.program.specs.Keys.{WidthsOf}
 use Rattle.lists.specs.Listing.{listing, entries_left, offsets_left}
-use Rattle.judge.specs.declared.Verdict.{Verdict}
-use Rattle.judge.specs.Verdicts.{after_ceiling, after_form, lists_judged}
+use Rattle.judge.specs.declared.Verdict as coded
+use Rattle.judge.specs.Verdicts.{Verdict, told_verdict, after_ceiling, after_form, lists_judged}
 
 -- the ceiling, then entries and store, of a program whose form is fine
 pub record AsksBounded (nums directory ends widths : List ℕ) : Type 0 where
@@ -30,10 +31,10 @@ pub record Bounded (P : Program) (end : ℕ) (nums entries entries' offsets offs
     | false ↦ offsets
   ]
 
-pub record JudgesBounded (nums directory ends widths entries entries' offsets offsets' : List ℕ) (r : Verdict)
-    : Type 0 where
+pub record JudgesBounded (nums directory ends widths entries entries' offsets offsets' : List ℕ)
+    (r : Result coded.Verdict rules.Fault) : Type 0 where
   pub judged : (P : Program) (end : ℕ) → StandsProgram nums directory ends P end → WidthsOf P widths
-      → Bounded P end nums entries entries' offsets offsets' r
+      → Bounded P end nums entries entries' offsets offsets' (told_verdict r)
 
 -- form, then those; the slots of the widths are all there
 pub record AsksProgram (nums directory ends widths : List ℕ) : Type 0 where
@@ -55,7 +56,7 @@ pub record Judged (P : Program) (end : ℕ) (nums widths widths' entries entries
     | false ↦ offsets
   ]
 
-pub record JudgesProgram (nums directory ends widths widths' entries entries' offsets offsets' : List ℕ) (r : Verdict)
-    : Type 0 where
+pub record JudgesProgram (nums directory ends widths widths' entries entries' offsets offsets' : List ℕ)
+    (r : Result coded.Verdict rules.Fault) : Type 0 where
   pub judged : (P : Program) (end : ℕ) → StandsProgram nums directory ends P end
-      → Judged P end nums widths widths' entries entries' offsets offsets' r
+      → Judged P end nums widths widths' entries entries' offsets offsets' (told_verdict r)

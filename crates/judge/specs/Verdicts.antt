@@ -1,6 +1,7 @@
 -- What the judge answers for a list of numbers, and what it leaves in the slots lent to it (document 01, "The answers").
 -- Slots that no pass reached are as found; a fault of shape leaves zeros in the ends.
-use Rattle.std.specs.Prelude.{Bool, true, false, ◌&&◌, ◌≡◌, List, [], ◌∷◌, ℕ, ◌*◌, ◌≤◌, leb, length}
+use Rattle.std.specs.Prelude.{Bool, true, false, ◌&&◌, ◌≡◌, List, [], ◌∷◌, ℕ, ◌*◌, ◌≤◌, leb, length, Result, Ok, Err}
+use Rattle.rules.specs.declared.Fault as rules
 use Rattle.rules.specs.Numbers.{most_bytes}
 use Rattle.rules.specs.Syntax.{Program}
 use Rattle.rules.specs.Reading.{Got, got, bad, most_keys, most_tables, read_program}
@@ -8,17 +9,24 @@ use Rattle.rules.specs.Form.{Res, ok, fault, judge_program}
 use Rattle.rules.specs.Ceiling.{most_steps, ceiling_of}
 use Rattle.rules.specs.Lists.{slots_of}
 use Rattle.rules.specs.Running.{is_fine}
-use Rattle.rules.specs.Answers.{Bench, judging}
+use Rattle.rules.specs.Answers.{number_of, Bench, judging}
 use Rattle.shape.specs.Directory.{slot_count, directory_left}
 use Rattle.shape.specs.Ends.{most_numbers, ends_left}
 use Rattle.form.specs.Claims.{widths_left}
-use Rattle.lists.specs.declared.Listed.{Listed}
-use Rattle.lists.specs.declared.Listed.TheVariants.{Fine, Fault}
-use Rattle.lists.specs.Listing.{listing, listed_of, entries_left, offsets_left}
-use Rattle.judge.specs.declared.Verdict.{Verdict}
-use Rattle.judge.specs.declared.Verdict.TheVariants.{Accepted, Refused}
+use Rattle.lists.specs.Listing.{Listed, Fine, Fault, listing, listed_of, entries_left, offsets_left}
+use Rattle.judge.specs.declared.Verdict as coded
 
--- the cases of the answer in the paper's numbers, with an index in the place of a place; and what the rules judge
+-- the cases of the answer. Accepted: the ceiling, where the store begins, and how many numbers it has. Refused: the
+-- number of the refusal, and the index of the number at fault, which is the count of numbers where one is missing
+pub data Verdict : Type 0 where
+  Accepted : ℕ → ℕ → ℕ → Verdict
+  Refused : ℕ → ℕ → Verdict
+
+abbrev pub told_verdict : Result coded.Verdict rules.Fault → Verdict
+told_verdict (Ok v) = Accepted v.ceiling v.store v.length
+told_verdict (Err f) = Refused (number_of f.reason) f.index
+
+-- those cases in the paper's numbers, with an index in the place of a place; and what the rules judge
 unfoldable pub of_verdict : Verdict → List ℕ
 of_verdict (Accepted ceiling store size) = 1 ∷ ceiling ∷ size ∷ []
 of_verdict (Refused number index) = 0 ∷ number ∷ index ∷ []
@@ -83,9 +91,9 @@ pub record AsksJudge (nums directory ends widths : List ℕ) : Type 0 where
 -- what it answers and leaves
 pub record JudgesNumbers
     (nums directory directory' ends ends' widths widths' entries entries' offsets offsets' : List ℕ)
-    (r : Verdict) : Type 0 where
-  pub answer : of_verdict r ≡ judging_says nums
-  pub verdict : r ≡ after_shape (read_program nums 0)
+    (r : Result coded.Verdict rules.Fault) : Type 0 where
+  pub answer : of_verdict (told_verdict r) ≡ judging_says nums
+  pub verdict : told_verdict r ≡ after_shape (read_program nums 0)
   pub directory_is : directory' ≡ directory_left (read_program nums 0) directory
   pub ends_are : ends' ≡ ends_left (read_program nums 0) ends
   pub widths_are : widths' ≡ widths_after (read_program nums 0) widths

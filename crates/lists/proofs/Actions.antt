@@ -3,8 +3,9 @@ use mathlib.Core.Bool.{true}
 use mathlib.Core.Option.{Option, none, some}
 use mathlib.Core.Path.{◌≡◌, refl, sym, ◌∙◌}
 use mathlib.Core.List.{List, [], ◌∷◌}
-use Prim.Native.Nat.{ℕ, suc, ◌+◌, ◌-◌, ◌^◌, ◌≤◌, ◌<◌}
+use Prim.Native.Nat.{ℕ, suc, ◌+◌, ◌-◌, ◌*◌, ◌^◌, ◌≤◌, ◌<◌}
 use native.Mathlib.Omega.{arith}
+use native.Mathlib.Nat.{sub-zero}
 use native.Mathlib.Numerals.{add-one}
 use lib.ListN.{length, get_or, drop}
 use Rattle.rules.specs.Words.{widest}
@@ -17,12 +18,12 @@ use Rattle.rules.proofs.Readers.{looked-in, looked-out}
 use Rattle.shape.specs.Scans.{Scan, Past, Fault}
 use Rattle.shape.specs.Scans.{forget, scan_of}
 use Rattle.program.specs.Codes.{ty_of}
-use Rattle.program.specs.Stands.{StandsNumeral, StandsProgram}
+use Rattle.program.specs.Stands.{Holds, StandsNumeral, StandsProgram}
 use Rattle.program.specs.Looks.{Has, Finds, callables_of, FoundHead}
 use Rattle.program.proofs.Firsts.{FirstParameter, first-parameter}
 use Rattle.program.proofs.Found.{At, member-at}
 use Rattle.program.proofs.Members.{numeral-at}
-use Rattle.lists.specs.Parts.{Typed, AsksArguments, JudgesArguments, arguments_of, AsksCalled, JudgesCalled}
+use Rattle.lists.specs.Parts.{Lacks, Typed, AsksArguments, JudgesArguments, arguments_of, AsksCalled, JudgesCalled}
 use Rattle.lists.specs.Parts.{read_action, ListsActions, AsksAction, JudgesAction}
 use Rattle.lists.proofs.Places.{placed-passing}
 use Rattle.lists.proofs.Steps.{then-fault, then-past, alike-made, alike-scan}
@@ -37,24 +38,18 @@ module _ (nums : List ℕ) (parameter count : ℕ) (h : AsksArguments nums param
   asked-parameter : FirstParameter nums parameter count h.parameters
   asked-parameter = first-parameter nums parameter count h.parameters h.typed.stands h.typed.counted more
 
-  pub type-inside : parameter + 1 < length nums
+  type-inside : parameter + 1 < length nums
   type-inside = asked-parameter.ty.inside
 
-  pub type-next : parameter + 1 < 2 ^ 64
-  type-next = omega (arith, type-inside, h.numbers)
-
-  pub type-most : get_or nums (parameter + 1) 0 ≤ widest
+  type-most : get_or nums (parameter + 1) 0 ≤ widest
   type-most = asked-parameter.ty.most
 
-  pub parameter-next : parameter + 2 < 2 ^ 64
-  parameter-next = omega (arith, type-inside, h.numbers)
-
-  pub parameters-left : AsksArguments nums (parameter + 2) (count - 1)
+  parameters-left : AsksArguments nums (parameter + 2) (count - 1)
   parameters-left = record { parameters = asked-parameter.others; typed = typed-behind asked-parameter; numbers = h.numbers }
 
 -- the arguments for parameters, one after the other
 module _ (nums : List ℕ) (parameter count at : ℕ) where
-  pub arguments-none : count ≡ 0 → JudgesArguments nums parameter count at (Past at)
+  arguments-none : count ≡ 0 → JudgesArguments nums parameter count at (Past at)
   unfolding read_arguments scan_of forget pure
   arguments-none e = record { judged = go }
     where
@@ -66,20 +61,20 @@ module _ (nums : List ℕ) (parameter count at : ℕ) where
   module _ (a : Scan) (more : count ≡ 0 → ⊥)
       (q : a ≡ scan_of (passing 10 (fits (ty_of (get_or nums (parameter + 1) 0)))) nums at)
     where
-      pub arguments-past : (n : ℕ) (b r : Scan) → a ≡ Past n → JudgesArguments nums (parameter + 2) (count - 1) n b
-          → b ≡ r → JudgesArguments nums parameter count at r
+      arguments-past : (n : ℕ) (r : Scan) → a ≡ Past n → JudgesArguments nums (parameter + 2) (count - 1) n r
+          → JudgesArguments nums parameter count at r
       unfolding read_arguments asked
-      arguments-past n b r p g e = record {
+      arguments-past n r p g = record {
         judged = λ P ps h.
             let o : FirstParameter nums parameter count ps = first-parameter nums parameter count ps h.stands h.counted more in
             let s : r ≡ scan_of (read_arguments true P o.others) nums n
-            = sym e ∙ g.judged P o.others (typed-behind o) in
+            = g.judged P o.others (typed-behind o) in
             rw o.same
             (then-past _ _ nums at n a r (placed-passing 10 (fits o.first.ty)) (rw o.ty.is at q) p
             λ x. alike-scan nums n r (alike-made (read_arguments true P o.others) _) s);
       }
 
-      pub arguments-fault : (f i : ℕ) → a ≡ Fault f i → JudgesArguments nums parameter count at (Fault f i)
+      arguments-fault : (f i : ℕ) → a ≡ Fault f i → JudgesArguments nums parameter count at (Fault f i)
       unfolding read_arguments asked
       arguments-fault f i p = record {
         judged = λ P ps h.
@@ -87,15 +82,65 @@ module _ (nums : List ℕ) (parameter count at : ℕ) where
             rw o.same (then-fault _ _ nums at f i a (rw o.ty.is at q) p);
       }
 
+-- so many arguments, of which some are done: what the rest is judged to be, all are
+pub record ArgumentsLeft (nums : List ℕ) (parameter count at done next : ℕ) : Type 0 where
+  pub asks : AsksArguments nums parameter count → AsksArguments nums (parameter + 2 * done) (count - done)
+  pub rest : (r : Scan) → JudgesArguments nums (parameter + 2 * done) (count - done) next r
+      → JudgesArguments nums parameter count at r
+
+pub parameters-first : (nums : List ℕ) (parameter count at : ℕ) → ArgumentsLeft nums parameter count at 0 at
+parameters-first nums parameter count at =
+    let e : parameter + 2 * 0 ≡ parameter = omega arith in
+    record { asks = λ h. rw (sub-zero, e) h; rest = λ r h. rw (sub-zero, e) at h }
+
+module _ (nums : List ℕ) (parameter count at done next : ℕ) (w : ArgumentsLeft nums parameter count at done next) where
+  module _ (m : done < count) where
+    more : count - done ≡ 0 → ⊥
+    more e = omega (arith, e)
+
+    fewer : count - done - 1 ≡ count - (done + 1)
+    fewer = omega arith
+
+    further : parameter + 2 * done + 2 ≡ parameter + 2 * (done + 1)
+    further = omega arith
+
+    module _ (h : AsksArguments nums parameter count) where
+      pub parameter-inside : parameter + 2 * done + 1 < length nums
+      parameter-inside = type-inside nums (parameter + 2 * done) (count - done) (w.asks h) more
+
+      pub parameter-next : parameter + 2 * done + 1 < 2 ^ 64
+      parameter-next = omega (arith, parameter-inside, h.numbers)
+
+      pub parameter-most : get_or nums (parameter + 2 * done + 1) 0 ≤ widest
+      parameter-most = type-most nums (parameter + 2 * done) (count - done) (w.asks h) more
+
+    module _ (a : Scan)
+        (q : a ≡ scan_of (passing 10 (fits (ty_of (get_or nums (parameter + 2 * done + 1) 0)))) nums next) where
+      pub parameters-past : (n : ℕ) → a ≡ Past n → ArgumentsLeft nums parameter count at (done + 1) n
+      parameters-past n p = record {
+        asks = λ h. rw (← further, ← fewer) (parameters-left nums (parameter + 2 * done) (count - done) (w.asks h) more);
+        rest = λ r h.
+            w.rest r
+            (arguments-past nums (parameter + 2 * done) (count - done) next a more q n r p
+            (rw (← further, ← fewer) at h));
+      }
+
+      pub parameters-fault : (f i : ℕ) → a ≡ Fault f i → JudgesArguments nums parameter count at (Fault f i)
+      parameters-fault f i p = w.rest (Fault f i)
+          (arguments-fault nums (parameter + 2 * done) (count - done) next a more q f i p)
+
+  pub parameters-none : count ≤ done → JudgesArguments nums parameter count at (Past next)
+  parameters-none m = w.rest (Past next)
+      (arguments-none nums (parameter + 2 * done) (count - done) next (omega arith))
+
 pub ruleset parameters = (
-  type-inside,
-  type-next,
-  type-most,
+  parameter-inside,
   parameter-next,
-  parameters-left,
-  arguments-none,
-  arguments-past,
-  arguments-fault,
+  parameter-most,
+  parameters-first,
+  parameters-past,
+  parameters-fault,
+  parameters-none,
 )
 
 -- a callable's arguments
@@ -149,14 +194,14 @@ module _ (nums directory ends : List ℕ) (f at : ℕ) where
 pub ruleset calls = (called-asks, called-arguments, called-is, called-none)
 
 -- an action's position is looked up in the list, and its number among the callables
-action-scan : (P : Program) (T : Table) (nums : List ℕ) (at : ℕ) → at < length nums
-    → scan_of (read_action P T) nums at ≡ arguments_of P nums at (action_at P T (get_or nums at 0))
+action-scan : (P : Program) (T : Table) (nums : List ℕ) (at n : ℕ) → Holds nums at n
+    → scan_of (read_action P T) nums at ≡ arguments_of P nums at (action_at P T n)
 unfolding read_action scan_of forget ◌>>=◌ and_then meaning numbered and_look arguments_of
-action-scan P T nums at h =
-    rw (looked-in 10 (numbered (action_at P T)) nums at h) (go (action_at P T (get_or nums at 0)) refl)
+action-scan P T nums at n h =
+    rw (looked-in 10 (numbered (action_at P T)) nums at h.inside, h.is) (go (action_at P T n) refl)
   where
-    go : (o : Option Callable) → action_at P T (get_or nums at 0) ≡ o
-        → forget (and_then (meaning 10 (numbered (action_at P T) (get_or nums at 0)) (drop (suc at) nums) at)
+    go : (o : Option Callable) → action_at P T n ≡ o
+        → forget (and_then (meaning 10 (numbered (action_at P T) n) (drop (suc at) nums) at)
         (λ action. read_arguments true P action.1.parameters)) ≡ arguments_of P nums at o
     go none e = rw e
     go (some c) e = rw (e, add-one at)
@@ -186,36 +231,34 @@ module _ (nums directory ends : List ℕ) (actions : ℕ) where
   position-next i h l = omega (arith, position-inside i h l, h.asks.stands.numbers)
 
   module _ (at : ℕ) where
-    pub action-asks : AsksAction nums directory ends actions → at < length nums → AsksCalled nums directory ends at
-    action-asks h l = record { asks = h.asks; inside = l }
+    pub action-asks : (n : ℕ) → AsksAction nums directory ends actions → Holds nums at n
+        → AsksCalled nums directory ends at
+    action-asks n h l = record { asks = h.asks; inside = l.inside }
 
-    pub action-is : (r : Scan) → at < length nums → get_or nums at 0 < get_or nums actions 0
-        → JudgesCalled nums directory ends (get_or nums (actions + 1 + get_or nums at 0) 0) at r
+    pub action-is : (n : ℕ) (r : Scan) → Holds nums at n → n < get_or nums actions 0
+        → JudgesCalled nums directory ends (get_or nums (actions + 1 + n) 0) at r
         → JudgesAction nums directory ends actions at r
     unfolding action_at and_look
-    action-is r h l g = record {
+    action-is n r h l g = record {
       judged = λ P end T s lists.
-          let m : At T.actions (get_or nums at 0) = listed_at T lists (get_or nums at 0) l in
-          let k : StandsNumeral nums (actions + 1 + get_or nums at 0) m.member
-          = listed-stands T lists (get_or nums at 0) l in
-          g.judged P end s ∙ rw (action-scan P T nums at h, m.is, k.holds.is);
+          let m : At T.actions n = listed_at T lists n l in
+          let k : StandsNumeral nums (actions + 1 + n) m.member = listed-stands T lists n l in
+          g.judged P end s ∙ rw (action-scan P T nums at n h, m.is, k.holds.is);
     }
 
-    pub action-none : at < length nums → get_or nums actions 0 ≤ get_or nums at 0
+    pub action-none : (n : ℕ) → Holds nums at n → get_or nums actions 0 ≤ n
         → JudgesAction nums directory ends actions at (Fault 10 at)
     unfolding action_at and_look arguments_of
-    action-none h l = record {
+    action-none n h l = record {
       judged = λ P end T s lists.
-          rw (
-            action-scan P T nums at h,
-            no_member T.actions (get_or nums at 0) (rw lists.count.holds.is at l),
-          );
+          rw (action-scan P T nums at n h, no_member T.actions n (rw lists.count.holds.is at l));
     }
 
-    pub action-missing : length nums ≤ at → JudgesAction nums directory ends actions at (Fault 10 at)
+    pub action-missing : (n i : ℕ) → Lacks nums 10 at n i → JudgesAction nums directory ends actions at (Fault n i)
     unfolding read_action scan_of forget ◌>>=◌ and_then
-    action-missing h = record {
-      judged = λ P end T s lists. rw (looked-out 10 (numbered (action_at P T)) nums at h);
+    action-missing n i h = record {
+      judged = λ P end T s lists.
+          rw (h.number_is, h.index_is, looked-out 10 (numbered (action_at P T)) nums at h.beyond);
     }
 
 pub ruleset actions = (

@@ -5,6 +5,7 @@ use mathlib.Core.Path.{◌≡◌, refl, sym, ◌∙◌}
 use mathlib.Core.List.{List, [], ◌∷◌}
 use Prim.Native.Nat.{ℕ, zero, suc, ◌+◌, ◌-◌, ◌^◌, ◌≤◌, ◌<◌}
 use native.Mathlib.Omega.{arith}
+use native.Mathlib.Nat.{add-zero, sub-zero}
 use lib.ListN.{length, get_or, drop}
 use lib.Dec.{eqb, ltb}
 use lib.Pow.{pow_pos}
@@ -96,22 +97,19 @@ module _ (nums : List ℕ) (width count : ℕ) (h : AsksFields nums width count)
   asked-field : First nums width count h.widths
   asked-field = first_field nums width count h.widths h.fielded more
 
-  pub width-inside : width < length nums
+  width-inside : width < length nums
   width-inside = asked-field.holds.holds.inside
 
-  pub width-next : width + 1 < 2 ^ 64
-  width-next = omega (arith, width-inside, h.numbers)
-
-  pub width-most : (mark under : ℕ) → under ≡ width_under mark (get_or nums width 0) → under ≤ widest
+  width-most : (mark under : ℕ) → under ≡ width_under mark (get_or nums width 0) → under ≤ widest
   width-most mark under e =
       rw e (under-most mark (get_or nums width 0) (rw asked-field.holds.holds.is asked-field.holds.at_most))
 
-  pub fields-left : AsksFields nums (width + 1) (count - 1)
+  fields-left : AsksFields nums (width + 1) (count - 1)
   fields-left = record { widths = asked-field.others; fielded = asked-field.rest; numbers = h.numbers }
 
 -- the fields of a header, one after the other
 module _ (nums : List ℕ) (width mark count at : ℕ) where
-  pub fields-none : count ≡ 0 → JudgesFields nums width mark count at (Past at)
+  fields-none : count ≡ 0 → JudgesFields nums width mark count at (Past at)
   unfolding read_fields scan_of forget pure
   fields-none e = record { judged = go }
     where
@@ -128,20 +126,20 @@ module _ (nums : List ℕ) (width mark count at : ℕ) where
           let e : under ≡ width_under mark w = u ∙ rw h.holds.is in
           q ∙ same_tests 11 (fits_width under) _ (λ n. rw e (field-test mark w n)) nums at
 
-      pub fields-past : (n : ℕ) (b r : Scan) → a ≡ Past n → JudgesFields nums (width + 1) mark (count - 1) n b → b ≡ r
+      fields-past : (n : ℕ) (r : Scan) → a ≡ Past n → JudgesFields nums (width + 1) mark (count - 1) n r
           → JudgesFields nums width mark count at r
       unfolding read_fields
-      fields-past n b r p g e = record {
+      fields-past n r p g = record {
         judged = λ ws h.
             let o : First nums width count ws = first_field nums width count ws h more in
             let s : r ≡ scan_of (read_fields (eqb mark 1) o.others) nums n
-            = sym e ∙ g.judged o.others o.rest in
+            = g.judged o.others o.rest in
             rw o.same
             (then-past _ _ nums at n a r (placed-passing 11 _) (field-scan o.first o.holds) p
             λ x. alike-scan nums n r (alike-made (read_fields (eqb mark 1) o.others) _) s);
       }
 
-      pub fields-fault : (f i : ℕ) → a ≡ Fault f i → JudgesFields nums width mark count at (Fault f i)
+      fields-fault : (f i : ℕ) → a ≡ Fault f i → JudgesFields nums width mark count at (Fault f i)
       unfolding read_fields
       fields-fault f i p = record {
         judged = λ ws h.
@@ -149,4 +147,61 @@ module _ (nums : List ℕ) (width mark count at : ℕ) where
             rw o.same (then-fault _ _ nums at f i a (field-scan o.first o.holds) p);
       }
 
-pub ruleset fields = (width-inside, width-next, width-most, fields-left, fields-none, fields-past, fields-fault)
+-- so many fields, of which some are done: what the rest is judged to be, all are
+pub record FieldsLeft (nums : List ℕ) (width mark count at done next : ℕ) : Type 0 where
+  pub asks : AsksFields nums width count → AsksFields nums (width + done) (count - done)
+  pub rest : (r : Scan) → JudgesFields nums (width + done) mark (count - done) next r
+      → JudgesFields nums width mark count at r
+
+pub widths-first : (nums : List ℕ) (width mark count at : ℕ) → FieldsLeft nums width mark count at 0 at
+widths-first nums width mark count at =
+    record { asks = λ h. rw (sub-zero, add-zero) h; rest = λ r h. rw (sub-zero, add-zero) at h }
+
+module _ (nums : List ℕ) (width mark count at done next : ℕ) (w : FieldsLeft nums width mark count at done next) where
+  module _ (m : done < count) where
+    more : count - done ≡ 0 → ⊥
+    more e = omega (arith, e)
+
+    fewer : count - done - 1 ≡ count - (done + 1)
+    fewer = omega arith
+
+    further : width + done + 1 ≡ width + (done + 1)
+    further = omega arith
+
+    module _ (h : AsksFields nums width count) where
+      pub widths-inside : width + done < length nums
+      widths-inside = width-inside nums (width + done) (count - done) (w.asks h) more
+
+      pub widths-next : width + done < 2 ^ 64
+      widths-next = omega (arith, widths-inside, h.numbers)
+
+      pub widths-most : (under : ℕ) → under ≡ width_under mark (get_or nums (width + done) 0) → under ≤ widest
+      widths-most under e = width-most nums (width + done) (count - done) (w.asks h) more mark under e
+
+    module _ (under : ℕ) (u : under ≡ width_under mark (get_or nums (width + done) 0)) (a : Scan)
+        (q : a ≡ scan_of (passing 11 (fits_width under)) nums next) where
+      pub widths-past : (n : ℕ) → a ≡ Past n → FieldsLeft nums width mark count at (done + 1) n
+      widths-past n p = record {
+        asks = λ h. rw (← further, ← fewer) (fields-left nums (width + done) (count - done) (w.asks h) more);
+        rest = λ r h.
+            w.rest r
+            (fields-past nums (width + done) mark (count - done) next under u a more q n r p
+            (rw (← further, ← fewer) at h));
+      }
+
+      pub widths-fault : (f i : ℕ) → a ≡ Fault f i → JudgesFields nums width mark count at (Fault f i)
+      widths-fault f i p = w.rest (Fault f i)
+          (fields-fault nums (width + done) mark (count - done) next under u a more q f i p)
+
+  pub widths-none : count ≤ done → JudgesFields nums width mark count at (Past next)
+  widths-none m = w.rest (Past next) (fields-none nums (width + done) mark (count - done) next (omega arith))
+
+pub ruleset fields = (
+  widths-inside,
+  widths-next,
+  widths-most,
+  widths-first,
+  widths-past,
+  widths-fault,
+  widths-none,
+)

@@ -1,9 +1,10 @@
 -- The store: a global of each shape, and globals one after the other with their offsets.
 use mathlib.Core.Option.{some}
-use mathlib.Core.Path.{◌≡◌, refl, sym, ◌∙◌}
+use mathlib.Core.Path.{◌≡◌, refl, sym, ◌∙◌, subst}
 use mathlib.Core.List.{List, [], ◌∷◌}
 use Prim.Native.Nat.{ℕ, suc, ◌+◌, ◌-◌, ◌^◌, ◌≤◌, ◌<◌}
 use native.Mathlib.Omega.{arith}
+use native.Mathlib.Nat.{sub-zero}
 use native.Mathlib.Numerals.{add-one}
 use lib.ListN.{length, get_or, get_elem?, set, drop, drop_of_length-le}
 use lib.Dec.{eqb}
@@ -155,16 +156,16 @@ pub ruleset globals = (cell-asks, cell-high, cell-variable, cell-header)
 
 -- globals one after the other
 module _ (nums directory ends : List ℕ) (g count store at : ℕ) where
-  pub cells-slot : AsksCells nums directory ends g count store at → g < 33
+  cells-slot : AsksCells nums directory ends g count store at → g < 33
   cells-slot h = omega (arith, h.counted, h.stands.globals.few)
 
-  pub cells-later : AsksCells nums directory ends g count store at → store ≤ at
+  cells-later : AsksCells nums directory ends g count store at → store ≤ at
   cells-later h = h.later
 
   member_of : (P : Program) → g + count ≡ length P.globals → (count ≡ 0 → ⊥) → At P.globals g
   member_of P e more = member-at P.globals g (omega (arith, e, more))
 
-  pub cells-asks : AsksCells nums directory ends g count store at → (count ≡ 0 → ⊥)
+  cells-asks : AsksCells nums directory ends g count store at → (count ≡ 0 → ⊥)
       → Has globals_of nums directory ends g
   unfolding globals_of
   cells-asks h more = record {
@@ -174,7 +175,7 @@ module _ (nums directory ends : List ℕ) (g count store at : ℕ) where
     inside = omega (arith, h.counted, more);
   }
 
-  pub cells-none : (found : List ℕ) → count ≡ 0
+  cells-none : (found : List ℕ) → count ≡ 0
       → JudgesCells nums directory ends g count store at found (set found g (at - store)) (Past at)
   unfolding read_cells pure scan_of forget Laid lay_offsets offsets_from
   cells-none found e = record {
@@ -191,7 +192,7 @@ module _ (nums directory ends : List ℕ) (g count store at : ℕ) where
     read-cell P end n s m p = past-read nums at n a (placed-cell (shape_in P m.member.ty))
         (j.judged P end m.member s m.is) p
 
-    pub cells_left : (n : ℕ) → AsksCells nums directory ends g count store at → a ≡ Past n
+    cells_left : (n : ℕ) → AsksCells nums directory ends g count store at → a ≡ Past n
         → AsksCells nums directory ends (g + 1) (count - 1) store n
     cells_left n h p = record {
       program = h.program;
@@ -226,19 +227,19 @@ module _ (nums directory ends : List ℕ) (g count store at : ℕ) where
             rw e (rw o at k)
         go (bad fault index) k = tt
 
-    pub cells-past : (n : ℕ) (found filled : List ℕ) (b r : Scan) → AsksCells nums directory ends g count store at
+    cells-past : (n : ℕ) (found filled : List ℕ) (r : Scan) → AsksCells nums directory ends g count store at
         → a ≡ Past n
-        → JudgesCells nums directory ends (g + 1) (count - 1) store n (set found g (at - store)) filled b → b ≡ r
+        → JudgesCells nums directory ends (g + 1) (count - 1) store n (set found g (at - store)) filled r
         → JudgesCells nums directory ends g count store at found filled r
-    cells-past n found filled b r h p k e = record {
+    cells-past n found filled r h p k = record {
       judged = λ P end s q.
           let m : At P.globals g = member_of P q more in
           with-first P n found filled r m.member (drop-member P.globals g m.member m.is) h.later
           (read-cell P end n s m p)
-          (rw (add-one g, e) at (k.judged P end s (omega (arith, q, more))));
+          (rw (add-one g) at (k.judged P end s (omega (arith, q, more))));
     }
 
-    pub cells-fault : (f i : ℕ) (found filled : List ℕ) → a ≡ Fault f i
+    cells-fault : (f i : ℕ) (found filled : List ℕ) → a ≡ Fault f i
         → JudgesCells nums directory ends g count store at found filled (Fault f i)
     unfolding read_cells ◌>>=◌ and_then
     cells-fault f i found filled p = record {
@@ -251,4 +252,75 @@ module _ (nums directory ends : List ℕ) (g count store at : ℕ) where
           ));
     }
 
-pub ruleset cells = (cells-slot, cells-later, cells-asks, cells_left, cells-none, cells-past, cells-fault)
+-- so many globals, of which some are done: what the rest is judged to be and leaves, all are and do
+pub record CellsLeft (nums directory ends : List ℕ) (count store : ℕ) (found : List ℕ) (done next : ℕ) (laid : List ℕ)
+    : Type 0 where
+  pub within : done ≤ count
+  pub asks : AsksCells nums directory ends done (count - done) store next
+  pub rest : (filled : List ℕ) (r : Scan)
+      → JudgesCells nums directory ends done (count - done) store next laid filled r
+      → JudgesCells nums directory ends 0 count store store found filled r
+
+pub stores-first : (nums directory ends : List ℕ) (count store : ℕ) (found : List ℕ)
+    → AsksCells nums directory ends 0 count store store
+    → CellsLeft nums directory ends count store found 0 store found
+stores-first nums directory ends count store found h = record {
+  within = omega arith;
+  asks = rw sub-zero h;
+  rest = λ filled r k. rw sub-zero at k;
+}
+
+module _ (nums directory ends : List ℕ) (count store : ℕ) (found : List ℕ) (done next : ℕ) (laid : List ℕ)
+    (w : CellsLeft nums directory ends count store found done next laid)
+  where
+    pub stores-later : store ≤ next
+    stores-later = cells-later nums directory ends done (count - done) store next w.asks
+
+    pub stores-slot : done < 33
+    stores-slot = cells-slot nums directory ends done (count - done) store next w.asks
+
+    module _ (m : done < count) where
+      more : count - done ≡ 0 → ⊥
+      more e = omega (arith, e)
+
+      fewer : count - done - 1 ≡ count - (done + 1)
+      fewer = omega arith
+
+      pub stores-asks : Has globals_of nums directory ends done
+      stores-asks = cells-asks nums directory ends done (count - done) store next w.asks more
+
+      module _ (a : Scan) (j : JudgesCell nums directory ends done next a) where
+        pub stores-past : (n : ℕ) → a ≡ Past n
+            → CellsLeft nums directory ends count store found (done + 1) n (set laid done (next - store))
+        stores-past n p = record {
+          within = omega arith;
+          asks = rw (← fewer)
+              (cells_left nums directory ends done (count - done) store next a more j n w.asks p);
+          rest = λ filled r k.
+              w.rest filled r
+              (cells-past nums directory ends done (count - done) store next a more j n laid filled r w.asks p
+              (rw (← fewer) at k));
+        }
+
+        pub stores-fault : (f i : ℕ) (filled : List ℕ) → a ≡ Fault f i
+            → JudgesCells nums directory ends 0 count store store found filled (Fault f i)
+        stores-fault f i filled p = w.rest filled (Fault f i)
+            (cells-fault nums directory ends done (count - done) store next a more j f i laid filled p)
+
+    pub stores-none : count ≤ done
+        → JudgesCells nums directory ends 0 count store store found (set laid count (next - store)) (Past next)
+    stores-none m =
+        let e : done ≡ count = omega (arith, w.within) in
+        w.rest (set laid count (next - store)) (Past next)
+        (subst (λ (k : ℕ). JudgesCells nums directory ends done (count - done) store next laid (set laid k (next - store))
+        (Past next)) e (cells-none nums directory ends done (count - done) store next laid (omega arith)))
+
+pub ruleset cells = (
+  stores-first,
+  stores-later,
+  stores-slot,
+  stores-asks,
+  stores-past,
+  stores-fault,
+  stores-none,
+)

@@ -4,6 +4,7 @@ use mathlib.Core.Path.{◌≡◌, refl, sym, ◌∙◌}
 use mathlib.Core.List.{List, [], ◌∷◌}
 use Prim.Native.Nat.{ℕ, ◌+◌, ◌-◌, ◌^◌, ◌≤◌, ◌<◌}
 use native.Mathlib.Omega.{arith}
+use native.Mathlib.Nat.{add-zero, sub-zero}
 use lib.ListN.{length, get_or}
 use Rattle.rules.specs.Words.{widest, fits_width, prefix_fits, mask_fits}
 use Rattle.rules.specs.Syntax.{KeyKind, exact, lpm, ternary, Key, Program}
@@ -113,22 +114,19 @@ module _ (nums ends widths : List ℕ) (key count slot : ℕ) (h : AsksPatterns 
     asked-key : First h.program nums ends widths key count slot h.keys
     asked-key = first_key h.program nums ends widths key count slot h.keys h.keyed more
 
-    pub key-inside : key < length nums
+    key-inside : key < length nums
     key-inside = asked-key.kind.inside
 
-    pub key-ends : key + 1 < length ends
+    key-ends : key + 1 < length ends
     key-ends = omega (arith, asked-key.begins, h.room)
 
-    pub key-next : key + 1 < 2 ^ 64
-    key-next = omega (arith, asked-key.begins, h.numbers)
-
-    pub key-slot : slot < 32
+    key-slot : slot < 32
     key-slot = omega (arith, h.slots, more)
 
-    pub key-width : get_or widths slot 0 ≤ widest
+    key-width : get_or widths slot 0 ≤ widest
     key-width = asked-key.most
 
-    pub keys-left : AsksPatterns nums ends widths (get_or ends (key + 1) 0) (count - 1) (slot + 1)
+    keys-left : AsksPatterns nums ends widths (get_or ends (key + 1) 0) (count - 1) (slot + 1)
     keys-left = record {
       program = h.program;
       keys = asked-key.others;
@@ -140,7 +138,7 @@ module _ (nums ends widths : List ℕ) (key count slot : ℕ) (h : AsksPatterns 
 
 -- the patterns of keys, one after the other
 module _ (nums ends widths : List ℕ) (key count slot at : ℕ) where
-  pub patterns-none : count ≡ 0 → JudgesPatterns nums ends widths key count slot at (Past at)
+  patterns-none : count ≡ 0 → JudgesPatterns nums ends widths key count slot at (Past at)
   unfolding read_patterns scan_of forget pure
   patterns-none e = record { judged = go }
     where
@@ -149,23 +147,23 @@ module _ (nums ends widths : List ℕ) (key count slot at : ℕ) where
       go P [] h = refl
       go P (k ∷ ks) h = absurd (omega (arith, e, h.counted))
 
-  pub patterns-past : (n : ℕ) (a b r : Scan) → (count ≡ 0 → ⊥)
+  patterns-past : (n : ℕ) (a r : Scan) → (count ≡ 0 → ⊥)
       → JudgesPattern nums (get_or nums key 0) (get_or widths slot 0) at a → a ≡ Past n
-      → JudgesPatterns nums ends widths (get_or ends (key + 1) 0) (count - 1) (slot + 1) n b → b ≡ r
+      → JudgesPatterns nums ends widths (get_or ends (key + 1) 0) (count - 1) (slot + 1) n r
       → JudgesPatterns nums ends widths key count slot at r
   unfolding read_patterns
-  patterns-past n a b r more f p g e = record {
+  patterns-past n a r more f p g = record {
     judged = λ P ks h.
         let o : First P nums ends widths key count slot ks = first_key P nums ends widths key count slot ks h more in
         let q : a ≡ scan_of (read_pattern true P o.first.kind (key_width P o.first)) nums at
         = rw (← o.width) (f.judged P o.first.kind o.kind.is) in
-        let s : r ≡ scan_of (read_patterns true P o.others) nums n = sym e ∙ g.judged P o.others o.rest in
+        let s : r ≡ scan_of (read_patterns true P o.others) nums n = g.judged P o.others o.rest in
         rw o.same
         (then-past _ _ nums at n a r (placed-pattern P o.first.kind (key_width P o.first)) q p
         λ x. alike-scan nums n r (alike-made (read_patterns true P o.others) _) s);
   }
 
-  pub patterns-fault : (f i : ℕ) (a : Scan) → (count ≡ 0 → ⊥)
+  patterns-fault : (f i : ℕ) (a : Scan) → (count ≡ 0 → ⊥)
       → JudgesPattern nums (get_or nums key 0) (get_or widths slot 0) at a → a ≡ Fault f i
       → JudgesPatterns nums ends widths key count slot at (Fault f i)
   unfolding read_patterns
@@ -177,14 +175,81 @@ module _ (nums ends widths : List ℕ) (key count slot at : ℕ) where
         rw o.same (then-fault _ _ nums at f i a q p);
   }
 
+-- so many keys, of which some are done: what the rest is judged to be, all are
+pub record KeysLeft (nums ends widths : List ℕ) (key count slot at done here next : ℕ) : Type 0 where
+  pub asks : AsksPatterns nums ends widths key count slot
+      → AsksPatterns nums ends widths here (count - done) (slot + done)
+  pub rest : (r : Scan) → JudgesPatterns nums ends widths here (count - done) (slot + done) next r
+      → JudgesPatterns nums ends widths key count slot at r
+
+pub keys-first : (nums ends widths : List ℕ) (key count slot at : ℕ)
+    → KeysLeft nums ends widths key count slot at 0 key at
+keys-first nums ends widths key count slot at =
+    record { asks = λ h. rw (sub-zero, add-zero) h; rest = λ r h. rw (sub-zero, add-zero) at h }
+
+module _ (nums ends widths : List ℕ) (key count slot at done here next : ℕ)
+    (w : KeysLeft nums ends widths key count slot at done here next)
+  where
+    module _ (m : done < count) where
+      more : count - done ≡ 0 → ⊥
+      more e = omega (arith, e)
+
+      fewer : count - done - 1 ≡ count - (done + 1)
+      fewer = omega arith
+
+      further : slot + done + 1 ≡ slot + (done + 1)
+      further = omega arith
+
+      module _ (h : AsksPatterns nums ends widths key count slot) where
+        pub here-inside : here < length nums
+        here-inside = key-inside nums ends widths here (count - done) (slot + done) (w.asks h) more
+
+        pub here-ends : here + 1 < length ends
+        here-ends = key-ends nums ends widths here (count - done) (slot + done) (w.asks h) more
+
+        pub here-next : here + 1 < 2 ^ 64
+        here-next = omega (
+          arith,
+          (asked-key nums ends widths here (count - done) (slot + done) (w.asks h) more).begins,
+          h.numbers,
+        )
+
+        pub here-slot : slot + done < 32
+        here-slot = key-slot nums ends widths here (count - done) (slot + done) (w.asks h) more
+
+        pub here-width : get_or widths (slot + done) 0 ≤ widest
+        here-width = key-width nums ends widths here (count - done) (slot + done) (w.asks h) more
+
+      module _ (a : Scan) (f : JudgesPattern nums (get_or nums here 0) (get_or widths (slot + done) 0) next a) where
+        pub keys-past : (n : ℕ) → a ≡ Past n
+            → KeysLeft nums ends widths key count slot at (done + 1) (get_or ends (here + 1) 0) n
+        keys-past n p = record {
+          asks = λ h.
+              rw (← further, ← fewer)
+              (keys-left nums ends widths here (count - done) (slot + done) (w.asks h) more);
+          rest = λ r h.
+              w.rest r
+              (patterns-past nums ends widths here (count - done) (slot + done) next n a r more f p
+              (rw (← further, ← fewer) at h));
+        }
+
+        pub keys-fault : (x i : ℕ) → a ≡ Fault x i
+            → JudgesPatterns nums ends widths key count slot at (Fault x i)
+        keys-fault x i p = w.rest (Fault x i)
+            (patterns-fault nums ends widths here (count - done) (slot + done) next x i a more f p)
+
+    pub keys-none : count ≤ done → JudgesPatterns nums ends widths key count slot at (Past next)
+    keys-none m = w.rest (Past next)
+        (patterns-none nums ends widths here (count - done) (slot + done) next (omega arith))
+
 pub ruleset keys = (
-  key-inside,
-  key-ends,
-  key-next,
-  key-slot,
-  key-width,
-  keys-left,
-  patterns-none,
-  patterns-past,
-  patterns-fault,
+  here-inside,
+  here-ends,
+  here-next,
+  here-slot,
+  here-width,
+  keys-first,
+  keys-past,
+  keys-fault,
+  keys-none,
 )

@@ -11,9 +11,8 @@ use Rattle.rules.specs.Reading.{Got, got, bad, and_then, ◌>>=◌, pure, most_g
 use Rattle.rules.specs.Lists.{Entry, Cell, most_entries, slots_of, read_entries, read_store, read_packet, nothing_left}
 use Rattle.program.specs.Stands.{StandsProgram}
 use Rattle.program.proofs.Found.{member-in}
-use Rattle.lists.specs.declared.Listed.TheVariants.{Fine}
 use Rattle.rules.specs.Form.{shape_in}
-use Rattle.lists.specs.Listing.{entry_size, shape_size, Lists, read_last, listing, starts_from, behind_entries, offsets_from, listed_of, entries_left, offsets_left, ListsJudged}
+use Rattle.lists.specs.Listing.{Fine, entry_size, shape_size, Lists, read_last, listing, starts_from, behind_entries, offsets_from, listed_of, entries_left, offsets_left, ListsJudged}
 use Rattle.lists.specs.Stands.{ListsStand}
 use Rattle.lists.proofs.Places.{PlacedAt, ListsAt, StandCells, no_cell, a-cell, placed-listing, entry-stands, cell-stands, last-offset, store-stands}
 

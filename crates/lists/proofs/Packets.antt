@@ -4,6 +4,7 @@ use mathlib.Core.Path.{◌≡◌, refl, sym, ◌∙◌}
 use mathlib.Core.List.{List}
 use Prim.Native.Nat.{ℕ, zero, suc, ◌+◌, ◌-◌, ◌≤◌, ◌<◌}
 use native.Mathlib.Omega.{arith}
+use native.Mathlib.Nat.{sub-zero}
 use native.Mathlib.Numerals.{add-one, sub-one}
 use lib.ListN.{length, get_or, drop, drop_of_length-le}
 use lib.Seq.{drop-cons}
@@ -17,7 +18,7 @@ use Rattle.shape.specs.Scans.{Scan, Past, Fault}
 use Rattle.shape.specs.Scans.{forget, scan_of}
 use Rattle.program.specs.Stands.{Holds}
 use Rattle.lists.specs.Listing.{read_last}
-use Rattle.lists.specs.Parts.{JudgesPacket, JudgesLast}
+use Rattle.lists.specs.Parts.{Lacks, JudgesPacket, JudgesLast}
 use Rattle.lists.proofs.Places.{Passing, placed-passing, PacketAt, placed-packet}
 use Rattle.lists.proofs.Steps.{Read, past-read, then-fault, alike-made}
 
@@ -25,21 +26,26 @@ abbrev byte : Reader ℕ
 byte = passing 16 is_byte
 
 -- so many bytes, of which some are still to be read from an index on
-pub record BytesLeft (nums : List ℕ) (count at left next : ℕ) : Type 0 where
-  pub same : scan_of (repeat count byte) nums at ≡ scan_of (repeat left byte) nums next
+pub record BytesLeft (nums : List ℕ) (count at done next : ℕ) : Type 0 where
+  pub same : scan_of (repeat count byte) nums at ≡ scan_of (repeat (count - done) byte) nums next
 
-pub bytes-begin : (nums : List ℕ) (count at : ℕ) → BytesLeft nums count at count at
-bytes-begin nums count at = record { same = refl }
+pub bytes-begin : (nums : List ℕ) (count at : ℕ) → BytesLeft nums count at 0 at
+bytes-begin nums count at = record { same = rw sub-zero refl }
 
-module _ (nums : List ℕ) (count at left next : ℕ) (b : BytesLeft nums count at left next) where
-  module _ (more : left ≡ 0 → ⊥) (a : Scan) (q : a ≡ scan_of (passing 16 (fits_width 8)) nums next) where
+module _ (nums : List ℕ) (count at done next : ℕ) (b : BytesLeft nums count at done next) where
+  module _ (m : done < count) (a : Scan) (q : a ≡ scan_of (passing 16 (fits_width 8)) nums next) where
     byte-scan : a ≡ scan_of byte nums next
     unfolding is_byte fits_width
     byte-scan = q
 
-    pub bytes-again : (end : ℕ) → a ≡ Past end → BytesLeft nums count at (left - 1) end
+    more : count - done ≡ 0 → ⊥
+    more e = omega (arith, e)
+
+    pub bytes-again : (end : ℕ) → a ≡ Past end → BytesLeft nums count at (done + 1) end
     unfolding repeat pure scan_of ◌>>=◌ and_then
-    bytes-again end p = record { same = b.same ∙ go left more }
+    bytes-again end p =
+        let e : count - done - 1 ≡ count - (done + 1) = omega arith in
+        record { same = b.same ∙ rw e at (go (count - done) more) }
       where
         d : Read (Passing is_byte) byte nums next end
         d = past-read nums next end a (placed-passing 16 is_byte) byte-scan p
@@ -50,43 +56,44 @@ module _ (nums : List ℕ) (count at left next : ℕ) (b : BytesLeft nums count 
 
     pub bytes-fault : (f i : ℕ) → a ≡ Fault f i → Fault f i ≡ scan_of (repeat count byte) nums at
     unfolding repeat
-    bytes-fault f i p = go left more ∙ sym b.same
+    bytes-fault f i p = go (count - done) more ∙ sym b.same
       where
         go : (n : ℕ) → (n ≡ 0 → ⊥) → Fault f i ≡ scan_of (repeat n byte) nums next
         go zero x = absurd (x refl)
         go (suc n) x = then-fault byte _ nums next f i a byte-scan p
 
-  pub bytes-done : left ≡ 0 → Past next ≡ scan_of (repeat count byte) nums at
+  pub bytes-done : count ≤ done → Past next ≡ scan_of (repeat count byte) nums at
   unfolding repeat pure scan_of forget
-  bytes-done e = rw (b.same, e)
+  bytes-done m = let e : count - done ≡ 0 = omega arith in rw (b.same, e)
 
 pub ruleset bytes = (bytes-begin, bytes-again, bytes-fault, bytes-done)
 
 -- the list of them, its count first
 module _ (nums : List ℕ) (at : ℕ) where
-  pub packet-is : (r : Scan) → at < length nums → get_or nums at 0 ≤ 512
-      → r ≡ scan_of (repeat (get_or nums at 0) byte) nums (at + 1) → r ≡ scan_of read_bytes nums at
+  pub packet-is : (count : ℕ) (r : Scan) → Holds nums at count → count ≤ 512
+      → r ≡ scan_of (repeat count byte) nums (at + 1) → r ≡ scan_of read_bytes nums at
   unfolding read_bytes scan_of ◌>>=◌ and_then meaning within
-  packet-is r h m q = rw (
-    looked-in 16 (within 0 most_packet) nums at h,
+  packet-is count r h m q = rw (
+    looked-in 16 (within 0 most_packet) nums at h.inside,
     within,
     le-leb 0 (get_or nums at 0) (omega arith),
-    le-leb (get_or nums at 0) 512 m,
+    le-leb (get_or nums at 0) 512 (rw h.is m),
     ← add-one at,
-  ) q
+  ) (rw h.is q)
 
-  pub packet-high : at < length nums → 512 < get_or nums at 0 → Fault 16 at ≡ scan_of read_bytes nums at
+  pub packet-high : (count : ℕ) → Holds nums at count → 512 < count → Fault 16 at ≡ scan_of read_bytes nums at
   unfolding read_bytes scan_of forget ◌>>=◌ and_then meaning within
-  packet-high h m = rw (
-    looked-in 16 (within 0 most_packet) nums at h,
+  packet-high count h m = rw (
+    looked-in 16 (within 0 most_packet) nums at h.inside,
+    h.is,
     within,
-    le-leb 0 (get_or nums at 0) (omega arith),
-    lt-leb (get_or nums at 0) 512 m,
+    le-leb 0 count (omega arith),
+    lt-leb count 512 m,
   )
 
-  pub packet-missing : length nums ≤ at → Fault 16 at ≡ scan_of read_bytes nums at
+  pub packet-missing : (n i : ℕ) → Lacks nums 16 at n i → Fault n i ≡ scan_of read_bytes nums at
   unfolding read_bytes scan_of forget ◌>>=◌ and_then
-  packet-missing h = rw (looked-out 16 (within 0 most_packet) nums at h)
+  packet-missing n i h = rw (h.number_is, h.index_is, looked-out 16 (within 0 most_packet) nums at h.beyond)
 
   -- where the version has one
   module _ (b : Bool) (e : b ≡ has_parser (get_or nums 0 0)) where

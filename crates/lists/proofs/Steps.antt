@@ -18,27 +18,29 @@ use Rattle.shape.specs.Scans.{Scan, Past, Fault}
 use Rattle.shape.specs.Scans.{forget, scan_of}
 use Rattle.shape.specs.Walks.{Laid, Lays}
 use Rattle.program.specs.Codes.{ty_of}
+use Rattle.program.specs.Stands.{Holds}
+use Rattle.lists.specs.Parts.{Lacks}
 use Rattle.lists.proofs.Places.{PlacedAt, Placed}
 
 -- a number that passes a test, does not, or is missing
 module _ (fault : ℕ) (test : ℕ → Bool) (nums : List ℕ) (at : ℕ) where
-  pub passed : (b : Bool) → at < length nums → b ≡ test (get_or nums at 0) → b ≡ true
+  pub passed : (n : ℕ) (b : Bool) → Holds nums at n → b ≡ test n → b ≡ true
       → Past (at + 1) ≡ scan_of (passing fault test) nums at
   unfolding scan_of forget passing meaning only_if
-  passed b h e t =
-      let p : test (get_or nums at 0) ≡ true = sym e ∙ t in
-      rw (looked-in fault (λ n. only_if (test n) (some n)) nums at h, p, add-one at)
+  passed n b h e t =
+      let p : test (get_or nums at 0) ≡ true = rw h.is (sym e ∙ t) in
+      rw (looked-in fault (λ n. only_if (test n) (some n)) nums at h.inside, p, add-one at)
 
-  pub failed : (b : Bool) → at < length nums → b ≡ test (get_or nums at 0) → b ≡ false
+  pub failed : (n : ℕ) (b : Bool) → Holds nums at n → b ≡ test n → b ≡ false
       → Fault fault at ≡ scan_of (passing fault test) nums at
   unfolding scan_of forget passing meaning only_if
-  failed b h e t =
-      let p : test (get_or nums at 0) ≡ false = sym e ∙ t in
-      rw (looked-in fault (λ n. only_if (test n) (some n)) nums at h, p)
+  failed n b h e t =
+      let p : test (get_or nums at 0) ≡ false = rw h.is (sym e ∙ t) in
+      rw (looked-in fault (λ n. only_if (test n) (some n)) nums at h.inside, p)
 
-  pub missing : length nums ≤ at → Fault fault at ≡ scan_of (passing fault test) nums at
+  pub missing : (n i : ℕ) → Lacks nums fault at n i → Fault n i ≡ scan_of (passing fault test) nums at
   unfolding scan_of forget passing
-  missing h = rw (looked-out fault (λ n. only_if (test n) (some n)) nums at h)
+  missing n i h = rw (h.number_is, h.index_is, looked-out fault (λ n. only_if (test n) (some n)) nums at h.beyond)
 
 pub ruleset leaves = (passed, failed, missing)
 
@@ -76,14 +78,15 @@ module _ (fault : ℕ) (test : ℕ → Bool) (nums : List ℕ) (at : ℕ) where
 
       in-range : at < length nums → (b : Bool) → b ≡ test (get_or nums at 0) → Passes test nums at next
       in-range h true t =
-          let q : Past (at + 1) ≡ Past next = passed fault test nums at true h t refl ∙ e in
+          let q : Past (at + 1) ≡ Past next = passed fault test nums at _ true (record { inside = h; is = refl }) t refl ∙ e in
           let n : at + 1 ≡ next = cc in
           record { inside = h; after = sym n ∙ add-one at; passes = sym t }
-      in-range h false t = never fault at (failed fault test nums at false h t refl)
+      in-range h false t = never fault at (failed fault test nums at _ false (record { inside = h; is = refl }) t refl)
 
       go : (b : Bool) → ltb at (length nums) ≡ b → Passes test nums at next
       go true l = in-range (ltb-true at (length nums) l) (test (get_or nums at 0)) refl
-      go false l = never fault at (missing fault test nums at (ltb-false at (length nums) l))
+      go false l = never fault at (missing fault test nums at fault at
+          (record { beyond = ltb-false at (length nums) l; number_is = refl; index_is = refl }))
 
   pub past-inside : (a : Scan) (next : ℕ) → a ≡ scan_of (passing fault test) nums at → a ≡ Past next → at < length nums
   past-inside a next q p = (past-passes next (sym q ∙ p)).inside

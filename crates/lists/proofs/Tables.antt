@@ -15,12 +15,12 @@ use Rattle.rules.proofs.Predicates.{no_member}
 use Rattle.rules.proofs.Readers.{looked-in, looked-out}
 use Rattle.shape.specs.Scans.{Scan, Past, Fault}
 use Rattle.shape.specs.Scans.{forget, scan_of}
-use Rattle.program.specs.Stands.{StandsTable, StandsProgram}
+use Rattle.program.specs.Stands.{Holds, StandsTable, StandsProgram}
 use Rattle.program.specs.Looks.{Has, Finds, tables_of, FoundTable}
 use Rattle.program.proofs.Found.{At, member-at}
 use Rattle.program.specs.Keys.{WidthsOf}
 use Rattle.lists.specs.Listing.{AsksLists}
-use Rattle.lists.specs.Parts.{WidthsFrom, Keyed, AsksPatterns, JudgesPatterns}
+use Rattle.lists.specs.Parts.{Lacks, WidthsFrom, Keyed, AsksPatterns, JudgesPatterns}
 use Rattle.lists.specs.Parts.{read_action, ListsActions, AsksAction, JudgesAction, read_of_table, AsksTable, JudgesOfTable, JudgesEntry}
 use Rattle.lists.proofs.Places.{placed-patterns}
 use Rattle.lists.proofs.Steps.{then-fault, then-past, Alike, alike-made, alike_then, alike-scan}
@@ -154,9 +154,9 @@ unfolding read_of_table read_action
 entry-alike P T t = alike_then _ λ patterns. alike_then _ λ action. alike-made _ _
 
 module _ (nums directory ends widths : List ℕ) (at : ℕ) where
-  pub entry-asks : AsksLists nums directory ends widths → get_or nums at 0 < get_or directory 59 0
-      → AsksTable nums directory ends widths (get_or nums at 0)
-  entry-asks h l = record {
+  pub entry-asks : (t : ℕ) → AsksLists nums directory ends widths → t < get_or directory 59 0
+      → AsksTable nums directory ends widths t
+  entry-asks t h l = record {
     program = h.program;
     end = h.end;
     stands = h.stands;
@@ -164,32 +164,34 @@ module _ (nums directory ends widths : List ℕ) (at : ℕ) where
     inside = rw h.stands.tables.count at l;
   }
 
-  pub entry-is : (r : Scan) → at < length nums → get_or nums at 0 < get_or directory 59 0
-      → JudgesOfTable nums directory ends widths (get_or nums at 0) (at + 1) r
+  pub entry-is : (t : ℕ) (r : Scan) → Holds nums at t → t < get_or directory 59 0
+      → JudgesOfTable nums directory ends widths t (at + 1) r
       → JudgesEntry nums directory ends widths at r
   unfolding read_entry scan_of ◌>>=◌ and_then meaning numbered and_look
-  entry-is r h l g = record {
+  entry-is t r h l g = record {
     judged = λ P end s w.
-        let m : At P.tables (get_or nums at 0) = member-at P.tables (get_or nums at 0) (rw s.tables.count at l) in
-        rw (looked-in 10 (numbered (get_elem? P.tables)) nums at h, m.is, ← add-one at)
-        (alike-scan nums (at + 1) r (entry-alike P m.member (get_or nums at 0))
+        let m : At P.tables t = member-at P.tables t (rw s.tables.count at l) in
+        rw (looked-in 10 (numbered (get_elem? P.tables)) nums at h.inside, h.is, m.is, ← add-one at)
+        (alike-scan nums (at + 1) r (entry-alike P m.member t)
         (g.judged P end m.member s w m.is));
   }
 
-  pub entry-none : at < length nums → get_or directory 59 0 ≤ get_or nums at 0
+  pub entry-none : (t : ℕ) → Holds nums at t → get_or directory 59 0 ≤ t
       → JudgesEntry nums directory ends widths at (Fault 10 at)
   unfolding read_entry scan_of forget ◌>>=◌ and_then meaning numbered and_look
-  entry-none h l = record {
+  entry-none t h l = record {
     judged = λ P end s w. rw (
-      looked-in 10 (numbered (get_elem? P.tables)) nums at h,
-      no_member P.tables (get_or nums at 0) (rw s.tables.count at l),
+      looked-in 10 (numbered (get_elem? P.tables)) nums at h.inside,
+      h.is,
+      no_member P.tables t (rw s.tables.count at l),
     );
   }
 
-  pub entry-missing : length nums ≤ at → JudgesEntry nums directory ends widths at (Fault 10 at)
+  pub entry-missing : (n i : ℕ) → Lacks nums 10 at n i → JudgesEntry nums directory ends widths at (Fault n i)
   unfolding read_entry scan_of forget ◌>>=◌ and_then
-  entry-missing h = record {
-    judged = λ P end s w. rw (looked-out 10 (numbered (get_elem? P.tables)) nums at h);
+  entry-missing n i h = record {
+    judged = λ P end s w.
+        rw (h.number_is, h.index_is, looked-out 10 (numbered (get_elem? P.tables)) nums at h.beyond);
   }
 
 pub ruleset entries = (entry-asks, entry-is, entry-none, entry-missing)

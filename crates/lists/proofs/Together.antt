@@ -11,7 +11,10 @@ use Rattle.rules.specs.Lists.{slots_of, read_entries, read_cells, read_store}
 use Rattle.shape.specs.Scans.{Scan, Past, Fault}
 use Rattle.shape.specs.Walks.{Laid, Lays}
 use Rattle.program.specs.Stands.{StandsProgram}
-use Rattle.lists.specs.declared.Listed.TheVariants as listed
+use Rattle.std.specs.Prelude.{Result, Ok, Err}
+use Rattle.rules.specs.declared.Fault as rules
+use Rattle.rules.specs.Answers.{number_of}
+use Rattle.lists.specs.declared.Lists as coded
 use Rattle.program.specs.Keys.{WidthsOf}
 use Rattle.lists.specs.Listing.{read_last, listing, listed_of, entries_left, offsets_left, AsksLists, JudgesLists}
 use Rattle.lists.specs.Parts.{lay_entries, JudgesEntryList, AsksCells, lay_offsets, JudgesCells, JudgesLast}
@@ -37,14 +40,15 @@ module _ (nums directory ends widths entries starts : List ℕ) (a : Scan)
     (w : JudgesEntryList nums directory ends widths (end_of directory) entries starts a)
   where
     -- a fault of the entries
-    pub lists-no-entries : (f i : ℕ) (offsets : List ℕ) → a ≡ Fault f i
-        → JudgesLists nums directory ends widths entries entries offsets offsets (listed.Fault f i)
+    pub lists-no-entries : (e : rules.Fault) (offsets : List ℕ) → a ≡ Fault (number_of e.reason) e.index
+        → JudgesLists nums directory ends widths entries entries offsets offsets (Err e)
     unfolding listing ◌>>=◌ and_then listed_of entries_left offsets_left
-    lists-no-entries f i offsets p = record {
+    lists-no-entries e offsets p = record {
       judged = λ P end s known.
-          let e : read_entries true P (drop (end_of directory) nums) (end_of directory) ≡ bad f i
-          = fault-read (read_entries true P) nums (end_of directory) f i a (w.judged P end s known).scan p in
-          rw (← s.ending) (record { answer = rw e; entries_are = rw e; offsets_are = rw e });
+          let g : read_entries true P (drop (end_of directory) nums) (end_of directory)
+          ≡ bad (number_of e.reason) e.index
+          = fault-read (read_entries true P) nums (end_of directory) _ _ a (w.judged P end s known).scan p in
+          rw (← s.ending) (record { answer = rw g; entries_are = rw g; offsets_are = rw g });
     }
 
     module _ (store : ℕ) (p : a ≡ Past store) where
@@ -61,17 +65,17 @@ module _ (nums directory ends widths entries starts : List ℕ) (a : Scan)
           store-judged P end s = v.judged P end s (omega (arith, s.globals.count))
 
           -- a fault of the store
-          pub lists-no-store : (f i : ℕ) → b ≡ Fault f i
-              → JudgesLists nums directory ends widths entries entries offsets offsets (listed.Fault f i)
+          pub lists-no-store : (e : rules.Fault) → b ≡ Fault (number_of e.reason) e.index
+              → JudgesLists nums directory ends widths entries entries offsets offsets (Err e)
           unfolding listing read_store ◌>>=◌ and_then listed_of entries_left offsets_left
-          lists-no-store f i q = record {
+          lists-no-store e q = record {
             judged = λ P end s known.
                 let d : Read (EntryListAt P) (read_entries true P) nums (end_of directory) store
                 = read-entries P end s known in
-                let e : read_cells P P.globals (drop store nums) store ≡ bad f i
-                = fault-read (read_cells P P.globals) nums store f i b (store-judged P end s).scan q in
+                let g : read_cells P P.globals (drop store nums) store ≡ bad (number_of e.reason) e.index
+                = fault-read (read_cells P P.globals) nums store _ _ b (store-judged P end s).scan q in
                 rw (← s.ending)
-                (record { answer = rw (d.gave, e); entries_are = rw (d.gave, e); offsets_are = rw (d.gave, e) });
+                (record { answer = rw (d.gave, g); entries_are = rw (d.gave, g); offsets_are = rw (d.gave, g) });
           }
 
           module _ (last : ℕ) (q : b ≡ Past last) where
@@ -85,17 +89,17 @@ module _ (nums directory ends widths entries starts : List ℕ) (a : Scan)
 
             module _ (c : Scan) (u : JudgesLast nums last c) where
               -- a fault of the packet, or a number left over
-              pub lists-no-packet : (f i : ℕ) → c ≡ Fault f i
-                  → JudgesLists nums directory ends widths entries entries offsets offsets (listed.Fault f i)
+              pub lists-no-packet : (x : rules.Fault) → c ≡ Fault (number_of x.reason) x.index
+                  → JudgesLists nums directory ends widths entries entries offsets offsets (Err x)
               unfolding listing read_store ◌>>=◌ and_then listed_of entries_left offsets_left
-              lists-no-packet f i t = record {
+              lists-no-packet x t = record {
                 judged = λ P end s known.
                     let d : Read (EntryListAt P) (read_entries true P) nums (end_of directory) store
                     = read-entries P end s known in
                     let e : Read (CellsAt P P.globals) (read_cells P P.globals) nums store last
                     = read-cells P end s in
-                    let g : read_last P (drop last nums) last ≡ bad f i
-                    = fault-read (read_last P) nums last f i c (u.judged P s.version) t in
+                    let g : read_last P (drop last nums) last ≡ bad (number_of x.reason) x.index
+                    = fault-read (read_last P) nums last _ _ c (u.judged P s.version) t in
                     rw (← s.ending) (record {
                       answer = rw (d.gave, e.gave, g);
                       entries_are = rw (d.gave, e.gave, g);
@@ -104,11 +108,11 @@ module _ (nums directory ends widths entries starts : List ℕ) (a : Scan)
               }
 
               -- neither
-              pub lists-fine : (next : ℕ) → c ≡ Past next
-                  → JudgesLists nums directory ends widths entries starts offsets slots
-                  (listed.Fine store (last - store))
+              pub lists-fine : (next : ℕ) (l : coded.Lists) → c ≡ Past next → l.store ≡ store
+                  → l.length ≡ last - store
+                  → JudgesLists nums directory ends widths entries starts offsets slots (Ok l)
               unfolding listing read_store pure ◌>>=◌ and_then listed_of entries_left offsets_left Laid lay_entries lay_offsets
-              lists-fine next t = record {
+              lists-fine next l t x y = record {
                 judged = λ P end s known.
                     let d : Read (EntryListAt P) (read_entries true P) nums (end_of directory) store
                     = read-entries P end s known in
@@ -119,7 +123,7 @@ module _ (nums directory ends widths entries starts : List ℕ) (a : Scan)
                     let o : store - store ≡ 0 = omega arith in
                     let m : last - store ≡ length (slots_of e.value) = omega (arith, e.stands.after) in
                     rw (← s.ending) (record {
-                      answer = rw (d.gave, e.gave, g.gave, m, ← d.stands.after);
+                      answer = rw (x, y, d.gave, e.gave, g.gave, m, ← d.stands.after);
                       entries_are = rw (d.gave, e.gave, g.gave) (rw d.gave at (w.judged P end s known).laid);
                       offsets_are = rw (d.gave, e.gave, g.gave) (rw (e.gave, o) at (store-judged P end s).laid);
                     });

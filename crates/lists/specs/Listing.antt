@@ -1,7 +1,7 @@
 -- The lists behind a program, and what their judge answers and leaves in the slots lent to it (document 01, refusals
 -- 10, 11 and 12; document 02, E2, refusal 16): the entries, the store, the packet, and nothing more, strictly in file
 -- order, as the rules read them.
-use Rattle.std.specs.Prelude.{true, ◌≡◌, List, [], ◌∷◌, ℕ, suc, ◌+◌, length, drop}
+use Rattle.std.specs.Prelude.{true, ◌≡◌, List, [], ◌∷◌, ℕ, suc, ◌+◌, length, drop, Result, Ok, Err}
 use Rattle.std.proofs.Math.Option.{Option, none, some}
 use Rattle.std.proofs.lemmas.List.Edits.{sets}
 use Rattle.rules.specs.Syntax.{Global, Program}
@@ -10,8 +10,9 @@ use Rattle.rules.specs.Form.{Shape, a_variable, a_header, shape_in}
 use Rattle.rules.specs.Lists.{Pattern, exactly, prefixed, masked, Entry, Cell, read_entries, read_store, read_packet, nothing_left, slots_of}
 use Rattle.program.specs.Keys.{WidthsOf}
 use Rattle.program.specs.Stands.{StandsProgram}
-use Rattle.lists.specs.declared.Listed.{Listed}
-use Rattle.lists.specs.declared.Listed.TheVariants.{Fine, Fault}
+use Rattle.rules.specs.declared.Fault as rules
+use Rattle.rules.specs.Answers.{number_of}
+use Rattle.lists.specs.declared.Lists as coded
 
 pub record Lists : Type 0 where
   pub entries : List Entry
@@ -63,6 +64,14 @@ offsets_from P offset [] = offset ∷ []
 offsets_from P offset (g ∷ gs) = offset ∷ offsets_from P (offset + shape_size (shape_in P g.ty)) gs
 
 -- the cases of the answer: where the store begins and how many numbers it has; a fault with its number and its index
+pub data Listed : Type 0 where
+  Fine : ℕ → ℕ → Listed
+  Fault : ℕ → ℕ → Listed
+
+abbrev pub told_listed : Result coded.Lists rules.Fault → Listed
+told_listed (Ok l) = Fine l.store l.length
+told_listed (Err f) = Fault (number_of f.reason) f.index
+
 unfoldable pub listed_of : ℕ → Got Lists → Listed
 listed_of end (got lists left next) = Fine (behind_entries (suc end) lists.entries) (length (slots_of lists.cells))
 listed_of end (bad number index) = Fault number index
@@ -93,7 +102,7 @@ pub record ListsJudged (P : Program) (end : ℕ) (nums entries entries' offsets 
   pub offsets_are : offsets' ≡ offsets_left P (listing P (drop end nums) end) offsets
 
 -- whatever program stands there
-pub record JudgesLists (nums directory ends widths entries entries' offsets offsets' : List ℕ) (r : Listed)
-    : Type 0 where
+pub record JudgesLists (nums directory ends widths entries entries' offsets offsets' : List ℕ)
+    (r : Result coded.Lists rules.Fault) : Type 0 where
   pub judged : (P : Program) (end : ℕ) → StandsProgram nums directory ends P end → WidthsOf P widths
-      → ListsJudged P end nums entries entries' offsets offsets' r
+      → ListsJudged P end nums entries entries' offsets offsets' (told_listed r)

@@ -1,6 +1,8 @@
 -- What the functions below the judge of lists promise one another: each answers what the rules read at an index, with
 -- what is read forgotten, for whatever part of a program stands where the function looks.
-use Rattle.std.specs.Prelude.{true, false, ◌≡◌, List, [], ◌∷◌, ℕ, suc, ◌+◌, ◌-◌, ◌*◌, ◌≤◌, ◌<◌, eqb, length, get_or, drop}
+use Rattle.std.specs.Prelude.{true, false, ◌≡◌, List, [], ◌∷◌, ℕ, suc, ◌+◌, ◌-◌, ◌*◌, ◌≤◌, ◌<◌, eqb, length, get_or, drop, Result, Ok, Err}
+use Rattle.rules.specs.declared.Fault as rules
+use Rattle.rules.specs.Answers.{number_of}
 use Rattle.std.proofs.Math.Option.{Option, none, some}
 use Rattle.std.proofs.Math.ListN.{get_elem?}
 use Rattle.std.proofs.lemmas.List.Edits.{sets}
@@ -17,6 +19,16 @@ use Rattle.program.specs.Codes.{key_kind_number}
 use Rattle.program.specs.Stands.{Holds, HoldsWithin, StandsWidths, StandsParameters, StandsNumerals, StandsKeys, StandsProgram}
 use Rattle.program.specs.Keys.{WidthsOf}
 use Rattle.lists.specs.Listing.{read_last, starts_from, offsets_from}
+
+-- the number at an index, or the fault where it is missing: its number and its index
+pub record Lacks (nums : List ℕ) (number at n i : ℕ) : Type 0 where
+  pub beyond : length nums ≤ at
+  pub number_is : n ≡ number
+  pub index_is : i ≡ at
+
+abbrev pub NumberAt : List ℕ → ℕ → ℕ → Result ℕ rules.Fault → Type 0
+NumberAt nums number at (Ok n) = Holds nums at n
+NumberAt nums number at (Err f) = Lacks nums number at (number_of f.reason) f.index
 
 -- what stands behind a pattern's value: nothing; a prefix length; a mask
 unfoldable pub read_limit : KeyKind → ℕ → ℕ → Reader Pattern

@@ -1,6 +1,6 @@
 // The entries: each names a table, has a pattern for each of its keys, and an action of its list with that action's
 // arguments.
-ghost use Rattle.std.specs.Prelude.{suc, ◌+◌, ◌≤◌};
+ghost use Rattle.std.specs.Prelude.{◌≤◌};
 ghost use Rattle.rules.specs.Lists.{most_entries};
 ghost use Rattle.lists.specs.Listing.{AsksLists};
 ghost use Rattle.lists.specs.Parts.{AsksArguments, JudgesArguments, AsksCalled, JudgesCalled, AsksAction, JudgesAction, AsksTable, JudgesOfTable, JudgesEntry, JudgesEntries, JudgesEntryList};
@@ -8,12 +8,11 @@ ghost use Rattle.program.specs.In.{In};
 ghost use Rattle.shape.specs.Scans.{told};
 
 use super::patterns::patterns_at;
-use super::values::typed_at;
+use super::values::{number_at, typed_at};
 use program::{MOST_KEYS, Source, WIDTHS};
 use rules::{Fault, Reason};
 use shape::Scanned;
 
-// The refusal of a bad or missing number of the entries.
 // The most entries.
 const MOST_ENTRIES: u64 = 64;
 
@@ -22,13 +21,12 @@ fn arguments_at(nums: &[u64], parameter: usize, count: u64, at: usize) -> Scanne
     requires { AsksArguments nums.now parameter count }
     ensures { JudgesArguments nums.now parameter count at (told result) }
 {
-    if count == 0 {
-        Ok(at)
-    } else {
-        let next = typed_at(nums, Reason::Entries, nums[parameter + 1], at)?;
-        let last = arguments_at(nums, parameter + 2, count - 1, next)?;
-        Ok(last)
+    let mut next = at;
+    for i in 0..count as usize {
+        let ty = nums[parameter + 2 * i + 1];
+        next = typed_at(nums, Reason::Entries, ty, next)?;
     }
+    Ok(next)
 }
 
 // The arguments of the callable with a number, behind the position at `at`, which is at fault where there is none.
@@ -52,16 +50,9 @@ fn action_at(source: &Source, actions: usize, at: usize) -> Scanned
     requires { In AsksAction source.now actions }
     ensures { In JudgesAction source.now actions at (told result) }
 {
-    if at < source.nums.len() {
-        let position = source.nums[at];
-        if position < source.nums[actions] {
-            called_at(source, source.nums[actions + 1 + position as usize], at)
-        } else {
-            Err(Fault {
-                reason: Reason::Entries,
-                index: at,
-            })
-        }
+    let position = number_at(source.nums, Reason::Entries, at)?;
+    if position < source.nums[actions] {
+        called_at(source, source.nums[actions + 1 + position as usize], at)
     } else {
         Err(Fault {
             reason: Reason::Entries,
@@ -93,16 +84,9 @@ fn entry_at(source: &Source, widths: &[u64; WIDTHS], at: usize) -> Scanned
     requires { In AsksLists source.now widths.now }
     ensures { In JudgesEntry source.now widths.now at (told result) }
 {
-    if at < source.nums.len() {
-        let t = source.nums[at];
-        if t < source.directory[shape::TABLES] {
-            of_table_at(source, widths, t as usize, at + 1)
-        } else {
-            Err(Fault {
-                reason: Reason::Entries,
-                index: at,
-            })
-        }
+    let t = number_at(source.nums, Reason::Entries, at)?;
+    if t < source.directory[shape::TABLES] {
+        of_table_at(source, widths, t as usize, at + 1)
     } else {
         Err(Fault {
             reason: Reason::Entries,
@@ -111,27 +95,24 @@ fn entry_at(source: &Source, widths: &[u64; WIDTHS], at: usize) -> Scanned
     }
 }
 
-// So many entries. Where each begins goes into the slots from `slot` on.
+// So many entries. Where each begins goes into the slots behind the first.
 fn entries_at(
     source: &Source,
     widths: &[u64; WIDTHS],
     count: u64,
     at: usize,
-    slot: usize,
     entries: &mut [u64; super::ENTRIES],
 ) -> Scanned
     requires asks_lists { In AsksLists source.now widths.now }
-    requires count_bound { slot + count ≤ suc most_entries }
-    ensures { In JudgesEntries source.now widths.now count at slot entries.old entries.new (told result) }
+    requires count_bound { count ≤ most_entries }
+    ensures { In JudgesEntries source.now widths.now count at 1 entries.old entries.new (told result) }
 {
-    if count == 0 {
-        Ok(at)
-    } else {
-        entries[slot] = at as u64;
-        let next = entry_at(source, widths, at)?;
-        let last = entries_at(source, widths, count - 1, next, slot + 1, entries)?;
-        Ok(last)
+    let mut next = at;
+    for i in 0..count as usize {
+        entries[i + 1] = next as u64;
+        next = entry_at(source, widths, next)?;
     }
+    Ok(next)
 }
 
 // The list of entries. Its count and where each begins go into the slots.
@@ -144,17 +125,10 @@ pub fn entry_list_at(
     requires { In AsksLists source.now widths.now }
     ensures { In JudgesEntryList source.now widths.now at entries.old entries.new (told result) }
 {
-    if at < source.nums.len() {
-        let count = source.nums[at];
-        if count <= MOST_ENTRIES {
-            entries[0] = count;
-            entries_at(source, widths, count, at + 1, 1, entries)
-        } else {
-            Err(Fault {
-                reason: Reason::Entries,
-                index: at,
-            })
-        }
+    let count = number_at(source.nums, Reason::Entries, at)?;
+    if count <= MOST_ENTRIES {
+        entries[0] = count;
+        entries_at(source, widths, count, at + 1, entries)
     } else {
         Err(Fault {
             reason: Reason::Entries,

@@ -47,7 +47,7 @@ pub fn judge_lists(
     let store = entry_list_at(source, widths, end, &mut starts)?;
     let mut slots = *offsets;
     let globals = source.directory[shape::GLOBALS];
-    let next = cells_at(source, 0, globals, store, store, &mut slots)?;
+    let next = cells_at(source, globals, store, &mut slots)?;
     last_at(source.nums, next)?;
     *entries = starts;
     *offsets = slots;

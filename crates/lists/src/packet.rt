@@ -5,13 +5,11 @@ ghost use Rattle.rules.specs.Lists.{passing, is_byte, read_bytes};
 ghost use Rattle.shape.specs.Scans.{told, scan_of};
 ghost use Rattle.lists.specs.Parts.{JudgesPacket, JudgesLast};
 
-use super::values::value_at;
+use super::values::{number_at, value_at};
 use rules::{Fault, Reason};
 use shape::Scanned;
 use shape::limits::has_parser;
 
-// The refusal of a bad or missing number of the packet.
-// The refusal of numbers left over.
 // The most bytes of a packet.
 const MOST_PACKET: u64 = 512;
 // A byte is a number of eight bits.
@@ -22,11 +20,8 @@ fn bytes_at(nums: &[u64], count: u64, at: usize) -> Scanned
     ensures { told result ≡ scan_of (repeat count (passing 16 is_byte)) nums.now at }
 {
     let mut next = at;
-    let mut left = count;
-    while left != 0 {
-        let end = value_at(nums, Reason::Packet, BYTE, next)?;
-        next = end;
-        left -= 1;
+    for _ in 0..count {
+        next = value_at(nums, Reason::Packet, BYTE, next)?;
     }
     Ok(next)
 }
@@ -35,16 +30,9 @@ fn bytes_at(nums: &[u64], count: u64, at: usize) -> Scanned
 fn byte_list_at(nums: &[u64], at: usize) -> Scanned
     ensures { told result ≡ scan_of read_bytes nums.now at }
 {
-    if at < nums.len() {
-        let count = nums[at];
-        if count <= MOST_PACKET {
-            bytes_at(nums, count, at + 1)
-        } else {
-            Err(Fault {
-                reason: Reason::Packet,
-                index: at,
-            })
-        }
+    let count = number_at(nums, Reason::Packet, at)?;
+    if count <= MOST_PACKET {
+        bytes_at(nums, count, at + 1)
     } else {
         Err(Fault {
             reason: Reason::Packet,

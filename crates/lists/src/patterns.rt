@@ -6,9 +6,9 @@ ghost use Rattle.rules.specs.Lists.{passing};
 ghost use Rattle.shape.specs.Scans.{told, scan_of};
 ghost use Rattle.lists.specs.Parts.{JudgesLimit, JudgesPattern, AsksPatterns, JudgesPatterns};
 
-use super::values::value_at;
+use super::values::{passing_at, value_at};
 use program::{EXACT, LPM, Source, WIDTHS};
-use rules::{Fault, Reason};
+use rules::Reason;
 use shape::Scanned;
 
 // A prefix length within the width, outside which the value is 0.
@@ -16,21 +16,9 @@ fn prefix_at(nums: &[u64], width: u64, value: u64, at: usize) -> Scanned
     requires { width ≤ widest }
     ensures { told result ≡ scan_of (passing 10 (prefix_fits width value)) nums.now at }
 {
-    if at < nums.len() {
-        if words::keys::prefix_fits(width, value, nums[at]) {
-            Ok(at + 1)
-        } else {
-            Err(Fault {
-                reason: Reason::Entries,
-                index: at,
-            })
-        }
-    } else {
-        Err(Fault {
-            reason: Reason::Entries,
-            index: at,
-        })
-    }
+    passing_at(nums, Reason::Entries, at, |prefix| {
+        words::keys::prefix_fits(width, value, prefix)
+    })
 }
 
 // A mask that fits the width, outside which the value is 0.
@@ -38,21 +26,9 @@ fn mask_at(nums: &[u64], width: u64, value: u64, at: usize) -> Scanned
     requires { width ≤ widest }
     ensures { told result ≡ scan_of (passing 10 (mask_fits width value)) nums.now at }
 {
-    if at < nums.len() {
-        if words::keys::mask_fits(width, value, nums[at]) {
-            Ok(at + 1)
-        } else {
-            Err(Fault {
-                reason: Reason::Entries,
-                index: at,
-            })
-        }
-    } else {
-        Err(Fault {
-            reason: Reason::Entries,
-            index: at,
-        })
-    }
+    passing_at(nums, Reason::Entries, at, |mask| {
+        words::keys::mask_fits(width, value, mask)
+    })
 }
 
 // What stands behind the value of a key of a kind: one that is neither exact nor lpm is ternary.
@@ -90,18 +66,11 @@ pub fn patterns_at(
     requires { AsksPatterns source.now.nums.now source.now.ends.now widths.now key count slot }
     ensures { JudgesPatterns source.now.nums.now source.now.ends.now widths.now key count slot at (told result) }
 {
-    if count == 0 {
-        Ok(at)
-    } else {
-        let next = pattern_at(source.nums, source.nums[key], widths[slot], at)?;
-        let last = patterns_at(
-            source,
-            widths,
-            source.ends[key + 1] as usize,
-            count - 1,
-            slot + 1,
-            next,
-        )?;
-        Ok(last)
+    let mut next = at;
+    let mut here = key;
+    for i in 0..count as usize {
+        next = pattern_at(source.nums, source.nums[here], widths[slot + i], next)?;
+        here = source.ends[here + 1] as usize;
     }
+    Ok(next)
 }

@@ -12,8 +12,6 @@ use shape::Scanned;
 use shape::limits::FIRST_HEADER_TYPE;
 use words::widths::WIDEST;
 
-// The refusal of a bad or missing number of the store.
-
 // The width that a field of a header may fill: 0 is all that fits no bits.
 fn width_under(mark: u64, width: u64) -> u64
     ensures { result ≡ width_under mark width }
@@ -26,13 +24,12 @@ fn fields_at(nums: &[u64], width: usize, mark: u64, count: u64, at: usize) -> Sc
     requires { AsksFields nums.now width count }
     ensures { JudgesFields nums.now width mark count at (told result) }
 {
-    if count == 0 {
-        Ok(at)
-    } else {
-        let next = value_at(nums, Reason::Store, width_under(mark, nums[width]), at)?;
-        let last = fields_at(nums, width + 1, mark, count - 1, next)?;
-        Ok(last)
+    let mut next = at;
+    for i in 0..count as usize {
+        let under = width_under(mark, nums[width + i]);
+        next = value_at(nums, Reason::Store, under, next)?;
     }
+    Ok(next)
 }
 
 // A header of a type: its valid mark and its fields.
@@ -66,24 +63,21 @@ fn cell_at(source: &Source, g: usize, at: usize) -> Scanned
     }
 }
 
-// So many globals from one on, of a store that begins at `store`. Their offsets and the last one's end go into the slots.
+// So many globals, of a store that begins at `store`. Their offsets and the last one's end go into the slots.
 pub fn cells_at(
     source: &Source,
-    g: usize,
     count: u64,
     store: usize,
-    at: usize,
     offsets: &mut [u64; super::OFFSETS],
 ) -> Scanned
-    requires { In AsksCells source.now g count store at }
-    ensures { In JudgesCells source.now g count store at offsets.old offsets.new (told result) }
+    requires { In AsksCells source.now 0 count store store }
+    ensures { In JudgesCells source.now 0 count store store offsets.old offsets.new (told result) }
 {
-    offsets[g] = (at - store) as u64;
-    if count == 0 {
-        Ok(at)
-    } else {
-        let next = cell_at(source, g, at)?;
-        let last = cells_at(source, g + 1, count - 1, store, next, offsets)?;
-        Ok(last)
+    let mut next = store;
+    for g in 0..count as usize {
+        offsets[g] = (next - store) as u64;
+        next = cell_at(source, g, next)?;
     }
+    offsets[count as usize] = (next - store) as u64;
+    Ok(next)
 }

@@ -52,8 +52,8 @@ count_exprs-count_expr-one-requires t c = search (counting, counting_stmts, rule
 pub count_exprs-behind-next-requires : goal.count_exprs-behind-next-requires
 count_exprs-behind-next-requires t c = search (counting, counting_stmts, rules)
 
-pub count_exprs-loop-left-preserved : goal.count_exprs-loop-left-preserved
-count_exprs-loop-left-preserved t c = search (counting, counting_stmts, rules)
+pub count_exprs-loop-preserved : goal.count_exprs-loop-preserved
+count_exprs-loop-preserved t c = search (counting, counting_stmts, rules)
 
 pub count_exprs-returns : goal.count_exprs-returns
 count_exprs-returns t c = search (counting, counting_stmts, rules)
@@ -100,8 +100,8 @@ count_stmts-count_stmt-one-requires t c = search (counting, counting_stmts, rule
 pub count_stmts-behind-next-requires : goal.count_stmts-behind-next-requires
 count_stmts-behind-next-requires t c = search (counting, counting_stmts, rules)
 
-pub count_stmts-loop-left-preserved : goal.count_stmts-loop-left-preserved
-count_stmts-loop-left-preserved t c = search (counting, counting_stmts, rules)
+pub count_stmts-loop-preserved : goal.count_stmts-loop-preserved
+count_stmts-loop-preserved t c = search (counting, counting_stmts, rules)
 
 pub count_stmts-returns : goal.count_stmts-returns
 count_stmts-returns t c = search (counting, counting_stmts, rules)

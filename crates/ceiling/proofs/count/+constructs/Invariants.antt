@@ -3,6 +3,7 @@ use Prim.Native.Nat.{◌+◌, ◌*◌}
 use Rattle.ceiling.proofs.Rank.{rank}
 use Rattle.ceiling.proofs.Counting.{Summed}
 use Rattle.ceiling.proofs.CountingStmts.{SummedStmts}
+use Rattle.program.specs.In.{In}
 use Rattle.ceiling.proofs.count.+constructs.Given as goal
 
 abbrev pub decreases-count_branches : goal.decreases-count_branches
@@ -26,14 +27,8 @@ decreases-count_stmt l = rank l.reach (4 * l.depth + 2)
 abbrev pub decreases-count_stmts : goal.decreases-count_stmts
 decreases-count_stmts l = rank l.reach (4 * l.depth + 3)
 
-abbrev pub invariant-count_exprs-loop-left : goal.invariant-count_exprs-loop-left
-invariant-count_exprs-loop-left l = Summed l.nums l.directory l.ends l.initial.kept l.reach l.depth l.at l.count l.kept l.total l.next l.left
+abbrev pub invariant-count_exprs-loop : goal.invariant-count_exprs-loop
+invariant-count_exprs-loop l = In Summed l.source l.initial.kept l.reach l.depth l.at l.count l.kept l.total l.next l.counter
 
-abbrev pub decreases-count_exprs-loop-left : goal.decreases-count_exprs-loop-left
-decreases-count_exprs-loop-left l = l.left
-
-abbrev pub invariant-count_stmts-loop-left : goal.invariant-count_stmts-loop-left
-invariant-count_stmts-loop-left l = SummedStmts l.nums l.directory l.ends l.tables l.initial.kept l.reach l.depth l.at l.count l.kept l.total l.next l.left
-
-abbrev pub decreases-count_stmts-loop-left : goal.decreases-count_stmts-loop-left
-decreases-count_stmts-loop-left l = l.left
+abbrev pub invariant-count_stmts-loop : goal.invariant-count_stmts-loop
+invariant-count_stmts-loop l = In SummedStmts l.source l.tables l.initial.kept l.reach l.depth l.at l.count l.kept l.total l.next l.counter

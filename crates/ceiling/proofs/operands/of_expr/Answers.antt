@@ -3,11 +3,11 @@ use Rattle.ceiling.proofs.Held.{expr_held, count-inside, callable-inside}
 use borrow.Author.Rules.{rules}
 use Rattle.ceiling.proofs.operands.of_expr.Goals as goal
 
-pub bounds-nums-at-in-13 : goal.bounds-nums-at-in-13
-bounds-nums-at-in-13 c = search (count-inside, rules)
+pub bounds-source-at-in-13 : goal.bounds-source-at-in-13
+bounds-source-at-in-13 c = search (count-inside, rules)
 
-pub bounds-nums-at-in-13-2 : goal.bounds-nums-at-in-13-2
-bounds-nums-at-in-13-2 c = search (callable-inside, rules)
+pub bounds-source-at-in-13-2 : goal.bounds-source-at-in-13-2
+bounds-source-at-in-13-2 c = search (callable-inside, rules)
 
 pub returns-in-7 : goal.returns-in-7
 returns-in-7 c = search (expr_held, rules)

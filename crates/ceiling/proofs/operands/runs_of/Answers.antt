@@ -3,11 +3,11 @@ use Rattle.ceiling.proofs.Held.{stmt_runs, stmt_inside}
 use borrow.Author.Rules.{rules}
 use Rattle.ceiling.proofs.operands.runs_of.Goals as goal
 
-pub offset_bounds-ends-first : goal.offset_bounds-ends-first
-offset_bounds-ends-first c = search (stmt_inside, rules)
+pub offset_bounds-source-first : goal.offset_bounds-source-first
+offset_bounds-source-first c = search (stmt_inside, rules)
 
-pub bounds-ends-first : goal.bounds-ends-first
-bounds-ends-first c = search (stmt_inside, rules)
+pub bounds-source-first : goal.bounds-source-first
+bounds-source-first c = search (stmt_inside, rules)
 
 pub returns-in-2 : goal.returns-in-2
 returns-in-2 c = search (stmt_runs, rules)

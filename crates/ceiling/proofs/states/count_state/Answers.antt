@@ -9,11 +9,11 @@ state_of-at-requires c = search (counting_state, rules)
 pub count_stmt-body-requires : goal.count_stmt-body-requires
 count_stmt-body-requires c = search (counting_state, rules)
 
-pub offset_bounds-ends-at : goal.offset_bounds-ends-at
-offset_bounds-ends-at c = search (counting_state, rules)
+pub offset_bounds-source-at : goal.offset_bounds-source-at
+offset_bounds-source-at c = search (counting_state, rules)
 
-pub bounds-ends-at : goal.bounds-ends-at
-bounds-ends-at c = search (counting_state, rules)
+pub bounds-source-at : goal.bounds-source-at
+bounds-source-at c = search (counting_state, rules)
 
 pub count_transition-on-requires : goal.count_transition-on-requires
 count_transition-on-requires c = search (counting_state, rules)

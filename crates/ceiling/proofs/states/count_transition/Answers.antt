@@ -3,8 +3,8 @@ use Rattle.ceiling.proofs.CountingStates.{transitions}
 use borrow.Author.Rules.{rules}
 use Rattle.ceiling.proofs.states.count_transition.Goals as goal
 
-pub bounds-ends-from : goal.bounds-ends-from
-bounds-ends-from c = search (transitions, rules)
+pub bounds-source-from : goal.bounds-source-from
+bounds-source-from c = search (transitions, rules)
 
 pub returns-in-3 : goal.returns-in-3
 returns-in-3 c = search (transitions, rules)

@@ -13,11 +13,11 @@ count_expr-one-requires t c = search (counting_keys, rules)
 pub overflow_add-next : goal.overflow_add-next
 overflow_add-next t c = omega (arith, key-room _ _ _ _ _ _ _ c.requires c.if-count-eq0.false)
 
-pub offset_bounds-ends-at : goal.offset_bounds-ends-at
-offset_bounds-ends-at t c = omega (arith, key-room _ _ _ _ _ _ _ c.requires c.if-count-eq0.false)
+pub offset_bounds-source-at : goal.offset_bounds-source-at
+offset_bounds-source-at t c = omega (arith, key-room _ _ _ _ _ _ _ c.requires c.if-count-eq0.false)
 
-pub bounds-ends-at : goal.bounds-ends-at
-bounds-ends-at t c = omega (arith, key-room _ _ _ _ _ _ _ c.requires c.if-count-eq0.false)
+pub bounds-source-at : goal.bounds-source-at
+bounds-source-at t c = omega (arith, key-room _ _ _ _ _ _ _ c.requires c.if-count-eq0.false)
 
 pub count_keys-others-requires : goal.count_keys-others-requires
 count_keys-others-requires t c = search (counting_keys, rules)

@@ -3,5 +3,5 @@ use borrow.Author.Rules.{rules}
 use Rattle.ceiling.proofs.CountingTables.{counting_tables}
 use Rattle.ceiling.proofs.tables.+count_tables.Goals as goal
 
-pub returns-then-t-directory : goal.returns-then-t-directory
-returns-then-t-directory t c = search (counting_tables, rules)
+pub returns-then-t-source : goal.returns-then-t-source
+returns-then-t-source t c = search (counting_tables, rules)

@@ -4,11 +4,11 @@ use borrow.Author.Rules.{rules}
 use Rattle.ceiling.proofs.CountingTables.{counting_actions, actions-rest, action-room}
 use Rattle.ceiling.proofs.tables.+largest.Goals as goal
 
-pub offset_bounds-nums-at : goal.offset_bounds-nums-at
-offset_bounds-nums-at t c = omega (arith, action-room _ _ _ _ _ _ _ c.requires c.if-count-eq0.false)
+pub offset_bounds-source-at : goal.offset_bounds-source-at
+offset_bounds-source-at t c = omega (arith, action-room _ _ _ _ _ _ _ c.requires c.if-count-eq0.false)
 
-pub bounds-nums-at : goal.bounds-nums-at
-bounds-nums-at t c = omega (arith, action-room _ _ _ _ _ _ _ c.requires c.if-count-eq0.false)
+pub bounds-source-at : goal.bounds-source-at
+bounds-source-at t c = omega (arith, action-room _ _ _ _ _ _ _ c.requires c.if-count-eq0.false)
 
 pub overflow_add-at : goal.overflow_add-at
 overflow_add-at t c = omega (arith, action-room _ _ _ _ _ _ _ c.requires c.if-count-eq0.false)

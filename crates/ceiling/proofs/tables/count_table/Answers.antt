@@ -10,11 +10,11 @@ table_of-parts-requires c = search (counting_table, rules)
 pub overflow_add-at : goal.overflow_add-at
 overflow_add-at c = omega (arith, table-room _ _ _ _ _ _ c.requires _ _ _ c.table_of-parts.ensures)
 
-pub offset_bounds-nums-at : goal.offset_bounds-nums-at
-offset_bounds-nums-at c = omega (arith, table-room _ _ _ _ _ _ c.requires _ _ _ c.table_of-parts.ensures)
+pub offset_bounds-source-at : goal.offset_bounds-source-at
+offset_bounds-source-at c = omega (arith, table-room _ _ _ _ _ _ c.requires _ _ _ c.table_of-parts.ensures)
 
-pub bounds-nums-at : goal.bounds-nums-at
-bounds-nums-at c = omega (arith, table-room _ _ _ _ _ _ c.requires _ _ _ c.table_of-parts.ensures)
+pub bounds-source-at : goal.bounds-source-at
+bounds-source-at c = omega (arith, table-room _ _ _ _ _ _ c.requires _ _ _ c.table_of-parts.ensures)
 
 pub count_keys-keys-requires : goal.count_keys-keys-requires
 count_keys-keys-requires c = search (counting_table, rules)
@@ -22,11 +22,11 @@ count_keys-keys-requires c = search (counting_table, rules)
 pub overflow_add-actions : goal.overflow_add-actions
 overflow_add-actions c = omega (arith, actions-room _ _ _ _ _ _ c.requires _ _ _ c.table_of-parts.ensures)
 
-pub offset_bounds-nums-actions : goal.offset_bounds-nums-actions
-offset_bounds-nums-actions c = omega (arith, actions-room _ _ _ _ _ _ c.requires _ _ _ c.table_of-parts.ensures)
+pub offset_bounds-source-actions : goal.offset_bounds-source-actions
+offset_bounds-source-actions c = omega (arith, actions-room _ _ _ _ _ _ c.requires _ _ _ c.table_of-parts.ensures)
 
-pub bounds-nums-actions : goal.bounds-nums-actions
-bounds-nums-actions c = omega (arith, actions-room _ _ _ _ _ _ c.requires _ _ _ c.table_of-parts.ensures)
+pub bounds-source-actions : goal.bounds-source-actions
+bounds-source-actions c = omega (arith, actions-room _ _ _ _ _ _ c.requires _ _ _ c.table_of-parts.ensures)
 
 pub largest-run-requires : goal.largest-run-requires
 largest-run-requires c = table-actions _ _ _ _ _ _ c.requires _ _ _ c.table_of-parts.ensures _ _ c.count_keys-keys.ensures

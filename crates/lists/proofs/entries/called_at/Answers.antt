@@ -9,8 +9,8 @@ head_of-head-requires c = search (calls, rules)
 pub arguments_at-requires : goal.arguments_at-requires
 arguments_at-requires c = search (calls, rules)
 
-pub returns-then-f-directory : goal.returns-then-f-directory
-returns-then-f-directory c = search (calls, rules)
+pub returns-then-f-source : goal.returns-then-f-source
+returns-then-f-source c = search (calls, rules)
 
-pub returns-else-f-directory : goal.returns-else-f-directory
-returns-else-f-directory c = search (calls, rules)
+pub returns-else-f-source : goal.returns-else-f-source
+returns-else-f-source c = search (calls, rules)

@@ -2,8 +2,5 @@
 use Rattle.lists.proofs.Packets.{BytesLeft}
 use Rattle.lists.proofs.packet.bytes_at.Given as goal
 
-abbrev pub invariant-loop-left : goal.invariant-loop-left
-invariant-loop-left l = BytesLeft l.nums l.count l.at l.left l.next
-
-abbrev pub decreases-loop-left : goal.decreases-loop-left
-decreases-loop-left l = l.left
+abbrev pub invariant-loop : goal.invariant-loop
+invariant-loop l = BytesLeft l.nums l.count l.at l.counter l.next
