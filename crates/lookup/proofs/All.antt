@@ -2,7 +2,7 @@
 use mathlib.Core.Bool.{Bool, true, false, false≢true}
 use mathlib.Core.Path.{◌≡◌, refl, sym, ◌∙◌}
 use mathlib.Core.List.{List, [], ◌∷◌}
-use Prim.Native.Nat.{ℕ, ◌+◌, ◌-◌, ◌^◌, ◌<◌}
+use Prim.Native.Nat.{ℕ, ◌+◌, ◌-◌, ◌^◌, ◌≤◌, ◌<◌}
 use native.Mathlib.Omega.{arith}
 use lib.ListN.{length, get_or}
 use Rattle.rules.specs.Syntax.{Key}
@@ -15,7 +15,8 @@ use Rattle.lists.specs.Listing.{pattern_size, patterns_size}
 use Rattle.lists.specs.Stands.{StandsPatterns, on_none, on-pattern}
 use Rattle.lookup.specs.Matching.{StandsAllWorked, widths_of, KeyPattern, AsksOne, prefix_behind, TellsOne, KeyPatterns, AsksMatch, Matched, matched, unmatched, TellsMatch}
 use Rattle.lookup.specs.declared.Match.{Match}
-use Rattle.lookup.specs.declared.Match.TheVariants.{Yes, No}
+use Rattle.std.specs.Prelude.{Option, Some, None, is_some, unwrap_or}
+use Rattle.core.specs.Option.{option_or}
 
 -- keys of which some are left have a first
 record First (nums ends directory keys : List ℕ) (from count slot j at : ℕ) (ks : List Key) (ws : List Worked)
@@ -95,12 +96,6 @@ module _ (nums ends directory keys : List ℕ) (from count slot j at : ℕ)
     from_next : from + 1 < 2 ^ 64
     from_next = omega (arith, asked-first.begins, h.numbers)
 
-    slot_next : slot + 1 < 2 ^ 64
-    slot_next = omega (arith, h.slots, more)
-
-    place-next : j + 1 < 2 ^ 64
-    place-next = omega (arith, h.place, more)
-
     others-asked : (m l : Bool) (next prefix : ℕ) → TellsOne nums directory keys from slot j at m next l prefix
         → AsksMatch nums ends directory keys (get_or ends (from + 1) 0) (count - 1) (slot + 1) (j + 1) next
     others-asked m l next prefix t = record {
@@ -114,23 +109,26 @@ module _ (nums ends directory keys : List ℕ) (from count slot j at : ℕ)
       place = omega (arith, h.place, more);
     }
 
+abbrev yes : ℕ → ℕ → Option Match
+yes prefix next = Some (record { prefix = prefix; next = next })
+
 -- what the steps tell
 module _ (nums ends directory keys : List ℕ) (from count slot j at : ℕ) where
-  none_told : count ≡ 0 → TellsMatch nums ends directory keys from count slot j at (Yes 0 at)
+  none_told : count ≡ 0 → TellsMatch nums ends directory keys from count slot j at (yes 0 at)
   unfolding matches_all prefix_of patterns_size
   none_told e = record { told = λ ks ws ps h. go ks ws ps h.counts h.patterns }
     where
       go : (ks : List Key) (ws : List Worked) (ps : List Pattern) → count ≡ length ks → StandsPatterns nums at ks ps
-          → Matched at ws ps (Yes 0 at)
-      go [] [] [] c on_none = matched {next = at} refl refl (omega arith)
-      go [] (w ∷ ws) [] c on_none = matched {next = at} refl refl (omega arith)
+          → Matched at ws ps (yes 0 at)
+      go [] [] [] c on_none = matched {m = record { prefix = 0; next = at }} refl refl (omega arith)
+      go [] (w ∷ ws) [] c on_none = matched {m = record { prefix = 0; next = at }} refl refl (omega arith)
       go [] [] (_ ∷ _) c p = elim p [ ]
       go [] (w ∷ ws) (_ ∷ _) c p = elim p [ ]
       go (k ∷ ks) ws ps c p = absurd (omega (arith, e, c))
 
   first-unmatched : (m l : Bool) (next prefix : ℕ) → (count ≡ 0 → ⊥)
       → TellsOne nums directory keys from slot j at m next l prefix → m ≡ false
-      → TellsMatch nums ends directory keys from count slot j at No
+      → TellsMatch nums ends directory keys from count slot j at None
   unfolding matches_all
   first-unmatched m l next prefix more t e = record { told = go }
     where
@@ -139,12 +137,12 @@ module _ (nums ends directory keys : List ℕ) (from count slot j at : ℕ) wher
       missed o = rw (o.same_worked, o.same_patterns, ← t.told _ _ _ o.first, e) refl
 
       go : (ks : List Key) (ws : List Worked) (ps : List Pattern)
-          → KeyPatterns nums ends directory keys from count slot j at ks ws ps → Matched at ws ps No
+          → KeyPatterns nums ends directory keys from count slot j at ks ws ps → Matched at ws ps None
       go ks ws ps h = unmatched (missed (first_of nums ends directory keys from count slot j at ks ws ps h more))
 
   -- the first matches, and the others tell the rest
   module _ (m l : Bool) (next prefix : ℕ) (more : count ≡ 0 → ⊥)
-      (t : TellsOne nums directory keys from slot j at m next l prefix) (e : m ≡ true) (r : Match)
+      (t : TellsOne nums directory keys from slot j at m next l prefix) (e : m ≡ true) (r : Option Match)
       (u : TellsMatch nums ends directory keys (get_or ends (from + 1) 0) (count - 1) (slot + 1) (j + 1) next r)
     where
       others-told : (ks : List Key) (ws : List Worked) (ps : List Pattern)
@@ -166,19 +164,19 @@ module _ (nums ends directory keys : List ℕ) (from count slot j at : ℕ) wher
           → prefix_of ps ≡ prefix_behind l prefix (prefix_of o.patterns)
       prefix-as o = rw o.same_patterns (t.prefix_is _ _ _ o.first o.patterns)
 
-      others-unmatched : r ≡ No → TellsMatch nums ends directory keys from count slot j at No
+      others-unmatched : r ≡ None → TellsMatch nums ends directory keys from count slot j at None
       others-unmatched q = record { told = λ ks ws ps h. go (others-told ks ws ps h) }
         where
           go : {ks : List Key} {ws : List Worked} {ps : List Pattern}
               → (o : First nums ends directory keys from count slot j at ks ws ps) × Matched next o.worked_list o.patterns r
-              → Matched at ws ps No
+              → Matched at ws ps None
           go (o, s) = unmatched (all-as-others o ∙ no (rw q at s))
             where
-              no : {at : ℕ} {ws : List Worked} {ps : List Pattern} → Matched at ws ps No → matches_all ws ps ≡ false
+              no : {at : ℕ} {ws : List Worked} {ps : List Pattern} → Matched at ws ps None → matches_all ws ps ≡ false
               no (unmatched f) = f
 
-      yes-all : {at p last : ℕ} {ws : List Worked} {ps : List Pattern} → Matched at ws ps (Yes p last)
-          → (matches_all ws ps ≡ true) × ((p ≡ prefix_of ps) × (last ≡ at + patterns_size ps))
+      yes-all : {at : ℕ} {z : Match} {ws : List Worked} {ps : List Pattern} → Matched at ws ps (Some z)
+          → (matches_all ws ps ≡ true) × ((z.prefix ≡ prefix_of ps) × (z.next ≡ at + patterns_size ps))
       yes-all (matched f g n) = (f, (g, n))
 
       behind-all : {ks : List Key} {ws : List Worked} {ps : List Pattern}
@@ -187,137 +185,131 @@ module _ (nums ends directory keys : List ℕ) (from count slot j at : ℕ) wher
       unfolding patterns_size
       behind-all o last q = rw o.same_patterns (omega (arith, q, t.next_is _ _ _ o.first))
 
-      own-prefix : (p last : ℕ) → r ≡ Yes p last → l ≡ true
-          → TellsMatch nums ends directory keys from count slot j at (Yes prefix last)
+      own-prefix : (z : Match) → r ≡ Some z → l ≡ true
+          → TellsMatch nums ends directory keys from count slot j at (yes prefix z.next)
       unfolding prefix_behind
-      own-prefix p last q k = record { told = λ ks ws ps h. go (others-told ks ws ps h) }
+      own-prefix z q k = record { told = λ ks ws ps h. go (others-told ks ws ps h) }
         where
           go : {ks : List Key} {ws : List Worked} {ps : List Pattern}
               → (o : First nums ends directory keys from count slot j at ks ws ps)
-              × Matched next o.worked_list o.patterns r → Matched at ws ps (Yes prefix last)
+              × Matched next o.worked_list o.patterns r → Matched at ws ps (yes prefix z.next)
           go {ps = ps} (o, s) =
               let y : _ = yes-all (rw q at s) in
               let same : prefix ≡ prefix_of ps = sym (rw k at (prefix-as o)) in
-              matched (all-as-others o ∙ y.0) same (behind-all o last y.1.1)
+              matched (all-as-others o ∙ y.0) same (behind-all o z.next y.1.1)
 
-      others-prefix : (p last : ℕ) → r ≡ Yes p last → l ≡ false
-          → TellsMatch nums ends directory keys from count slot j at (Yes p last)
+      others-prefix : (z : Match) → r ≡ Some z → l ≡ false
+          → TellsMatch nums ends directory keys from count slot j at (Some z)
       unfolding prefix_behind
-      others-prefix p last q k = record { told = λ ks ws ps h. go (others-told ks ws ps h) }
+      others-prefix z q k = record { told = λ ks ws ps h. go (others-told ks ws ps h) }
         where
           go : {ks : List Key} {ws : List Worked} {ps : List Pattern}
               → (o : First nums ends directory keys from count slot j at ks ws ps)
-              × Matched next o.worked_list o.patterns r → Matched at ws ps (Yes p last)
+              × Matched next o.worked_list o.patterns r → Matched at ws ps (Some z)
           go {ps = ps} (o, s) =
               let y : _ = yes-all (rw q at s) in
-              let same : p ≡ prefix_of ps = y.1.0 ∙ sym (rw k at (prefix-as o)) in
-              matched (all-as-others o ∙ y.0) same (behind-all o last y.1.1)
+              let same : z.prefix ≡ prefix_of ps = y.1.0 ∙ sym (rw k at (prefix-as o)) in
+              matched (all-as-others o ∙ y.0) same (behind-all o z.next y.1.1)
 
 -- the prefix of an lpm key goes with what is told of the keys behind it
-unfoldable pub with_prefix : Bool → ℕ → Match → Match
-with_prefix lpm prefix (Yes p next) = Yes (prefix_behind lpm prefix p) next
-with_prefix lpm prefix No = No
+unfoldable pub with_prefix : Option ℕ → Option Match → Option Match
+with_prefix None r = r
+with_prefix (Some prefix) (Some z) = yes prefix z.next
+with_prefix (Some prefix) None = None
 
-with_none : (r : Match) → with_prefix false 0 r ≡ r
-unfolding with_prefix prefix_behind
-with_none (Yes p next) = refl
-with_none No = refl
+with-both : (p q : Option ℕ) (r : Option Match) → with_prefix p (with_prefix q r) ≡ with_prefix (option_or p q) r
+unfolding with_prefix
+with-both None q r = refl
+with-both (Some n) None r = refl
+with-both (Some n) (Some k) None = refl
+with-both (Some n) (Some k) (Some z) = refl
 
-with-earlier : (prefix : ℕ) (l : Bool) (p : ℕ) (r : Match) → with_prefix true prefix (with_prefix l p r) ≡ with_prefix true prefix r
-unfolding with_prefix prefix_behind
-with-earlier prefix l p (Yes q next) = refl
-with-earlier prefix l p No = refl
+with-last : (p : Option ℕ) (next : ℕ) → with_prefix p (yes 0 next) ≡ yes (unwrap_or p 0) next
+unfolding with_prefix
+with-last None next = refl
+with-last (Some n) next = refl
 
-with-later : (prefix : ℕ) (l : Bool) (p : ℕ) (r : Match) → with_prefix false prefix (with_prefix l p r) ≡ with_prefix l p r
-unfolding with_prefix prefix_behind
-with-later prefix l p (Yes q next) = refl
-with-later prefix l p No = refl
+with-missed : (p : Option ℕ) → with_prefix p None ≡ None
+unfolding with_prefix
+with-missed None = refl
+with-missed (Some n) = refl
 
-with-last : (lpm : Bool) (prefix next : ℕ) → (lpm ≡ false → prefix ≡ 0) → with_prefix lpm prefix (Yes 0 next) ≡ Yes prefix next
-unfolding with_prefix prefix_behind
-with-last true prefix next z = refl
-with-last false prefix next z = rw (z refl) refl
-
-along-told : (nums ends directory keys : List ℕ) (from count slot j at : ℕ) (m l : Bool) (next prefix : ℕ)
-    → (count ≡ 0 → ⊥) → TellsOne nums directory keys from slot j at m next l prefix → m ≡ true → (r : Match)
+along-told : (nums ends directory keys : List ℕ) (from count slot j at : ℕ) (m : Bool) (next : ℕ) (p : Option ℕ)
+    → (count ≡ 0 → ⊥) → TellsOne nums directory keys from slot j at m next (is_some p) (unwrap_or p 0) → m ≡ true
+    → (r : Option Match)
     → TellsMatch nums ends directory keys (get_or ends (from + 1) 0) (count - 1) (slot + 1) (j + 1) next r
-    → TellsMatch nums ends directory keys from count slot j at (with_prefix l prefix r)
-unfolding with_prefix prefix_behind
-along-told nums ends directory keys from count slot j at m true next prefix more t e (Yes p last) u =
-    own-prefix nums ends directory keys from count slot j at m true next prefix more t e (Yes p last) u p last refl refl
-along-told nums ends directory keys from count slot j at m false next prefix more t e (Yes p last) u =
-    others-prefix nums ends directory keys from count slot j at m false next prefix more t e (Yes p last) u p last refl refl
-along-told nums ends directory keys from count slot j at m l next prefix more t e No u =
-    others-unmatched nums ends directory keys from count slot j at m l next prefix more t e No u refl
+    → TellsMatch nums ends directory keys from count slot j at (with_prefix p r)
+unfolding with_prefix
+along-told nums ends directory keys from count slot j at m next None more t e (Some z) u =
+    others-prefix nums ends directory keys from count slot j at m false next 0 more t e (Some z) u z refl refl
+along-told nums ends directory keys from count slot j at m next None more t e None u =
+    others-unmatched nums ends directory keys from count slot j at m false next 0 more t e None u refl
+along-told nums ends directory keys from count slot j at m next (Some prefix) more t e (Some z) u =
+    own-prefix nums ends directory keys from count slot j at m true next prefix more t e (Some z) u z refl refl
+along-told nums ends directory keys from count slot j at m next (Some prefix) more t e None u =
+    others-unmatched nums ends directory keys from count slot j at m true next prefix more t e None u refl
 
--- the loop: what is told of the keys that are left is told of all
-pub record Matching (nums ends directory keys : List ℕ) (from count slot at key left width j next : ℕ) (lpm : Bool)
-    (prefix : ℕ) : Type 0 where
-  pub asks : AsksMatch nums ends directory keys key left width j next
-  pub on : (r : Match) → TellsMatch nums ends directory keys key left width j next r
-      → TellsMatch nums ends directory keys from count slot 0 at (with_prefix lpm prefix r)
-  pub none : lpm ≡ false → prefix ≡ 0
+-- the loop: what is told of the keys from the j-th on is told of all
+pub record Matching (nums ends directory keys : List ℕ) (from count slot at j key next : ℕ) (p : Option ℕ)
+    : Type 0 where
+  pub asks : AsksMatch nums ends directory keys key (count - j) (slot + j) j next
+  pub on : (r : Option Match) → TellsMatch nums ends directory keys key (count - j) (slot + j) j next r
+      → TellsMatch nums ends directory keys from count slot 0 at (with_prefix p r)
 
 module _ (nums ends directory keys : List ℕ) (from count slot at : ℕ) where
   pub matching-start : AsksMatch nums ends directory keys from count slot 0 at
-      → Matching nums ends directory keys from count slot at from count slot 0 at false 0
-  matching-start a = record { asks = a; on = λ r h. rw (with_none r) h; none = λ _. refl }
+      → Matching nums ends directory keys from count slot at 0 from at None
+  unfolding with_prefix
+  matching-start a =
+      let all : count - 0 ≡ count = omega arith in
+      let first : slot + 0 ≡ slot = omega arith in
+      record { asks = rw (all, first) a; on = λ r h. rw (all, first) at h }
 
-  module _ (key left width j next : ℕ) (lpm : Bool) (prefix : ℕ)
-      (h : Matching nums ends directory keys from count slot at key left width j next lpm prefix) where
-    pub matching-ended : left ≡ 0 → TellsMatch nums ends directory keys from count slot 0 at (Yes prefix next)
-    matching-ended e = rw (← with-last lpm prefix next h.none)
-        (h.on (Yes 0 next) (none_told nums ends directory keys key left width j next e))
+  module _ (j key next : ℕ) (p : Option ℕ) (h : Matching nums ends directory keys from count slot at j key next p) where
+    pub matching-ended : (prefix : ℕ) → count ≤ j → prefix ≡ unwrap_or p 0
+        → TellsMatch nums ends directory keys from count slot 0 at (yes prefix next)
+    matching-ended prefix l e =
+        rw (e, ← with-last p next)
+        (h.on (yes 0 next) (none_told nums ends directory keys key (count - j) (slot + j) j next (omega arith)))
 
-    module _ (more : left ≡ 0 → ⊥) where
-      pub matching-one : AsksOne nums directory keys key width j next
-      matching-one = one-asked nums ends directory keys key left width j next h.asks more
+    module _ (l : j < count) where
+      abbrev more : count - j ≡ 0 → ⊥
+      more = λ e. absurd (omega (arith, e))
+
+      pub matching-one : AsksOne nums directory keys key (slot + j) j next
+      matching-one = one-asked nums ends directory keys key (count - j) (slot + j) j next h.asks more
 
       pub matching-inside : key + 1 < length ends
-      matching-inside = ends-inside nums ends directory keys key left width j next h.asks more
+      matching-inside = ends-inside nums ends directory keys key (count - j) (slot + j) j next h.asks more
 
       pub matching-key : key + 1 < 2 ^ 64
-      matching-key = from_next nums ends directory keys key left width j next h.asks more
+      matching-key = from_next nums ends directory keys key (count - j) (slot + j) j next h.asks more
 
-      pub matching-width : width + 1 < 2 ^ 64
-      matching-width = slot_next nums ends directory keys key left width j next h.asks more
+      pub matching-width : slot + j < 2 ^ 64
+      matching-width = omega (arith, h.asks.slots)
 
-      pub matching-place : j + 1 < 2 ^ 64
-      matching-place = place-next nums ends directory keys key left width j next h.asks more
+      module _ (m : Bool) (behind : ℕ) (q : Option ℕ)
+          (t : TellsOne nums directory keys key (slot + j) j next m behind (is_some q) (unwrap_or q 0)) where
+        pub matching-missed : m ≡ false → TellsMatch nums ends directory keys from count slot 0 at None
+        matching-missed e = rw (← with-missed p)
+            (h.on None
+            (first-unmatched nums ends directory keys key (count - j) (slot + j) j next m (is_some q) behind (unwrap_or q 0)
+            more t e))
 
-      module _ (m l : Bool) (behind p : ℕ) (t : TellsOne nums directory keys key width j next m behind l p) where
-        pub matching-missed : m ≡ false → TellsMatch nums ends directory keys from count slot 0 at No
-        unfolding with_prefix
-        matching-missed e =
-            h.on No (first-unmatched nums ends directory keys key left width j next m l behind p more t e)
-
-        module _ (e : m ≡ true) where
-          abbrev rest : AsksMatch nums ends directory keys (get_or ends (key + 1) 0) (left - 1) (width + 1) (j + 1) behind
-          rest = others-asked nums ends directory keys key left width j next h.asks more m l behind p t
-
-          along : (r : Match)
-              → TellsMatch nums ends directory keys (get_or ends (key + 1) 0) (left - 1) (width + 1) (j + 1) behind r
-              → TellsMatch nums ends directory keys from count slot 0 at (with_prefix lpm prefix (with_prefix l p r))
-          along r u = h.on (with_prefix l p r)
-              (along-told nums ends directory keys key left width j next m l behind p more t e r u)
-
-          pub matching-first : lpm ≡ false
-              → Matching nums ends directory keys from count slot at (get_or ends (key + 1) 0) (left - 1) (width + 1) (j + 1)
-              behind l p
-          matching-first q = record {
-            asks = rest;
-            on = λ r u. rw (q, with-later prefix l p r) at (along r u);
-            none = t.no_prefix;
-          }
-
-          pub matching-kept : lpm ≡ true
-              → Matching nums ends directory keys from count slot at (get_or ends (key + 1) 0) (left - 1) (width + 1) (j + 1)
-              behind lpm prefix
-          matching-kept q = record {
-            asks = rest;
-            on = λ r u. rw q (rw (q, with-earlier prefix l p r) at (along r u));
-            none = h.none;
-          }
+        pub matching-next : (r : Option ℕ) → m ≡ true → r ≡ option_or p q
+            → Matching nums ends directory keys from count slot at (j + 1) (get_or ends (key + 1) 0) behind r
+        matching-next r e o =
+            let fewer : count - (j + 1) ≡ count - j - 1 = omega arith in
+            let further : slot + (j + 1) ≡ slot + j + 1 = omega arith in
+            rw o (record {
+              asks = rw (fewer, further)
+                  (others-asked nums ends directory keys key (count - j) (slot + j) j next h.asks more m
+                  (is_some q) behind (unwrap_or q 0) t);
+              on = λ r u. rw (← with-both p q r)
+                  (h.on (with_prefix q r)
+                  (along-told nums ends directory keys key (count - j) (slot + j) j next m behind q more t e r
+                  (rw (fewer, further) at u)));
+            })
 
 pub ruleset all = (
   matching-start,
@@ -326,8 +318,6 @@ pub ruleset all = (
   matching-inside,
   matching-key,
   matching-width,
-  matching-place,
   matching-missed,
-  matching-first,
-  matching-kept,
+  matching-next,
 )

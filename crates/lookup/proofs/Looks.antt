@@ -2,7 +2,7 @@
 use mathlib.Core.Bool.{Bool, true, false, false≢true}
 use mathlib.Core.Path.{◌≡◌, refl, sym, ◌∙◌}
 use mathlib.Core.List.{List, [], ◌∷◌}
-use Prim.Native.Nat.{ℕ, ◌+◌, ◌-◌, ◌*◌, ◌^◌, ◌<◌}
+use Prim.Native.Nat.{ℕ, ◌+◌, ◌-◌, ◌*◌, ◌^◌, ◌≤◌, ◌<◌}
 use native.Mathlib.Omega.{arith}
 use lib.Dec.{eqb}
 use lib.ListN.{length, get_or}
@@ -18,10 +18,9 @@ use Rattle.shape.specs.Directory.{entries_slot}
 use Rattle.lists.specs.Listing.{patterns_size}
 use Rattle.lookup.specs.Matching.{widths_of, KeyPatterns, AsksMatch, Matched, matched, unmatched, TellsMatch}
 use Rattle.lookup.specs.LookingUp.{AsksKeys, TellsLongest, BestStands, entry, none, TellsBetter, Sought, AsksStep, TellsStep, settled_as, StandsEntries, SoughtIn, AsksLook, TellsLook, Looked, entry_found, nothing-found, TellsLookUp}
+use Rattle.std.specs.Prelude.{Option, Some, None}
 use Rattle.lookup.specs.declared.Match.{Match}
-use Rattle.lookup.specs.declared.Match.TheVariants.{Yes, No}
 use Rattle.lookup.specs.declared.Best.{Best}
-use Rattle.lookup.specs.declared.Best.TheVariants.{Entry, Nothing}
 use Rattle.lookup.specs.declared.Lookup.TheVariants as Lookups
 use Rattle.lookup.specs.declared.Lookup.TheVariants.{Found}
 
@@ -112,22 +111,22 @@ module _ (nums ends directory keys : List ℕ) (t table at : ℕ) where
       place = omega (arith, h.sought.stands.key_count.at_most, h.sought.stands.key_count.holds.is);
     }
 
-  module _ (longest : Bool) (best : Best) where
+  module _ (longest : Bool) (best : Option Best) where
     step_other : (get_or nums at 0 ≡ t → ⊥) → TellsStep nums ends directory keys t table longest at best best
     step_other n = record {
       told = λ P T ws e h f s. rw (other-alone t e (λ q. n (h.entry_stands.number.is ∙ q)), look_none longest ws f) s;
     }
 
-    module _ (h : AsksStep nums ends directory keys t table at) (m : Match)
+    module _ (h : AsksStep nums ends directory keys t table at) (m : Option Match)
         (u : TellsMatch nums ends directory keys (table + 1) (get_or nums table 0) (185 + 4 * t) 0 (at + 1) m)
       where
         abbrev q : get_or nums at 0 ≡ t
         q = h.own
 
-        pub step-unmatched : m ≡ No → TellsStep nums ends directory keys t table longest at best best
+        pub step-unmatched : m ≡ None → TellsStep nums ends directory keys t table longest at best best
         step-unmatched n = record { told = go }
           where
-            missed : {ws : List Worked} {ps : List Pattern} → Matched (at + 1) ws ps No → matches_all ws ps ≡ false
+            missed : {ws : List Worked} {ps : List Pattern} → Matched (at + 1) ws ps None → matches_all ws ps ≡ false
             missed (unmatched k) = k
 
             go : (P : Program) (T : Table) (ws : List Worked) (e : Lists.Entry)
@@ -139,26 +138,27 @@ module _ (nums ends directory keys : List ℕ) (t table at : ℕ) where
                 = missed (rw n at (u.told T.keys ws e.patterns (own-patterns k q))) in
                 rw (own_alone t e own, look-unmatched longest ws f e [] m, look_none longest ws f) s
 
-        pub step-matched : (prefix next : ℕ) (r : Best) → m ≡ Yes prefix next → TellsBetter longest best next prefix r
-            → TellsStep nums ends directory keys t table longest at best r
-        step-matched prefix next r n b = record { told = go }
+        pub step-matched : (z : Match) (r : Best) → m ≡ Some z → TellsBetter longest best z.next z.prefix r
+            → TellsStep nums ends directory keys t table longest at best (Some r)
+        step-matched z r n b = record { told = go }
           where
-            all : {ws : List Worked} {ps : List Pattern} → Matched (at + 1) ws ps (Yes prefix next)
-                → (matches_all ws ps ≡ true) × ((prefix ≡ prefix_of ps) × (next ≡ at + 1 + patterns_size ps))
+            all : {ws : List Worked} {ps : List Pattern} → Matched (at + 1) ws ps (Some z)
+                → (matches_all ws ps ≡ true) × ((z.prefix ≡ prefix_of ps) × (z.next ≡ at + 1 + patterns_size ps))
             all (matched k p l) = (k, (p, l))
 
             go : (P : Program) (T : Table) (ws : List Worked) (e : Lists.Entry)
                 → Sought nums ends directory keys t table at P T ws e → (f : rules.Found) → BestStands nums f best
-                → BestStands nums (look_up longest ws f (entries_of t (e ∷ []))) r
+                → BestStands nums (look_up longest ws f (entries_of t (e ∷ []))) (Some r)
             go P T ws e k f s =
                 let own : e.table ≡ t = sym k.entry_stands.number.is ∙ q in
                 let m : (matches_all ws e.patterns ≡ true)
-                × ((prefix ≡ prefix_of e.patterns) × (next ≡ at + 1 + patterns_size e.patterns))
+                × ((z.prefix ≡ prefix_of e.patterns) × (z.next ≡ at + 1 + patterns_size e.patterns))
                 = all (rw n at (u.told T.keys ws e.patterns (own-patterns k q))) in
-                let args : next + 1 ≡ at + 2 + patterns_size e.patterns = omega (arith, m.1.1) in
-                let this : BestStands nums (rules.found e) (Entry next prefix)
+                let args : z.next + 1 ≡ at + 2 + patterns_size e.patterns = omega (arith, m.1.1) in
+                let this : BestStands nums (rules.found e) (Some (record { action = z.next; prefix = z.prefix }))
                 =
-                entry {e = e} {action = next} (rw m.1.1 k.entry_stands.position) (rw args k.entry_stands.arguments) m.1.0 in
+                entry {e = e} {b = record { action = z.next; prefix = z.prefix }} (rw m.1.1 k.entry_stands.position)
+                (rw args k.entry_stands.arguments) m.1.0 in
                 rw (own_alone t e own, look-matched longest ws f e [] m.0, look_none longest ws (better longest f e))
                 (b.told nums f e s this)
 
@@ -239,7 +239,7 @@ earliest-stays ws b (e ∷ es) = go (matches_all ws e.patterns) (earliest-stays 
     go true h = h
     go false h = h
 
-settled-stays : {nums : List ℕ} {f : rules.Found} (longest : Bool) (a : Best) (ws : List Worked)
+settled-stays : {nums : List ℕ} {f : rules.Found} (longest : Bool) (a : Option Best) (ws : List Worked)
     (es : List Lists.Entry) → BestStands nums f a → settled_as longest a ≡ true → look_up longest ws f es ≡ f
 unfolding settled_as
 settled-stays true a ws es (entry p g k) q = absurd (false≢true q)
@@ -275,9 +275,6 @@ module _ (nums ends directory keys : List ℕ) (t table i left : ℕ) where
     slot-inside : i < 217
     slot-inside = omega (arith, h.slots, more)
 
-    slot_next : i + 1 < 2 ^ 64
-    slot_next = omega (arith, h.slots, more)
-
     entry-held : get_or directory i 0 < length nums
     entry-held = asked-first.first.entry_stands.number.inside
 
@@ -308,7 +305,7 @@ module _ (nums ends directory keys : List ℕ) (t table i left : ℕ) where
       slots = omega (arith, h.slots, more);
     }
 
-  module _ (longest : Bool) (best : Best) where
+  module _ (longest : Bool) (best : Option Best) where
     look-ended : left ≡ 0 → TellsLook nums ends directory keys t table longest i left best best
     unfolding look_up entries_of
     look-ended e = record { told = λ P T ws es h f s. go ws es h.counts f s }
@@ -318,7 +315,7 @@ module _ (nums ends directory keys : List ℕ) (t table i left : ℕ) where
         go ws [] c f s = s
         go ws (x ∷ es) c f s = absurd (omega (arith, e, c))
 
-    look-settled : (a : Best) (b : Bool) → (left ≡ 0 → ⊥)
+    look-settled : (a : Option Best) (b : Bool) → (left ≡ 0 → ⊥)
         → TellsStep nums ends directory keys t table longest (get_or directory i 0) best a → b ≡ settled_as longest a
         → b ≡ true → TellsLook nums ends directory keys t table longest i left best a
     look-settled a b more u q k =
@@ -337,75 +334,86 @@ module _ (nums ends directory keys : List ℕ) (t table i left : ℕ) where
             )
             here
 
-    look-further : (a b r : Best) → (left ≡ 0 → ⊥)
+    look-further : (a r : Option Best) → (left ≡ 0 → ⊥)
         → TellsStep nums ends directory keys t table longest (get_or directory i 0) best a
-        → TellsLook nums ends directory keys t table longest (i + 1) (left - 1) a b → b ≡ r
+        → TellsLook nums ends directory keys t table longest (i + 1) (left - 1) a r
         → TellsLook nums ends directory keys t table longest i left best r
-    look-further a b r more u v q =
-        record { told = λ P T ws es h f s. rw (← q) (go (first_of _ _ _ _ _ _ _ _ P T ws es h more) f s) }
+    look-further a r more u v =
+        record { told = λ P T ws es h f s. go (first_of _ _ _ _ _ _ _ _ P T ws es h more) f s }
       where
         go : {P : Program} {T : Table} {ws : List Worked} {es : List Lists.Entry}
             → First nums ends directory keys t table i left P T ws es → (f : rules.Found)
-            → BestStands nums f best → BestStands nums (look_up longest ws f (entries_of t es)) b
+            → BestStands nums f best → BestStands nums (look_up longest ws f (entries_of t es)) r
         go {P = P} {T = T} {ws = ws} o f s =
             rw (o.same, look-on longest ws f t o.entry o.others)
             (v.told P T ws o.others o.rest (look_up longest ws f (entries_of t (o.entry ∷ [])))
             (u.told P T ws o.entry o.first f s))
 
--- the loop: what is told of the entries that are left is told of all
-pub record Looking (nums ends directory keys : List ℕ) (t table : ℕ) (longest : Bool) (i left : ℕ) (best : Best)
-    (slot rest : ℕ) (found : Best) : Type 0 where
-  pub asks : AsksLook nums ends directory keys t table slot rest
-  pub on : (r : Best) → TellsLook nums ends directory keys t table longest slot rest found r
+-- the loop: what is told of the entries from a slot on is told of all
+pub record Looking (nums ends directory keys : List ℕ) (t table : ℕ) (longest : Bool) (i left : ℕ) (best : Option Best)
+    (slot : ℕ) (found : Option Best) : Type 0 where
+  pub asks : AsksLook nums ends directory keys t table slot (i + left - slot)
+  pub on : (r : Option Best) → TellsLook nums ends directory keys t table longest slot (i + left - slot) found r
       → TellsLook nums ends directory keys t table longest i left best r
 
-module _ (nums ends directory keys : List ℕ) (t table : ℕ) (longest : Bool) (i left : ℕ) (best : Best) where
+module _ (nums ends directory keys : List ℕ) (t table : ℕ) (longest : Bool) (i left : ℕ) (best : Option Best) where
   pub looking-start : AsksLook nums ends directory keys t table i left
-      → Looking nums ends directory keys t table longest i left best i left best
-  looking-start a = record { asks = a; on = λ r h. h }
+      → Looking nums ends directory keys t table longest i left best i best
+  looking-start a =
+      let all : i + left - i ≡ left = omega arith in
+      record { asks = rw all a; on = λ r h. rw all at h }
 
-  module _ (slot rest : ℕ) (found : Best)
-      (h : Looking nums ends directory keys t table longest i left best slot rest found) where
-    pub looking-ended : rest ≡ 0 → TellsLook nums ends directory keys t table longest i left best found
-    looking-ended e = h.on found (look-ended nums ends directory keys t table slot rest longest found e)
+  pub looking-low : AsksLook nums ends directory keys t table i left → i + left < 2 ^ 64
+  looking-low a = omega (arith, a.slots)
 
-    module _ (more : rest ≡ 0 → ⊥) where
+  module _ (slot : ℕ) (found : Option Best)
+      (h : Looking nums ends directory keys t table longest i left best slot found) where
+    pub looking-ended : i + left ≤ slot → TellsLook nums ends directory keys t table longest i left best found
+    looking-ended e =
+        h.on found (look-ended nums ends directory keys t table slot (i + left - slot) longest found (omega arith))
+
+    module _ (l : slot < i + left) where
+      abbrev more : i + left - slot ≡ 0 → ⊥
+      more = λ e. absurd (omega (arith, e))
+
       pub looking-inside : slot < 217
-      looking-inside = slot-inside nums ends directory keys t table slot rest h.asks more
-
-      pub looking-next : slot + 1 < 2 ^ 64
-      looking-next = slot_next nums ends directory keys t table slot rest h.asks more
+      looking-inside = slot-inside nums ends directory keys t table slot (i + left - slot) h.asks more
 
       pub looking-held : get_or directory slot 0 < length nums
-      looking-held = entry-held nums ends directory keys t table slot rest h.asks more
+      looking-held = entry-held nums ends directory keys t table slot (i + left - slot) h.asks more
 
       pub looking-step : get_or nums (get_or directory slot 0) 0 ≡ t
           → AsksStep nums ends directory keys t table (get_or directory slot 0)
-      looking-step q = step-asked nums ends directory keys t table slot rest h.asks more q
+      looking-step q = step-asked nums ends directory keys t table slot (i + left - slot) h.asks more q
 
-      pub looking-on : (a : Best) → TellsStep nums ends directory keys t table longest (get_or directory slot 0) found a
-          → Looking nums ends directory keys t table longest i left best (slot + 1) (rest - 1) a
-      looking-on a u = record {
-        asks = look-asked nums ends directory keys t table slot rest h.asks more;
-        on = λ r k. h.on r (look-further nums ends directory keys t table slot rest longest found a r r more u k refl);
-      }
+      pub looking-on : (a : Option Best)
+          → TellsStep nums ends directory keys t table longest (get_or directory slot 0) found a
+          → Looking nums ends directory keys t table longest i left best (slot + 1) a
+      looking-on a u =
+          let fewer : i + left - (slot + 1) ≡ i + left - slot - 1 = omega arith in
+          record {
+            asks = rw fewer (look-asked nums ends directory keys t table slot (i + left - slot) h.asks more);
+            on = λ r k. h.on r
+                (look-further nums ends directory keys t table slot (i + left - slot) longest found a r more u
+                (rw fewer at k));
+          }
 
       pub looking-other : (get_or nums (get_or directory slot 0) 0 ≡ t → ⊥)
-          → Looking nums ends directory keys t table longest i left best (slot + 1) (rest - 1) found
+          → Looking nums ends directory keys t table longest i left best (slot + 1) found
       looking-other n = looking-on found
           (step_other nums ends directory keys t table (get_or directory slot 0) longest found n)
 
-      pub looking-settled : (a : Best) (b : Bool)
+      pub looking-settled : (a : Option Best) (b : Bool)
           → TellsStep nums ends directory keys t table longest (get_or directory slot 0) found a
           → b ≡ settled_as longest a → b ≡ true → TellsLook nums ends directory keys t table longest i left best a
       looking-settled a b u q k =
-          h.on a (look-settled nums ends directory keys t table slot rest longest found a b more u q k)
+          h.on a (look-settled nums ends directory keys t table slot (i + left - slot) longest found a b more u q k)
 
 pub ruleset looks = (
   looking-start,
+  looking-low,
   looking-ended,
   looking-inside,
-  looking-next,
   looking-held,
   looking-step,
   looking-on,
@@ -431,8 +439,8 @@ module _ (nums ends directory keys : List ℕ) (t table : ℕ) where
       room = h.room;
     }
 
-  looked-up : (longest : Bool) (best b : Best) → TellsLongest nums ends (table + 1) (get_or nums table 0) longest
-      → best ≡ Nothing → TellsLook nums ends directory keys t table longest (entries_slot + 1) (get_or directory entries_slot 0) best b
+  looked-up : (longest : Bool) (best b : Option Best) → TellsLongest nums ends (table + 1) (get_or nums table 0) longest
+      → best ≡ None → TellsLook nums ends directory keys t table longest (entries_slot + 1) (get_or directory entries_slot 0) best b
       → (P : Program) (T : Table) (ws : List Worked) (es : List Lists.Entry)
       → SoughtIn nums ends directory keys t table (entries_slot + 1) (get_or directory entries_slot 0) P T ws es
       → BestStands nums (look_up (longest_wins T.keys) ws rules.nothing (entries_of t es)) b
@@ -441,24 +449,24 @@ module _ (nums ends directory keys : List ℕ) (t table : ℕ) where
       = l.told T.keys h.stands.keys h.stands.key_count.holds.is in
       rw (← same) (u.told P T ws es h rules.nothing (rw n none))
 
-  module _ (longest : Bool) (best b : Best) (l : TellsLongest nums ends (table + 1) (get_or nums table 0) longest)
-      (n : best ≡ Nothing) (u : TellsLook nums ends directory keys t table longest (entries_slot + 1) (get_or directory entries_slot 0) best b)
+  module _ (longest : Bool) (best b : Option Best) (l : TellsLongest nums ends (table + 1) (get_or nums table 0) longest)
+      (n : best ≡ None) (u : TellsLook nums ends directory keys t table longest (entries_slot + 1) (get_or directory entries_slot 0) best b)
     where
-      pub found-told : (action prefix : ℕ) → b ≡ Entry action prefix
-          → TellsLookUp nums ends directory keys t table (Found action)
-      found-told action prefix q = record {
+      pub found-told : (found : Best) → b ≡ Some found
+          → TellsLookUp nums ends directory keys t table (Found found.action)
+      found-told found q = record {
         told = λ P T ws es h. go (rw q at (looked-up longest best b l n u P T ws es h));
       }
         where
-          go : {f : rules.Found} → BestStands nums f (Entry action prefix) → Looked nums f (Found action)
+          go : {f : rules.Found} → BestStands nums f (Some found) → Looked nums f (Found found.action)
           go (entry p a k) = entry_found p a
 
-      pub nothing-told : b ≡ Nothing → TellsLookUp nums ends directory keys t table Lookups.Nothing
+      pub nothing-told : b ≡ None → TellsLookUp nums ends directory keys t table Lookups.Nothing
       nothing-told q = record {
         told = λ P T ws es h. go (rw q at (looked-up longest best b l n u P T ws es h));
       }
         where
-          go : {f : rules.Found} → BestStands nums f Nothing → Looked nums f Lookups.Nothing
+          go : {f : rules.Found} → BestStands nums f None → Looked nums f Lookups.Nothing
           go none = nothing-found
 
 pub ruleset whole = (count-inside, keys-begin, keys-asked, found-told, nothing-told)

@@ -1,5 +1,5 @@
 -- The look-up of a table: whether the longest prefix wins, and the entry that is found, as the rules say.
-use Rattle.std.specs.Prelude.{Bool, true, false, not, ◌≡◌, List, [], ◌∷◌, ℕ, ◌+◌, ◌*◌, ◌≤◌, eqb, length, get_or}
+use Rattle.std.specs.Prelude.{Bool, true, false, not, ◌≡◌, List, [], ◌∷◌, ℕ, ◌+◌, ◌*◌, ◌≤◌, eqb, length, get_or, Option, Some, None}
 use Rattle.std.proofs.Math.Option.{some}
 use Rattle.std.proofs.Math.ListN.{get_elem?}
 use Rattle.rules.specs.Numbers.{most_bytes}
@@ -14,7 +14,6 @@ use Rattle.program.specs.Stands.{Holds, StandsKeys, StandsTable}
 use Rattle.lists.specs.Stands.{HoldsAll, StandsEntry}
 use Rattle.lookup.specs.Matching.{StandsAllWorked, widths_of}
 use Rattle.lookup.specs.declared.Best.{Best}
-use Rattle.lookup.specs.declared.Best.TheVariants.{Entry, Nothing}
 use Rattle.lookup.specs.declared.Lookup.{Lookup}
 use Rattle.lookup.specs.declared.Lookup.TheVariants as Lookups
 use Rattle.lookup.specs.declared.Lookup.TheVariants.{Found}
@@ -37,15 +36,16 @@ pub record TellsLongest (nums ends : List ℕ) (from count : ℕ) (r : Bool) : T
   pub told : (ks : List Key) → StandsKeys nums ends from ks → count ≡ length ks → r ≡ longest_wins ks
 
 -- an entry that is found: its action's position and arguments stand one after the other, and its prefix is kept
-pub data BestStands (nums : List ℕ) : rules.Found → Best → Type 0 where
-  entry : {e : Lists.Entry} {action prefix : ℕ} → Holds nums action e.position
-      → HoldsAll nums (action + 1) e.arguments → prefix ≡ prefix_of e.patterns
-      → BestStands nums (rules.found e) (Entry action prefix)
-  none : BestStands nums rules.nothing Nothing
+pub data BestStands (nums : List ℕ) : rules.Found → Option Best → Type 0 where
+  entry : {e : Lists.Entry} {b : Best} → Holds nums b.action e.position
+      → HoldsAll nums (b.action + 1) e.arguments → b.prefix ≡ prefix_of e.patterns
+      → BestStands nums (rules.found e) (Some b)
+  none : BestStands nums rules.nothing None
 
-pub record TellsBetter (longest : Bool) (best : Best) (action prefix : ℕ) (r : Best) : Type 0 where
+pub record TellsBetter (longest : Bool) (best : Option Best) (action prefix : ℕ) (r : Best) : Type 0 where
   pub told : (nums : List ℕ) (f : rules.Found) (e : Lists.Entry) → BestStands nums f best
-      → BestStands nums (rules.found e) (Entry action prefix) → BestStands nums (better longest f e) r
+      → BestStands nums (rules.found e) (Some (record { action = action; prefix = prefix }))
+      → BestStands nums (better longest f e) (Some r)
 
 -- a table, its keys as they were worked out, and an entry
 pub record Sought (nums ends directory keys : List ℕ) (t table at : ℕ) (P : Program) (T : Table) (ws : List Worked)
@@ -67,16 +67,16 @@ pub record AsksStep (nums ends directory keys : List ℕ) (t table at : ℕ) : T
   pub room : length nums ≤ length ends
   pub few : t + 1 ≤ most_tables
 
-pub record TellsStep (nums ends directory keys : List ℕ) (t table : ℕ) (longest : Bool) (at : ℕ) (best r : Best)
+pub record TellsStep (nums ends directory keys : List ℕ) (t table : ℕ) (longest : Bool) (at : ℕ) (best r : Option Best)
     : Type 0 where
   pub told : (P : Program) (T : Table) (ws : List Worked) (e : Lists.Entry)
       → Sought nums ends directory keys t table at P T ws e → (f : rules.Found) → BestStands nums f best
       → BestStands nums (look_up longest ws f (entries_of t (e ∷ []))) r
 
 -- no later entry changes what is found
-unfoldable pub settled_as : Bool → Best → Bool
-settled_as longest (Entry action prefix) = not longest
-settled_as longest Nothing = false
+unfoldable pub settled_as : Bool → Option Best → Bool
+settled_as longest (Some b) = not longest
+settled_as longest None = false
 
 -- entries whose places stand in slots one after the other
 unfoldable pub StandsEntries : Program → List ℕ → List ℕ → ℕ → List Lists.Entry → Type 0
@@ -105,7 +105,7 @@ pub record AsksLook (nums ends directory keys : List ℕ) (t table i left : ℕ)
   pub slots : i + left ≤ slot_count
 
 pub record TellsLook (nums ends directory keys : List ℕ) (t table : ℕ) (longest : Bool) (i left : ℕ)
-    (best r : Best) : Type 0 where
+    (best r : Option Best) : Type 0 where
   pub told : (P : Program) (T : Table) (ws : List Worked) (es : List Lists.Entry)
       → SoughtIn nums ends directory keys t table i left P T ws es → (f : rules.Found)
       → BestStands nums f best → BestStands nums (look_up longest ws f (entries_of t es)) r

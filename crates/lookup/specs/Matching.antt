@@ -1,6 +1,6 @@
 -- An entry's patterns against the keys of its table, as they were worked out: the widths stand in slots of the
 -- directory, the numbers in slots of their own.
-use Rattle.std.specs.Prelude.{Bool, true, false, ◌≡◌, List, [], ◌∷◌, map, ℕ, ◌+◌, ◌≤◌, length, get_or}
+use Rattle.std.specs.Prelude.{Bool, true, false, ◌≡◌, List, [], ◌∷◌, map, ℕ, ◌+◌, ◌≤◌, length, get_or, Option, Some, None}
 use Rattle.rules.specs.Numbers.{most_bytes}
 use Rattle.rules.specs.Words.{widest}
 use Rattle.rules.specs.Syntax.{KeyKind, Key}
@@ -13,7 +13,6 @@ use Rattle.program.specs.Stands.{Holds, StandsKeys}
 use Rattle.lists.specs.Listing.{pattern_size, patterns_size}
 use Rattle.lists.specs.Stands.{StandsPattern, StandsPatterns}
 use Rattle.lookup.specs.declared.Match.{Match}
-use Rattle.lookup.specs.declared.Match.TheVariants.{Yes, No}
 
 -- a key that was worked out, in a slot of the widths and one of the numbers
 pub record StandsWorked (directory keys : List ℕ) (slot j : ℕ) (k : Worked) : Type 0 where
@@ -81,11 +80,11 @@ pub record AsksMatch (nums ends directory keys : List ℕ) (key_at count slot j 
   pub place : j + count ≤ most_keys
 
 -- the cases of the answer
-pub data Matched (at : ℕ) (ws : List Worked) (ps : List Pattern) : Match → Type 0 where
-  matched : {prefix next : ℕ} → matches_all ws ps ≡ true → prefix ≡ prefix_of ps → next ≡ at + patterns_size ps
-      → Matched at ws ps (Yes prefix next)
-  unmatched : matches_all ws ps ≡ false → Matched at ws ps No
+pub data Matched (at : ℕ) (ws : List Worked) (ps : List Pattern) : Option Match → Type 0 where
+  matched : {m : Match} → matches_all ws ps ≡ true → m.prefix ≡ prefix_of ps → m.next ≡ at + patterns_size ps
+      → Matched at ws ps (Some m)
+  unmatched : matches_all ws ps ≡ false → Matched at ws ps None
 
-pub record TellsMatch (nums ends directory keys : List ℕ) (key_at count slot j at : ℕ) (r : Match) : Type 0 where
+pub record TellsMatch (nums ends directory keys : List ℕ) (key_at count slot j at : ℕ) (r : Option Match) : Type 0 where
   pub told : (ks : List Key) (ws : List Worked) (ps : List Pattern)
       → KeyPatterns nums ends directory keys key_at count slot j at ks ws ps → Matched at ws ps r

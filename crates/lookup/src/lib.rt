@@ -13,19 +13,19 @@ use shape::ENTRIES;
 mod looking;
 mod matching;
 
-// Whether all keys match an entry's patterns: the prefix length of its lpm key, or 0 where it has none, and the index
-// behind the patterns.
+// An entry whose patterns all keys match: the prefix length of its lpm key, or 0 where it has none, and the index behind
+// the patterns.
 #[derive(Clone, Copy)]
-pub(crate) enum Match {
-    Yes { prefix: u64, next: usize },
-    No,
+pub(crate) struct Match {
+    prefix: u64,
+    next: usize,
 }
 
 // The best entry so far: where the position of its action stands, with the arguments behind it, and its prefix length.
 #[derive(Clone, Copy)]
-pub(crate) enum Best {
-    Entry { action: usize, prefix: u64 },
-    Nothing,
+pub(crate) struct Best {
+    action: usize,
+    prefix: u64,
 }
 
 // The entry that is found: where the position of its action stands, with the arguments behind it.
@@ -49,10 +49,10 @@ pub fn look_up(source: &Source, keys: &[u64; MOST_KEYS], t: u64, table: usize) -
         longest,
         ENTRIES + 1,
         source.directory[ENTRIES],
-        Best::Nothing,
+        None,
     );
     match best {
-        Best::Entry { action, prefix } => Lookup::Found(action),
-        Best::Nothing => Lookup::Nothing,
+        Some(entry) => Lookup::Found(entry.action),
+        None => Lookup::Nothing,
     }
 }

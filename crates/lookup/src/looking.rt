@@ -38,31 +38,22 @@ pub(crate) fn longest_wins(source: &Source, from: usize, count: u64) -> bool
 }
 
 // The better of what was found and an entry behind it: ties go to the earlier.
-fn better(longest: bool, best: Best, action: usize, prefix: u64) -> Best
+fn better(longest: bool, best: Option<Best>, action: usize, prefix: u64) -> Best
     ensures { TellsBetter longest best action prefix result }
 {
     match best {
-        Best::Entry {
-            action: earlier,
-            prefix: length,
-        } => {
+        Some(earlier) => {
             if longest {
-                if length < prefix {
-                    Best::Entry { action, prefix }
+                if earlier.prefix < prefix {
+                    Best { action, prefix }
                 } else {
-                    Best::Entry {
-                        action: earlier,
-                        prefix: length,
-                    }
+                    earlier
                 }
             } else {
-                Best::Entry {
-                    action: earlier,
-                    prefix: length,
-                }
+                earlier
             }
         }
-        Best::Nothing => Best::Entry { action, prefix },
+        None => Best { action, prefix },
     }
 }
 
@@ -74,29 +65,26 @@ fn step(
     table: usize,
     longest: bool,
     at: usize,
-    best: Best,
-) -> Best
+    best: Option<Best>,
+) -> Option<Best>
     requires { AsksStep source.now.nums.now source.now.ends.now source.now.directory.now keys.now t table at }
     ensures { TellsStep source.now.nums.now source.now.ends.now source.now.directory.now keys.now t table longest at best result }
 {
     let slot = WIDTHS + MOST_KEYS * t as usize;
     let keyed = match_from(source, keys, table + 1, source.nums[table], slot, at + 1);
     match keyed {
-        Match::Yes { prefix, next } => better(longest, best, next, prefix),
-        Match::No => best,
+        Some(Match { prefix, next }) => Some(better(longest, best, next, prefix)),
+        None => best,
     }
 }
 
 // Whether no later entry changes what is found: where the earliest wins, an entry does not give way.
-fn settled(longest: bool, found: Best) -> bool
+fn settled(longest: bool, found: Option<Best>) -> bool
     ensures { result ≡ settled_as longest found }
 {
     match found {
-        Best::Entry {
-            action: _,
-            prefix: _,
-        } => !longest,
-        Best::Nothing => false,
+        Some(_) => !longest,
+        None => false,
     }
 }
 
@@ -110,15 +98,13 @@ pub(crate) fn look_from(
     longest: bool,
     i: usize,
     left: u64,
-    best: Best,
-) -> Best
+    best: Option<Best>,
+) -> Option<Best>
     requires { AsksLook source.now.nums.now source.now.ends.now source.now.directory.now keys.now t table i left }
     ensures { TellsLook source.now.nums.now source.now.ends.now source.now.directory.now keys.now t table longest i left best result }
 {
     let mut found = best;
-    let mut slot = i;
-    let mut rest = left;
-    while rest != 0 {
+    for slot in i..i + left as usize {
         let at = source.directory[slot] as usize;
         if source.nums[at] == t {
             found = step(source, keys, t, table, longest, at, found);
@@ -126,8 +112,6 @@ pub(crate) fn look_from(
                 return found;
             }
         }
-        slot += 1;
-        rest -= 1;
     }
     found
 }

@@ -1,4 +1,5 @@
 // The keys of a table against the patterns of an entry.
+ghost use Rattle.std.specs.Prelude.{is_some, unwrap_or};
 ghost use Rattle.lookup.specs.Matching.{AsksOne, TellsOne, AsksMatch, TellsMatch};
 
 use crate::Match;
@@ -9,8 +10,7 @@ use program::{EXACT, LPM, MOST_KEYS, Source};
 struct One {
     matches: bool,
     next: usize,
-    lpm: bool,
-    prefix: u64,
+    prefix: Option<u64>,
 }
 
 // One key against one pattern.
@@ -23,7 +23,7 @@ fn match_one(
     at: usize,
 ) -> One
     requires { AsksOne source.now.nums.now source.now.directory.now keys.now from slot j at }
-    ensures { TellsOne source.now.nums.now source.now.directory.now keys.now from slot j at result.matches result.next result.lpm result.prefix }
+    ensures { TellsOne source.now.nums.now source.now.directory.now keys.now from slot j at result.matches result.next (is_some result.prefix) (unwrap_or result.prefix 0) }
 {
     let kind = source.nums[from];
     let value = source.nums[at];
@@ -32,23 +32,20 @@ fn match_one(
         One {
             matches: words::order::equal(key, value),
             next: at + 1,
-            lpm: false,
-            prefix: 0,
+            prefix: None,
         }
     } else if kind == LPM {
         let prefix = source.nums[at + 1];
         One {
             matches: words::keys::prefix_matches(source.directory[slot], prefix, value, key),
             next: at + 2,
-            lpm: true,
-            prefix,
+            prefix: Some(prefix),
         }
     } else {
         One {
             matches: words::keys::mask_matches(source.nums[at + 1], value, key),
             next: at + 2,
-            lpm: false,
-            prefix: 0,
+            prefix: None,
         }
     }
 }
@@ -62,31 +59,24 @@ pub(crate) fn match_from(
     count: u64,
     slot: usize,
     at: usize,
-) -> Match
+) -> Option<Match>
     requires { AsksMatch source.now.nums.now source.now.ends.now source.now.directory.now keys.now from count slot 0 at }
     ensures { TellsMatch source.now.nums.now source.now.ends.now source.now.directory.now keys.now from count slot 0 at result }
 {
     let mut key = from;
-    let mut left = count;
-    let mut width = slot;
-    let mut j = 0;
     let mut next = at;
-    let mut lpm = false;
-    let mut prefix = 0;
-    while left != 0 {
-        let one = match_one(source, keys, key, width, j, next);
+    let mut prefix = None;
+    for j in 0..count as usize {
+        let one = match_one(source, keys, key, slot + j, j, next);
         if !one.matches {
-            return Match::No;
+            return None;
         }
-        if !lpm {
-            lpm = one.lpm;
-            prefix = one.prefix;
-        }
+        prefix = prefix.or(one.prefix);
         key = source.ends[key + 1] as usize;
-        left -= 1;
-        width += 1;
-        j += 1;
         next = one.next;
     }
-    Match::Yes { prefix, next }
+    Some(Match {
+        prefix: prefix.unwrap_or(0),
+        next,
+    })
 }

@@ -3,8 +3,8 @@ use Rattle.lookup.proofs.Looks.{whole}
 use borrow.Author.Rules.{rules}
 use Rattle.lookup.proofs.look_up.Goals as goal
 
-pub returns-in-Entry : goal.returns-in-Entry
-returns-in-Entry c = search (whole, rules)
+pub returns-in-Some : goal.returns-in-Some
+returns-in-Some c = search (whole, rules)
 
-pub returns-in-Nothing : goal.returns-in-Nothing
-returns-in-Nothing c = search (whole, rules)
+pub returns-in-None : goal.returns-in-None
+returns-in-None c = search (whole, rules)

@@ -3,14 +3,14 @@ use Rattle.lookup.proofs.Betters.{betters}
 use borrow.Author.Rules.{rules}
 use Rattle.lookup.proofs.looking.better.Goals as goal
 
-pub returns-then-length-prefix : goal.returns-then-length-prefix
-returns-then-length-prefix c = search (betters, rules)
+pub returns-then-earlier-prefix : goal.returns-then-earlier-prefix
+returns-then-earlier-prefix c = search (betters, rules)
 
-pub returns-else-length-prefix : goal.returns-else-length-prefix
-returns-else-length-prefix c = search (betters, rules)
+pub returns-else-earlier-prefix : goal.returns-else-earlier-prefix
+returns-else-earlier-prefix c = search (betters, rules)
 
 pub returns-else-longest : goal.returns-else-longest
 returns-else-longest c = search (betters, rules)
 
-pub returns-in-Nothing : goal.returns-in-Nothing
-returns-in-Nothing c = search (betters, rules)
+pub returns-in-None : goal.returns-in-None
+returns-in-None c = search (betters, rules)

@@ -2,8 +2,5 @@
 use Rattle.lookup.proofs.Looks.{Looking}
 use Rattle.lookup.proofs.looking.look_from.Given as goal
 
-abbrev pub invariant-loop-rest : goal.invariant-loop-rest
-invariant-loop-rest l = Looking l.nums l.ends l.directory l.keys l.t l.table l.longest l.i l.left l.initial.found l.slot l.rest l.found
-
-abbrev pub decreases-loop-rest : goal.decreases-loop-rest
-decreases-loop-rest l = l.rest
+abbrev pub invariant-loop-slot : goal.invariant-loop-slot
+invariant-loop-slot l = Looking l.source.nums.now l.source.ends.now l.source.directory.now l.keys l.t l.table l.longest l.i l.left l.initial.found l.slot l.found

@@ -3,10 +3,10 @@ use Rattle.lookup.specs.LookingUp.{settled_as}
 use borrow.Author.Rules.{rules}
 use Rattle.lookup.proofs.looking.settled.Goals as goal
 
-pub returns-in-Entry : goal.returns-in-Entry
+pub returns-in-Some : goal.returns-in-Some
 unfolding settled_as
-returns-in-Entry c = search rules
+returns-in-Some c = search rules
 
-pub returns-in-Nothing : goal.returns-in-Nothing
+pub returns-in-None : goal.returns-in-None
 unfolding settled_as
-returns-in-Nothing c = search rules
+returns-in-None c = search rules

@@ -6,8 +6,8 @@ use Rattle.lookup.proofs.looking.step.Goals as goal
 pub match_from-keyed-requires : goal.match_from-keyed-requires
 match_from-keyed-requires c = search (steps, rules)
 
-pub returns-in-Yes : goal.returns-in-Yes
-returns-in-Yes c = search (steps, rules)
+pub returns-in-Some : goal.returns-in-Some
+returns-in-Some c = search (steps, rules)
 
-pub returns-in-No : goal.returns-in-No
-returns-in-No c = search (steps, rules)
+pub returns-in-None : goal.returns-in-None
+returns-in-None c = search (steps, rules)

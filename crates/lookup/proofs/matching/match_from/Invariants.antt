@@ -2,8 +2,5 @@
 use Rattle.lookup.proofs.All.{Matching}
 use Rattle.lookup.proofs.matching.match_from.Given as goal
 
-abbrev pub invariant-loop-left : goal.invariant-loop-left
-invariant-loop-left l = Matching l.nums l.ends l.directory l.keys l.from l.count l.slot l.at l.key l.left l.width l.j l.next l.lpm l.prefix
-
-abbrev pub decreases-loop-left : goal.decreases-loop-left
-decreases-loop-left l = l.left
+abbrev pub invariant-loop-j : goal.invariant-loop-j
+invariant-loop-j l = Matching l.source.nums.now l.source.ends.now l.source.directory.now l.keys l.from l.count l.slot l.at l.j l.key l.next l.prefix

@@ -6,11 +6,11 @@ use Rattle.steps.proofs.calls.+come_back.Goals as goal
 pub write_back-requires : goal.write_back-requires
 write_back-requires t c = search (coming, rules)
 
-pub offset_bounds-ends-at : goal.offset_bounds-ends-at
-offset_bounds-ends-at t c = search (coming, rules)
+pub offset_bounds-source-at : goal.offset_bounds-source-at
+offset_bounds-source-at t c = search (coming, rules)
 
-pub bounds-ends-at : goal.bounds-ends-at
-bounds-ends-at t c = search (coming, rules)
+pub bounds-source-at : goal.bounds-source-at
+bounds-source-at t c = search (coming, rules)
 
 pub overflow_add-parameters : goal.overflow_add-parameters
 overflow_add-parameters t c = search (coming, rules)

@@ -6,8 +6,8 @@ use Rattle.steps.proofs.calls.write_back.Goals as goal
 pub write_place-requires : goal.write_place-requires
 write_place-requires c = search (backing, rules)
 
-pub returns-then-nums-parameters-ge-OUT : goal.returns-then-nums-parameters-ge-OUT
-returns-then-nums-parameters-ge-OUT c = search (backing, rules)
+pub returns-then-source-parameters-ge-OUT : goal.returns-then-source-parameters-ge-OUT
+returns-then-source-parameters-ge-OUT c = search (backing, rules)
 
-pub returns-else-nums-parameters-ge-OUT : goal.returns-else-nums-parameters-ge-OUT
-returns-else-nums-parameters-ge-OUT c = search (backing, rules)
+pub returns-else-source-parameters-ge-OUT : goal.returns-else-source-parameters-ge-OUT
+returns-else-source-parameters-ge-OUT c = search (backing, rules)

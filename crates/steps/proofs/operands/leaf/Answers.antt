@@ -3,17 +3,17 @@ use Rattle.steps.proofs.Leaves.{leaves}
 use borrow.Author.Rules.{rules}
 use Rattle.steps.proofs.operands.leaf.Goals as goal
 
-pub bounds-nums-at-in-0 : goal.bounds-nums-at-in-0
-bounds-nums-at-in-0 c = search (leaves, rules)
+pub bounds-source-at-in-0 : goal.bounds-source-at-in-0
+bounds-source-at-in-0 c = search (leaves, rules)
 
-pub bounds-nums-at-in-1 : goal.bounds-nums-at-in-1
-bounds-nums-at-in-1 c = search (leaves, rules)
+pub bounds-source-at-in-1 : goal.bounds-source-at-in-1
+bounds-source-at-in-1 c = search (leaves, rules)
 
-pub bounds-nums-at-in-1-2 : goal.bounds-nums-at-in-1-2
-bounds-nums-at-in-1-2 c = search (leaves, rules)
+pub bounds-source-at-in-1-2 : goal.bounds-source-at-in-1-2
+bounds-source-at-in-1-2 c = search (leaves, rules)
 
-pub bounds-nums-at-in-6 : goal.bounds-nums-at-in-6
-bounds-nums-at-in-6 c = search (leaves, rules)
+pub bounds-source-at-in-6 : goal.bounds-source-at-in-6
+bounds-source-at-in-6 c = search (leaves, rules)
 
 pub valid_mark-requires : goal.valid_mark-requires
 valid_mark-requires c = search (leaves, rules)

@@ -9,8 +9,8 @@ set_valid-requires c = search (single, rules)
 pub set_invalid-requires : goal.set_invalid-requires
 set_invalid-requires c = search (single, rules)
 
-pub bounds-nums-at-in_default : goal.bounds-nums-at-in_default
-bounds-nums-at-in_default c = search (single, rules)
+pub bounds-source-at-in_default : goal.bounds-source-at-in_default
+bounds-source-at-in_default c = search (single, rules)
 
 pub extract-requires : goal.extract-requires
 extract-requires c = search (single, rules)

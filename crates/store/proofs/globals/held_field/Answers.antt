@@ -4,11 +4,11 @@ use native.Mathlib.Omega.{arith}
 use borrow.Author.Rules.{rules}
 use Rattle.store.proofs.globals.held_field.Goals as goal
 
-pub bounds-nums-at : goal.bounds-nums-at
-bounds-nums-at c = omega (arith, field_room _ _ _ _ _ c.requires)
+pub bounds-source-at : goal.bounds-source-at
+bounds-source-at c = omega (arith, field_room _ _ _ _ _ c.requires)
 
-pub bounds-nums-at-2 : goal.bounds-nums-at-2
-bounds-nums-at-2 c = omega (arith, field_room _ _ _ _ _ c.requires)
+pub bounds-source-at-2 : goal.bounds-source-at-2
+bounds-source-at-2 c = omega (arith, field_room _ _ _ _ _ c.requires)
 
 pub header_type-header-requires : goal.header_type-header-requires
 header_type-header-requires c = search (stored, rules)
@@ -19,20 +19,20 @@ overflow_add-result c = omega (arith, field_room _ _ _ _ _ c.requires, field-typ
 pub overflow_add-result-2 : goal.overflow_add-result-2
 overflow_add-result-2 c = omega (arith, field_room _ _ _ _ _ c.requires, field-typed _ _ _ _ _ c.requires _ c.header_type-header.ensures)
 
-pub offset_bounds-nums-header : goal.offset_bounds-nums-header
-offset_bounds-nums-header c = omega (arith, field_room _ _ _ _ _ c.requires, field-typed _ _ _ _ _ c.requires _ c.header_type-header.ensures)
+pub offset_bounds-source-header : goal.offset_bounds-source-header
+offset_bounds-source-header c = omega (arith, field_room _ _ _ _ _ c.requires, field-typed _ _ _ _ _ c.requires _ c.header_type-header.ensures)
 
-pub bounds-nums-header : goal.bounds-nums-header
-bounds-nums-header c = omega (arith, field_room _ _ _ _ _ c.requires, field-typed _ _ _ _ _ c.requires _ c.header_type-header.ensures)
+pub bounds-source-header : goal.bounds-source-header
+bounds-source-header c = omega (arith, field_room _ _ _ _ _ c.requires, field-typed _ _ _ _ _ c.requires _ c.header_type-header.ensures)
 
 pub overflow_add-result-3 : goal.overflow_add-result-3
 overflow_add-result-3 c = omega (arith, field_room _ _ _ _ _ c.requires, field-typed _ _ _ _ _ c.requires _ c.header_type-header.ensures)
 
-pub offset_bounds-directory-g : goal.offset_bounds-directory-g
-offset_bounds-directory-g c = omega (arith, field_room _ _ _ _ _ c.requires, field-typed _ _ _ _ _ c.requires _ c.header_type-header.ensures)
+pub offset_bounds-source-g : goal.offset_bounds-source-g
+offset_bounds-source-g c = omega (arith, field_room _ _ _ _ _ c.requires, field-typed _ _ _ _ _ c.requires _ c.header_type-header.ensures)
 
-pub bounds-directory-g : goal.bounds-directory-g
-bounds-directory-g c = omega (arith, field_room _ _ _ _ _ c.requires, field-typed _ _ _ _ _ c.requires _ c.header_type-header.ensures)
+pub bounds-source-g : goal.bounds-source-g
+bounds-source-g c = omega (arith, field_room _ _ _ _ _ c.requires, field-typed _ _ _ _ _ c.requires _ c.header_type-header.ensures)
 
 pub overflow_add-result-4 : goal.overflow_add-result-4
 overflow_add-result-4 c = omega (arith, field_room _ _ _ _ _ c.requires, field-typed _ _ _ _ _ c.requires _ c.header_type-header.ensures)
@@ -40,11 +40,11 @@ overflow_add-result-4 c = omega (arith, field_room _ _ _ _ _ c.requires, field-t
 pub overflow_add-result-5 : goal.overflow_add-result-5
 overflow_add-result-5 c = omega (arith, field_room _ _ _ _ _ c.requires, field-typed _ _ _ _ _ c.requires _ c.header_type-header.ensures)
 
-pub offset_bounds-slots-directory : goal.offset_bounds-slots-directory
-offset_bounds-slots-directory c = omega (arith, field_room _ _ _ _ _ c.requires, field-typed _ _ _ _ _ c.requires _ c.header_type-header.ensures)
+pub offset_bounds-slots-source : goal.offset_bounds-slots-source
+offset_bounds-slots-source c = omega (arith, field_room _ _ _ _ _ c.requires, field-typed _ _ _ _ _ c.requires _ c.header_type-header.ensures)
 
-pub bounds-slots-directory : goal.bounds-slots-directory
-bounds-slots-directory c = omega (arith, field_room _ _ _ _ _ c.requires, field-typed _ _ _ _ _ c.requires _ c.header_type-header.ensures)
+pub bounds-slots-source : goal.bounds-slots-source
+bounds-slots-source c = omega (arith, field_room _ _ _ _ _ c.requires, field-typed _ _ _ _ _ c.requires _ c.header_type-header.ensures)
 
 pub returns : goal.returns
 returns c = search (stored, rules)

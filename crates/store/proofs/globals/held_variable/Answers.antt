@@ -4,8 +4,8 @@ use native.Mathlib.Omega.{arith}
 use borrow.Author.Rules.{rules}
 use Rattle.store.proofs.globals.held_variable.Goals as goal
 
-pub bounds-nums-at : goal.bounds-nums-at
-bounds-nums-at c = omega (arith, variable-room _ _ _ _ _ c.requires)
+pub bounds-source-at : goal.bounds-source-at
+bounds-source-at c = omega (arith, variable-room _ _ _ _ _ c.requires)
 
 pub global_of-requires : goal.global_of-requires
 global_of-requires c = search (stored, rules)
@@ -13,17 +13,17 @@ global_of-requires c = search (stored, rules)
 pub overflow_add-result : goal.overflow_add-result
 overflow_add-result c = omega (arith, variable-room _ _ _ _ _ c.requires)
 
-pub offset_bounds-directory-g : goal.offset_bounds-directory-g
-offset_bounds-directory-g c = omega (arith, variable-room _ _ _ _ _ c.requires)
+pub offset_bounds-source-g : goal.offset_bounds-source-g
+offset_bounds-source-g c = omega (arith, variable-room _ _ _ _ _ c.requires)
 
-pub bounds-directory-g : goal.bounds-directory-g
-bounds-directory-g c = omega (arith, variable-room _ _ _ _ _ c.requires)
+pub bounds-source-g : goal.bounds-source-g
+bounds-source-g c = omega (arith, variable-room _ _ _ _ _ c.requires)
 
-pub offset_bounds-slots-directory : goal.offset_bounds-slots-directory
-offset_bounds-slots-directory c = omega (arith, variable-room _ _ _ _ _ c.requires)
+pub offset_bounds-slots-source : goal.offset_bounds-slots-source
+offset_bounds-slots-source c = omega (arith, variable-room _ _ _ _ _ c.requires)
 
-pub bounds-slots-directory : goal.bounds-slots-directory
-bounds-slots-directory c = omega (arith, variable-room _ _ _ _ _ c.requires)
+pub bounds-slots-source : goal.bounds-slots-source
+bounds-slots-source c = omega (arith, variable-room _ _ _ _ _ c.requires)
 
 pub returns : goal.returns
 returns c = search (stored, rules)

@@ -5,20 +5,20 @@ use native.Mathlib.Omega.{arith}
 use borrow.Author.Rules.{rules}
 use Rattle.store.proofs.globals.put_field.Goals as goal
 
-pub bounds-nums-at : goal.bounds-nums-at
-bounds-nums-at c = omega (arith, field_room _ _ _ _ _ c.requires.asks)
+pub bounds-source-at : goal.bounds-source-at
+bounds-source-at c = omega (arith, field_room _ _ _ _ _ c.requires.asks)
 
-pub bounds-nums-at-2 : goal.bounds-nums-at-2
-bounds-nums-at-2 c = omega (arith, field_room _ _ _ _ _ c.requires.asks)
+pub bounds-source-at-2 : goal.bounds-source-at-2
+bounds-source-at-2 c = omega (arith, field_room _ _ _ _ _ c.requires.asks)
 
 pub overflow_add-mark : goal.overflow_add-mark
 overflow_add-mark c = omega (arith, field_room _ _ _ _ _ c.requires.asks)
 
-pub offset_bounds-directory-g : goal.offset_bounds-directory-g
-offset_bounds-directory-g c = omega (arith, field_room _ _ _ _ _ c.requires.asks)
+pub offset_bounds-source-g : goal.offset_bounds-source-g
+offset_bounds-source-g c = omega (arith, field_room _ _ _ _ _ c.requires.asks)
 
-pub bounds-directory-g : goal.bounds-directory-g
-bounds-directory-g c = omega (arith, field_room _ _ _ _ _ c.requires.asks)
+pub bounds-source-g : goal.bounds-source-g
+bounds-source-g c = omega (arith, field_room _ _ _ _ _ c.requires.asks)
 
 pub offset_bounds-slots-mark : goal.offset_bounds-slots-mark
 offset_bounds-slots-mark c = omega (arith, field_room _ _ _ _ _ c.requires.asks)
