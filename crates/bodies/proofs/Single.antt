@@ -7,6 +7,8 @@ use Prim.Native.Nat.{ℕ, suc, ◌+◌, ◌-◌, ◌<◌}
 use native.Mathlib.Omega.{arith}
 use lib.ListN.{length, get_or, get_elem?}
 use lib.Dec.{eqb}
+use Rattle.std.specs.Prelude.{Ok, Err}
+use Rattle.rules.specs.declared.Fault.{Fault}
 use Rattle.rules.specs.Numbers.{most_bytes}
 use Rattle.rules.specs.Syntax.{Place, Expr, read_of, Args, place_in, Stmt, empty, assign, call_stmt, apply, return, exit, extract, verify}
 use Rattle.rules.specs.Form.{Res, ok, fault, ◌>>=◌, named, need, callable_below, Scope, writable_in, judge_extracted, judge_global, judge_header_at, need_ty, judge_given, may_call, judge_expr, judge_args, is_apply, is_state, judge_stmt, returns_on}
@@ -15,15 +17,10 @@ use Rattle.program.specs.Stands.{Holds, StandsExpr, on-place, StandsStmt, on-emp
 use Rattle.program.specs.Scopes.{StandsScope}
 use Rattle.program.proofs.Views.{expr-begins, StmtView, BareView, AssignView, CallStmtView, NamedView, ReturnView, VerifyView, stmt-view, stmt-begins}
 use Rattle.program.proofs.Members.{same-types}
-use Rattle.bodies.specs.declared.Typed.{Typed}
-use Rattle.bodies.specs.declared.Typed.TheVariants as typed
-use Rattle.bodies.specs.declared.Formed.{Formed}
-use Rattle.bodies.specs.declared.Formed.TheVariants.{Fine, Faulty}
-use Rattle.bodies.specs.declared.Called.{Called}
-use Rattle.bodies.specs.declared.Called.TheVariants.{Returns, Uncalled}
-use Rattle.bodies.specs.Claims.{AsksExpr, JudgesExpr, told_stmt, JudgesStmt}
+use Rattle.bodies.specs.declared.Callee.{Callee}
+use Rattle.bodies.specs.Claims.{Typed, Formed, AsksExpr, JudgesExpr, told_stmt, JudgesStmt}
 use Rattle.bodies.specs.Leaves.{AsksName, AsksWritable, IsWritable, AsksLeaf, JudgesLeaf}
-use Rattle.bodies.specs.Calls.{StandsCall, judge_call, told_call, AsksCall, JudgesCall}
+use Rattle.bodies.specs.Calls.{Called, StandsCall, judge_call, told_call, AsksCall, JudgesCall}
 use Rattle.bodies.specs.Forms.{Forms, ruled, ruled_both, FormsIn, called_in, returned_in, applied_in, Applies, left_in, parsed_in, MarksIn, ExtractsIn, AsksTagged, AsksSingle}
 use Rattle.bodies.proofs.Typing.{bool-rule}
 use Rattle.bodies.proofs.Operating.{place-low, typed-is, fault-is}
@@ -94,31 +91,31 @@ module _ (nums directory ends : List ℕ) (scope : coded.Scope) (depth at : ℕ)
     }
 
     module _ (a : Typed) (j : JudgesLeaf nums directory ends scope (at + 1) a) where
-      pub target-fault : (number index : ℕ) → a ≡ typed.Fault number index
-          → JudgesStmt nums directory ends scope depth at (Faulty number index)
+      pub target-fault : (wrong : Fault) → a ≡ Err wrong
+          → JudgesStmt nums directory ends scope depth at (Err wrong)
       unfolding told_stmt judge_stmt judge_expr ◌>>=◌
-      target-fault number index k = record {
+      target-fault wrong k = record {
         judged = λ Γ s z h.
             let v : AssignView nums ends depth at s = assign-of s h asks.is in
-            rw (v.same, fault-is (j.judges (depth - 1)) Γ _ z (target-stands s v) number index k);
+            rw (v.same, fault-is (j.judges (depth - 1)) Γ _ z (target-stands s v) wrong k);
       }
 
-      module _ (t : ℕ) (k : a ≡ typed.Ty t) (b : Typed)
+      module _ (t : ℕ) (k : a ≡ Ok t) (b : Typed)
           (l : JudgesExpr nums directory ends scope (depth - 1) (get_or ends (at + 1) 0) b) where
-        pub value-fault : (number index : ℕ) → b ≡ typed.Fault number index
-            → JudgesStmt nums directory ends scope depth at (Faulty number index)
+        pub value-fault : (wrong : Fault) → b ≡ Err wrong
+            → JudgesStmt nums directory ends scope depth at (Err wrong)
         unfolding told_stmt judge_stmt judge_expr ◌>>=◌
-        value-fault number index m = record {
+        value-fault wrong m = record {
           judged = λ Γ s z h.
               let v : AssignView nums ends depth at s = assign-of s h asks.is in
               rw (
                 v.same,
                 typed-is (j.judges (depth - 1)) Γ _ z (target-stands s v) t k,
-                fault-is l Γ v.value z v.value_stands number index m,
+                fault-is l Γ v.value z v.value_stands wrong m,
               );
         }
 
-        pub assign-told : (u : ℕ) → b ≡ typed.Ty u → (writes : Bool) → IsWritable nums scope (at + 1) writes
+        pub assign-told : (u : ℕ) → b ≡ Ok u → (writes : Bool) → IsWritable nums scope (at + 1) writes
             → (r : Formed)
             → Forms r (ruled_both at (eqb t u) writes) → JudgesStmt nums directory ends scope depth at r
         assign-told u m writes i r f = record {
@@ -193,17 +190,17 @@ module _ (nums directory ends : List ℕ) (scope : coded.Scope) (depth at : ℕ)
         ∙ ap (λ x. x >>= λ _. ok false) (formed-call Γ at v.callable v.arguments)
         ∙ sym (ap (λ x. judge_stmt Γ x >>= λ _. ok (returns_on x)) v.same)
 
-    pub call-stmt-told : (kind returns : ℕ) → c ≡ Returns kind returns → (r : Formed)
-        → FormsIn scope (called_in at kind returns) r → JudgesStmt nums directory ends scope depth at r
+    pub call-stmt-told : (callee : Callee) → c ≡ Ok callee → (r : Formed)
+        → FormsIn scope (called_in at callee.kind callee.returns) r → JudgesStmt nums directory ends scope depth at r
     unfolding called_in ruled told_call ◌>>=◌
-    call-stmt-told kind returns k r f = record {
+    call-stmt-told callee k r f = record {
       judged = λ Γ s z h. f.judged Γ.body z.body ∙ rw k at (call-is Γ s z h);
     }
 
-    pub call-stmt-fault : (number index : ℕ) → c ≡ Uncalled number index
-        → JudgesStmt nums directory ends scope depth at (Faulty number index)
+    pub call-stmt-fault : (wrong : Fault) → c ≡ Err wrong
+        → JudgesStmt nums directory ends scope depth at (Err wrong)
     unfolding told_stmt told_call ◌>>=◌
-    call-stmt-fault number index k = record { judged = λ Γ s z h. rw k at (call-is Γ s z h) }
+    call-stmt-fault wrong k = record { judged = λ Γ s z h. rw k at (call-is Γ s z h) }
 
   -- a return with a value
   return_of : (s : Stmt) → StandsStmt nums ends depth at s → get_or nums at 0 ≡ 6 → ReturnView nums ends depth at s
@@ -224,7 +221,7 @@ module _ (nums directory ends : List ℕ) (scope : coded.Scope) (depth at : ℕ)
     return-deep = (stmt-begins asks.asks.stands).levels
 
     module _ (a : Typed) (j : JudgesExpr nums directory ends scope (depth - 1) (at + 1) a) where
-      pub returned-told : (t : ℕ) → a ≡ typed.Ty t → (r : Formed) → FormsIn scope (returned_in at t) r
+      pub returned-told : (t : ℕ) → a ≡ Ok t → (r : Formed) → FormsIn scope (returned_in at t) r
           → JudgesStmt nums directory ends scope depth at r
       unfolding returned_in judge_stmt returns_on ◌>>=◌
       returned-told t k r f = record {
@@ -233,13 +230,13 @@ module _ (nums directory ends : List ℕ) (scope : coded.Scope) (depth at : ℕ)
             f.judged Γ.body z.body ∙ rw (v.same, typed-is j Γ v.value z v.stands t k);
       }
 
-      pub returned-fault : (number index : ℕ) → a ≡ typed.Fault number index
-          → JudgesStmt nums directory ends scope depth at (Faulty number index)
+      pub returned-fault : (wrong : Fault) → a ≡ Err wrong
+          → JudgesStmt nums directory ends scope depth at (Err wrong)
       unfolding told_stmt judge_stmt ◌>>=◌
-      returned-fault number index k = record {
+      returned-fault wrong k = record {
         judged = λ Γ s z h.
             let v : ReturnView nums ends depth at s = return_of s h asks.is in
-            rw (v.same, fault-is j Γ v.value z v.stands number index k);
+            rw (v.same, fault-is j Γ v.value z v.stands wrong k);
       }
 
   -- a verify
@@ -261,7 +258,7 @@ module _ (nums directory ends : List ℕ) (scope : coded.Scope) (depth at : ℕ)
     verify-deep = (stmt-begins asks.asks.stands).levels
 
     module _ (a : Typed) (j : JudgesExpr nums directory ends scope (depth - 1) (at + 1) a) where
-      pub verified-told : (t : ℕ) → a ≡ typed.Ty t → (r : Formed) → FormsIn scope (parsed_in at (eqb t 0)) r
+      pub verified-told : (t : ℕ) → a ≡ Ok t → (r : Formed) → FormsIn scope (parsed_in at (eqb t 0)) r
           → JudgesStmt nums directory ends scope depth at r
       verified-told t k r f = record {
         judged = λ Γ s z h.
@@ -270,13 +267,13 @@ module _ (nums directory ends : List ℕ) (scope : coded.Scope) (depth at : ℕ)
             ∙ verify-is Γ at t v.condition v.error s v.same (typed-is j Γ v.condition z v.stands t k);
       }
 
-      pub verified-fault : (number index : ℕ) → a ≡ typed.Fault number index
-          → JudgesStmt nums directory ends scope depth at (Faulty number index)
+      pub verified-fault : (wrong : Fault) → a ≡ Err wrong
+          → JudgesStmt nums directory ends scope depth at (Err wrong)
       unfolding told_stmt judge_stmt ◌>>=◌
-      verified-fault number index k = record {
+      verified-fault wrong k = record {
         judged = λ Γ s z h.
             let v : VerifyView nums ends depth at s = verify-of s h asks.is in
-            rw (v.same, fault-is j Γ v.condition z v.stands number index k);
+            rw (v.same, fault-is j Γ v.condition z v.stands wrong k);
       }
 
 pub ruleset holding = (
@@ -377,7 +374,7 @@ module _ (nums directory ends : List ℕ) (scope : coded.Scope) (depth at : ℕ)
         judged = λ Γ s z h. f.judged Γ z ∙ rw (marks s h).holds.is (sym ((marks s h).judged Γ));
       }
 
-  pub empty-told : get_or nums at 0 ≡ 0 → JudgesStmt nums directory ends scope depth at (Fine false)
+  pub empty-told : get_or nums at 0 ≡ 0 → JudgesStmt nums directory ends scope depth at (Ok false)
   unfolding StmtView told_stmt judge_stmt returns_on ◌>>=◌
   empty-told k = record {
     judged = λ Γ s z h.

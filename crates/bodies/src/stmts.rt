@@ -18,13 +18,11 @@ fn judge_stmts(source: &Source, scope: &Scope, depth: usize, at: usize, count: u
     ensures { In JudgesStmts source.now scope.now depth at count result }
 {
     let mut next = at;
-    let mut left = count;
     let mut returns = false;
-    while left != 0 {
+    for _ in 0..count {
         let each = judge_stmt(source, scope, depth, next)?;
         returns = either(returns, each);
         next = source.ends[next] as usize;
-        left -= 1;
     }
     Ok(returns)
 }
