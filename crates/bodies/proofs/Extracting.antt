@@ -2,7 +2,7 @@
 -- judgement.
 use Rattle.program.specs.declared.Scope as coded
 use mathlib.Core.Bool.{Bool, true, false}
-use mathlib.Core.Path.{◌≡◌, refl, sym, ◌∙◌}
+use mathlib.Core.Path.{◌≡◌, refl, sym, ap, ◌∙◌}
 use mathlib.Core.List.{List, [], ◌∷◌}
 use Prim.Native.Nat.{ℕ, ◌+◌, ◌-◌, ◌*◌, ◌%◌, ◌≤◌, ◌<◌}
 use native.Mathlib.Omega.{arith}
@@ -152,10 +152,11 @@ in-state at true in_state = refl
 
 module _ (nums directory ends : List ℕ) (scope : coded.Scope) (at : ℕ) (x : Optional Found)
     (f : FindsGlobal nums directory ends (get_or nums (at + 1) 0) x) where
-  pub extract-of-variable : (t : ℕ) → x ≡ Some (Variable t) → ExtractsIn nums directory ends scope at (refused reason.Type at)
+  pub extract-of-variable : (y : Found) → x ≡ Some y → (t : ℕ) → y ≡ Variable t
+      → ExtractsIn nums directory ends scope at (refused reason.Type at)
   unfolding FoundShape judge_global judge_extracted named ◌>>=◌ told_stmt
-  extract-of-variable t e = record {
-    judged = λ Γ s. rw (shape_of nums directory ends scope at x (Variable t) f e Γ s).1;
+  extract-of-variable y p t k = record {
+    judged = λ Γ s. rw (shape_of nums directory ends scope at x (Some (Variable t)) f (p ∙ ap Some k) Γ s).1;
   }
 
   pub extract-none : x ≡ None → ExtractsIn nums directory ends scope at (refused reason.Unnamed (at + 1))
@@ -164,11 +165,11 @@ module _ (nums directory ends : List ℕ) (scope : coded.Scope) (at : ℕ) (x : 
     judged = λ Γ s. unnamed at ∙ rw (nothing-found nums directory ends scope at x f e Γ s);
   }
 
-  module _ (h : ℕ) (e : x ≡ Some (Header h)) where
+  module _ (y : Found) (p : x ≡ Some y) (h : ℕ) (e : y ≡ Header h) where
     pub extract-widths : AsksName nums directory ends scope at → AsksWidths nums h
     extract-widths asks =
         let q : HeaderFound nums h (global_at asks.scope_of.program (get_or nums (at + 1) 0))
-        = header-found nums directory ends scope at x f h e asks.scope_of asks.seen in
+        = header-found nums directory ends scope at x f y p h e asks.scope_of asks.seen in
         record { numbers = asks.seen.program.numbers; widths = q.widths; count = q.count; stand = q.stand }
 
     pub extract-header : (whole : Bool) → IsWhole nums h whole → (r : Formed) → FormsIn scope (parsed_in at whole) r
@@ -177,7 +178,7 @@ module _ (nums directory ends : List ℕ) (scope : coded.Scope) (at : ℕ) (x : 
     extract-header whole i r q = record {
       judged = λ Γ s.
           let k : HeaderFound nums h (global_at Γ.program (get_or nums (at + 1) 0))
-          = header-found nums directory ends scope at x f h e Γ s in
+          = header-found nums directory ends scope at x f y p h e Γ s in
           q.judged Γ.body s.body
           ∙ in-state at whole Γ.body
           ∙ rw (k.is, i.is k.widths k.count k.stand);

@@ -22,7 +22,7 @@ use Rattle.program.specs.Scopes.{body_numbered}
 use Rattle.program.specs.Looks.{returns_of}
 use Rattle.program.proofs.Found.{At, member-at}
 use Rattle.program.proofs.Members.{same-types}
-use Rattle.bodies.specs.Claims.{Typed, Formed, refused, told_ty, told_stmt}
+use Rattle.bodies.specs.Claims.{Formed, refused, told_ty, told_stmt}
 use Rattle.bodies.specs.Leaves.{TypedIn, header_ty}
 use Rattle.bodies.specs.Forms.{Forms, ruled, ruled_both, chosen_as, FormsIn, called_in, returned_in, applied_in, Applies, left_in, parsed_in, MarksIn}
 use Rattle.bodies.proofs.Typing.{more}
@@ -193,19 +193,19 @@ marked-fault (fault m i) number index u e =
     let g : index ≡ i = cc in
     rw (f, g)
 
-module _ (nums directory ends : List ℕ) (scope : coded.Scope) (at : ℕ) (a : Typed)
-    (j : TypedIn nums directory ends scope (header_ty nums at) a) where
-  pub mark-fine : (t : ℕ) → a ≡ Ok t → MarksIn nums directory ends scope at (Ok false)
+module _ (nums directory ends : List ℕ) (scope : coded.Scope) (at : ℕ) where
+  pub mark-fine : (t : ℕ) → TypedIn nums directory ends scope (header_ty nums at) (Ok t)
+      → MarksIn nums directory ends scope at (Ok false)
   unfolding header_ty told_ty told_stmt
-  mark-fine t k = record {
-    judged = λ Γ s. marked-fine (judge_header_at Γ at (get_or nums (at + 1) 0)) (ty_of t) _ (rw k at (j.judged Γ s));
+  mark-fine t j = record {
+    judged = λ Γ s. marked-fine (judge_header_at Γ at (get_or nums (at + 1) 0)) (ty_of t) _ (j.judged Γ s);
   }
 
-  pub mark-fault : (wrong : Fault) → a ≡ Err wrong
+  pub mark-fault : (wrong : Fault) → TypedIn nums directory ends scope (header_ty nums at) (Err wrong)
       → MarksIn nums directory ends scope at (Err wrong)
   unfolding header_ty told_ty told_stmt
-  mark-fault wrong k = record {
-    judged = λ Γ s. marked-fault (judge_header_at Γ at (get_or nums (at + 1) 0)) _ _ _ (rw k at (j.judged Γ s));
+  mark-fault wrong j = record {
+    judged = λ Γ s. marked-fault (judge_header_at Γ at (get_or nums (at + 1) 0)) _ _ _ (j.judged Γ s);
   }
 
 pub ruleset marking = (table-applies, table_none, mark-fine, mark-fault)

@@ -81,14 +81,6 @@ module _ (nums directory ends : List ℕ) (scope : coded.Scope) (depth at : ℕ)
       → JudgesExpr nums directory ends scope depth at r
   leaf-told r j = j.judges depth
 
-  pub typed-again : (a : Typed) (t : ℕ) → JudgesExpr nums directory ends scope depth at a → a ≡ Ok t
-      → JudgesExpr nums directory ends scope depth at (Ok t)
-  typed-again a t j k = rw k at j
-
-  pub fault-again : (a : Typed) (wrong : Fault) → JudgesExpr nums directory ends scope depth at a
-      → a ≡ Err wrong → JudgesExpr nums directory ends scope depth at (Err wrong)
-  fault-again a wrong j k = rw k at j
-
   call-of : (e : Expr) → StandsExpr nums ends depth at e → get_or nums at 0 ≡ 13 → CallView nums ends depth at e
   unfolding ExprView
   call-of e h k = rw k at (expr-view h)
@@ -114,40 +106,36 @@ module _ (nums directory ends : List ℕ) (scope : coded.Scope) (depth at : ℕ)
         stands = call-stands asks.expr asks.stands v;
       }
 
-  pub returns-most : (c : Called) (callee : Callee) → JudgesCall nums directory ends scope depth at c → c ≡ Ok callee
+  pub returns-most : (callee : Callee) → JudgesCall nums directory ends scope depth at (Ok callee)
       → callee.returns ≤ widest
   unfolding CalledMost
-  returns-most c callee j k =
-      let m : CalledMost (Ok callee) = rw k at j.most in
-      m
+  returns-most callee j = j.most
 
-  module _ (k : get_or nums at 0 ≡ 13) (c : Called) (j : JudgesCall nums directory ends scope depth at c) where
-    call-is : (Γ : Scope) (e : Expr) → StandsScope nums directory ends scope Γ → (h : StandsExpr nums ends depth at e)
+  module _ (k : get_or nums at 0 ≡ 13) where
+    call-is : {c : Called} → JudgesCall nums directory ends scope depth at c → (Γ : Scope) (e : Expr) → StandsScope nums directory ends scope Γ → (h : StandsExpr nums ends depth at e)
         → (told_call c >>= value_in at Γ.body) ≡ judge_expr Γ e
-    call-is Γ e s h =
+    call-is j Γ e s h =
         let v : CallView nums ends depth at e = call-of e h k in
         ap (λ x. x >>= value_in at Γ.body) (j.judged Γ v.callable v.arguments s (call-stands e h v))
         ∙ value-of-call Γ at v.callable v.arguments ∙ sym (ap (judge_expr Γ) v.same)
 
-    pub call-told : (callee : Callee) → c ≡ Ok callee → (r : Typed)
+    pub call-told : (callee : Callee) → JudgesCall nums directory ends scope depth at (Ok callee) → (r : Typed)
         → TellsIn scope (value_ty at callee.kind callee.returns) r → JudgesExpr nums directory ends scope depth at r
     unfolding value_ty told_call ◌>>=◌
-    call-told callee e r q = record {
-      judged = λ Γ x s h. q.judged Γ.body s.body ∙ rw e at (call-is Γ x s h);
+    call-told callee j r q = record {
+      judged = λ Γ x s h. q.judged Γ.body s.body ∙ call-is j Γ x s h;
       most = q.most;
     }
 
-    pub call-fault : (wrong : Fault) → c ≡ Err wrong
+    pub call-fault : (wrong : Fault) → JudgesCall nums directory ends scope depth at (Err wrong)
         → JudgesExpr nums directory ends scope depth at (Err wrong)
     unfolding told_ty TyMost told_call ◌>>=◌
-    call-fault wrong e = record { judged = λ Γ x s h. rw e at (call-is Γ x s h); most = tt }
+    call-fault wrong j = record { judged = λ Γ x s h. call-is j Γ x s h; most = tt }
 
 pub ruleset judging = (
   expr-inside,
   leaf-asks,
   leaf-told,
-  typed-again,
-  fault-again,
   call_asks,
   returns-most,
   call-told,

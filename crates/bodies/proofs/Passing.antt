@@ -154,39 +154,39 @@ module _ (nums directory ends : List ℕ) (scope : coded.Scope) (depth at : ℕ)
     pub head-most : returns ≤ widest
     head-most = (reached asks.scope_of asks.seen).found.returns_most
 
-    module _ (p : Passed)
-        (j : JudgesArgs nums directory ends scope (depth - 1) (at + 3) (get_or nums (at + 2) 0) parameters count p) where
-      passed_is : (Γ : Scope) (xs : Args) (s : StandsScope nums directory ends scope Γ) (g : ℕ)
-          → StandsCall nums ends depth at g xs
-          → told_passed p ≡ (judge_args Γ xs >>= λ given. ok (agreement (reached Γ s).callable.parameters given))
-      passed_is Γ xs s g c =
-          j.judged Γ xs (reached Γ s).callable.parameters s c.stand c.count.holds.is
-          (reached Γ s).found.parameters_stand (reached Γ s).found.count_is
+    abbrev Answers : Passed → Type 0
+    Answers p = JudgesArgs nums directory ends scope (depth - 1) (at + 3) (get_or nums (at + 2) 0) parameters count p
 
-      pub call_settled : (a : Agreed) → p ≡ Ok a → (r : Called)
-          → Settles at kind returns a.types a.places r → JudgesCall nums directory ends scope depth at r
-      unfolding told_passed judge_call named ◌>>=◌
-      call_settled a e r q = record {
-        judged = λ Γ g xs s c.
-            let x : GivenOf (judge_args Γ xs) (reached Γ s).callable.parameters a.types a.places
-            = given-of (judge_args Γ xs) (reached Γ s).callable.parameters a.types a.places
-            (rw e at (passed_is Γ xs s g c)) in
-            q.told
-            ∙ settled-call at a.types a.places (returns_of kind returns) (reached Γ s).callable (judge_args Γ xs) x.given
-            x.is x.types_are x.places_are (reached Γ s).found.returns_is
-            ∙ rw (← c.holds.is, (reached Γ s).is);
-        most = q.most;
-      }
+    passed_is : {p : Passed} → Answers p → (Γ : Scope) (xs : Args) (s : StandsScope nums directory ends scope Γ) (g : ℕ)
+        → StandsCall nums ends depth at g xs
+        → told_passed p ≡ (judge_args Γ xs >>= λ given. ok (agreement (reached Γ s).callable.parameters given))
+    passed_is j Γ xs s g c =
+        j.judged Γ xs (reached Γ s).callable.parameters s c.stand c.count.holds.is
+        (reached Γ s).found.parameters_stand (reached Γ s).found.count_is
 
-      pub call-unpassed : (wrong : Fault) → p ≡ Err wrong → JudgesCall nums directory ends scope depth at (Err wrong)
-      unfolding told_passed told_call CalledMost judge_call named ◌>>=◌
-      call-unpassed wrong e = record {
-        judged = λ Γ g xs s c.
-            let x : judge_args Γ xs ≡ fault (number_of wrong.reason) wrong.index
-            = given-fault (judge_args Γ xs) (reached Γ s).callable.parameters _ _ (rw e at (passed_is Γ xs s g c)) in
-            rw (← c.holds.is, (reached Γ s).is, x);
-        most = tt;
-      }
+    pub call_settled : (a : Agreed) → Answers (Ok a) → (r : Called) → Settles at kind returns a.types a.places r
+        → JudgesCall nums directory ends scope depth at r
+    unfolding told_passed judge_call named ◌>>=◌
+    call_settled a j r q = record {
+      judged = λ Γ g xs s c.
+          let x : GivenOf (judge_args Γ xs) (reached Γ s).callable.parameters a.types a.places
+          = given-of (judge_args Γ xs) (reached Γ s).callable.parameters a.types a.places (passed_is j Γ xs s g c) in
+          q.told
+          ∙ settled-call at a.types a.places (returns_of kind returns) (reached Γ s).callable (judge_args Γ xs) x.given
+          x.is x.types_are x.places_are (reached Γ s).found.returns_is
+          ∙ rw (← c.holds.is, (reached Γ s).is);
+      most = q.most;
+    }
+
+    pub call-unpassed : (wrong : Fault) → Answers (Err wrong) → JudgesCall nums directory ends scope depth at (Err wrong)
+    unfolding told_passed told_call CalledMost judge_call named ◌>>=◌
+    call-unpassed wrong j = record {
+      judged = λ Γ g xs s c.
+          let x : judge_args Γ xs ≡ fault (number_of wrong.reason) wrong.index
+          = given-fault (judge_args Γ xs) (reached Γ s).callable.parameters _ _ (passed_is j Γ xs s g c) in
+          rw (← c.holds.is, (reached Γ s).is, x);
+      most = tt;
+    }
 
 pub ruleset calling = (
   callable-inside,
@@ -317,56 +317,57 @@ module _ (nums directory ends : List ℕ) (scope : coded.Scope) (depth at count 
           }
 
       -- the first argument, and those behind it
-      module _ (a : Typed) (j : JudgesExpr nums directory ends scope depth at a) where
-        pub arg-fault : (wrong : Fault) → a ≡ Err wrong
+      pub arg-fault : (wrong : Fault) → JudgesExpr nums directory ends scope depth at (Err wrong)
+          → JudgesArgs nums directory ends scope depth at count parameters left (Err wrong)
+      unfolding told_passed judge_args ◌>>=◌
+      arg-fault wrong j = record {
+        judged = λ Γ xs ps s h e p l.
+            let v : ArgView nums ends depth at count xs = arg_view count xs h e more in
+            rw (v.same, fault-is j Γ v.first s v.first_stands);
+      }
+
+      module _ (t : ℕ) (j : JudgesExpr nums directory ends scope depth at (Ok t)) (w : Optional Wanted)
+          (q : IsWanted nums parameters left w) (next left' : ℕ) (o : Behind nums w next left') where
+        others_of : (ps : List Parameter) → StandsParameters nums parameters ps → left ≡ length ps
+            → Others nums w next left' ps
+        others_of ps p l = o.others ps (q.told ps p l)
+
+        abbrev Rest : Passed → Type 0
+        Rest b = JudgesArgs nums directory ends scope depth (get_or ends at 0) (count - 1) next left' b
+
+        rest-is : {b : Passed} → Rest b → (Γ : Scope) → StandsScope nums directory ends scope Γ → (xs : Args)
+            (v : ArgView nums ends depth at count xs) (ps : List Parameter) (z : Others nums w next left' ps)
+            → told_passed b ≡ (judge_args Γ v.others >>= λ given. ok (agreement z.wanted given))
+        rest-is r Γ s xs v ps z = r.judged Γ v.others z.wanted s v.others_stand v.fewer z.stand z.left_is
+
+        pub rest-fault : (wrong : Fault) → Rest (Err wrong)
             → JudgesArgs nums directory ends scope depth at count parameters left (Err wrong)
         unfolding told_passed judge_args ◌>>=◌
-        arg-fault wrong k = record {
+        rest-fault wrong r = record {
           judged = λ Γ xs ps s h e p l.
               let v : ArgView nums ends depth at count xs = arg_view count xs h e more in
-              rw (v.same, fault-is j Γ v.first s v.first_stands wrong k);
+              let z : Others nums w next left' ps = others_of ps p l in
+              let y : judge_args Γ v.others ≡ fault (number_of wrong.reason) wrong.index
+              = given-fault (judge_args Γ v.others) z.wanted _ _ (rest-is r Γ s xs v ps z) in
+              rw (v.same, typed-is j Γ v.first s v.first_stands, y);
         }
 
-        module _ (t : ℕ) (k : a ≡ Ok t) (w : Optional Wanted) (q : IsWanted nums parameters left w) (next left' : ℕ)
-            (o : Behind nums w next left') (b : Passed)
-            (r : JudgesArgs nums directory ends scope depth (get_or ends at 0) (count - 1) next left' b) where
-          others_of : (ps : List Parameter) → StandsParameters nums parameters ps → left ≡ length ps
-              → Others nums w next left' ps
-          others_of ps p l = o.others ps (q.told ps p l)
-
-          rest-is : (Γ : Scope) → StandsScope nums directory ends scope Γ → (xs : Args)
-              (v : ArgView nums ends depth at count xs) (ps : List Parameter) (z : Others nums w next left' ps)
-              → told_passed b ≡ (judge_args Γ v.others >>= λ given. ok (agreement z.wanted given))
-          rest-is Γ s xs v ps z = r.judged Γ v.others z.wanted s v.others_stand v.fewer z.stand z.left_is
-
-          pub rest-fault : (wrong : Fault) → b ≡ Err wrong
-              → JudgesArgs nums directory ends scope depth at count parameters left (Err wrong)
-          unfolding told_passed judge_args ◌>>=◌
-          rest-fault wrong m = record {
-            judged = λ Γ xs ps s h e p l.
-                let v : ArgView nums ends depth at count xs = arg_view count xs h e more in
-                let z : Others nums w next left' ps = others_of ps p l in
-                let y : judge_args Γ v.others ≡ fault (number_of wrong.reason) wrong.index
-                = given-fault (judge_args Γ v.others) z.wanted _ _ (rw m at (rest-is Γ s xs v ps z)) in
-                rw (v.same, typed-is j Γ v.first s v.first_stands t k, y);
-          }
-
-          pub rest-told : (behind : Agreed) → b ≡ Ok behind → (writable : Bool) → IsWritable nums scope at writable
-              → (c : Agreed) → Weighs w t writable behind c
-              → JudgesArgs nums directory ends scope depth at count parameters left (Ok c)
-          unfolding told_passed ◌>>=◌
-          rest-told behind m writable i c u = record {
-            judged = λ Γ xs ps s h e p l.
-                let v : ArgView nums ends depth at count xs = arg_view count xs h e more in
-                let z : Others nums w next left' ps = others_of ps p l in
-                let x : GivenOf (judge_args Γ v.others) z.wanted behind.types behind.places
-                = given-of (judge_args Γ v.others) z.wanted behind.types behind.places (rw m at (rest-is Γ s xs v ps z)) in
-                ap (λ a. told_passed (Ok a)) u.told
-                ∙ z.agrees t writable behind x.given x.types_are x.places_are
-                ∙ ap (λ y. y >>= λ given. ok (agreement ps given)) (args-given Γ v.first v.others xs t writable
-                x.given v.same (typed-is j Γ v.first s v.first_stands t k) x.is
-                (i.told directory ends depth Γ v.first s v.first_stands));
-          }
+        pub rest-told : (behind : Agreed) → Rest (Ok behind) → (writable : Bool) → IsWritable nums scope at writable
+            → (c : Agreed) → Weighs w t writable behind c
+            → JudgesArgs nums directory ends scope depth at count parameters left (Ok c)
+        unfolding told_passed ◌>>=◌
+        rest-told behind r writable i c u = record {
+          judged = λ Γ xs ps s h e p l.
+              let v : ArgView nums ends depth at count xs = arg_view count xs h e more in
+              let z : Others nums w next left' ps = others_of ps p l in
+              let x : GivenOf (judge_args Γ v.others) z.wanted behind.types behind.places
+              = given-of (judge_args Γ v.others) z.wanted behind.types behind.places (rest-is r Γ s xs v ps z) in
+              ap (λ a. told_passed (Ok a)) u.told
+              ∙ z.agrees t writable behind x.given x.types_are x.places_are
+              ∙ ap (λ y. y >>= λ given. ok (agreement ps given)) (args-given Γ v.first v.others xs t writable
+              x.given v.same (typed-is j Γ v.first s v.first_stands) x.is
+              (i.told directory ends depth Γ v.first s v.first_stands));
+        }
 
 pub ruleset passing = (
   behind-next,

@@ -2,7 +2,7 @@
 use Rattle.program.specs.declared.Scope as coded
 use mathlib.Core.Bool.{Bool, true, false}
 use mathlib.Core.Option.{none}
-use mathlib.Core.Path.{◌≡◌, refl, ◌∙◌}
+use mathlib.Core.Path.{◌≡◌, refl, ap, ◌∙◌}
 use mathlib.Core.List.{List}
 use Prim.Native.Nat.{ℕ, ◌+◌, ◌≤◌, ◌<◌}
 use native.Mathlib.Omega.{arith}
@@ -42,32 +42,38 @@ module _ (nums directory ends : List ℕ) (scope : coded.Scope) (at : ℕ) where
     shape_of = rw e at (f.found Γ.program s.end s.program)
 
   module _ (x : Optional Found) (f : FindsGlobal nums directory ends (get_or nums (at + 1) 0) x) where
-    module _ (t : ℕ) (e : x ≡ Some (Variable t)) where
+    module _ (y : Found) (p : x ≡ Some y) (t : ℕ) (k : y ≡ Variable t) where
+      abbrev a_variable_found : x ≡ Some (Variable t)
+      a_variable_found = p ∙ ap Some k
+
       pub variable-most : AsksName nums directory ends scope at → t ≤ widest
       unfolding FoundShape
-      variable-most asks = (shape_of x (Some (Variable t)) f e asks.scope_of asks.seen).0
+      variable-most asks = (shape_of x (Some (Variable t)) f a_variable_found asks.scope_of asks.seen).0
 
       pub variable-seen : (r : Typed) → SeenTyped scope at t r
           → TypedIn nums directory ends scope (variable_ty nums at) r
       unfolding FoundShape variable_ty judge_place judge_global judge_variable named ◌>>=◌
       variable-seen r q = record {
-        judged = λ Γ s. rw (shape_of x (Some (Variable t)) f e Γ s).1 (q.judged Γ.body s.body);
+        judged = λ Γ s. rw (shape_of x (Some (Variable t)) f a_variable_found Γ s).1 (q.judged Γ.body s.body);
         most = q.most;
       }
 
       pub field-of-variable : TypedIn nums directory ends scope (field_ty nums at) (refused reason.Type at)
       unfolding FoundShape field_ty judge_place judge_global judge_field named ◌>>=◌ told_ty TyMost
-      field-of-variable = record { judged = λ Γ s. rw (shape_of x (Some (Variable t)) f e Γ s).1; most = tt }
+      field-of-variable = record { judged = λ Γ s. rw (shape_of x (Some (Variable t)) f a_variable_found Γ s).1; most = tt }
 
       pub header-of-variable : TypedIn nums directory ends scope (header_ty nums at) (refused reason.Type at)
       unfolding FoundShape header_ty judge_header_at judge_global judge_header named ◌>>=◌ told_ty TyMost
-      header-of-variable = record { judged = λ Γ s. rw (shape_of x (Some (Variable t)) f e Γ s).1; most = tt }
+      header-of-variable = record { judged = λ Γ s. rw (shape_of x (Some (Variable t)) f a_variable_found Γ s).1; most = tt }
 
-    module _ (h : ℕ) (e : x ≡ Some (Header h)) where
+    module _ (y : Found) (p : x ≡ Some y) (h : ℕ) (k : y ≡ Header h) where
+      abbrev a_header_found : x ≡ Some (Header h)
+      a_header_found = p ∙ ap Some k
+
       pub header-found : (Γ : Scope) → StandsScope nums directory ends scope Γ
           → HeaderFound nums h (global_at Γ.program (get_or nums (at + 1) 0))
       unfolding FoundShape
-      header-found Γ s = shape_of x (Some (Header h)) f e Γ s
+      header-found Γ s = shape_of x (Some (Header h)) f a_header_found Γ s
 
       pub variable-of-header : TypedIn nums directory ends scope (variable_ty nums at) (refused reason.Type at)
       unfolding variable_ty judge_place judge_global judge_variable named ◌>>=◌ told_ty TyMost
@@ -90,8 +96,8 @@ module _ (nums directory ends : List ℕ) (scope : coded.Scope) (at : ℕ) where
       unfolding field_ty judge_place judge_global named ◌>>=◌
       field-seen r q = record {
         judged = λ Γ s.
-            let k : HeaderFound nums h (global_at Γ.program (get_or nums (at + 1) 0)) = header-found Γ s in
-            rw k.is (q.judged Γ.body s.body k.widths k.count k.stand);
+            let z : HeaderFound nums h (global_at Γ.program (get_or nums (at + 1) 0)) = header-found Γ s in
+            rw z.is (q.judged Γ.body s.body z.widths z.count z.stand);
         most = q.most;
       }
 

@@ -90,43 +90,42 @@ module _ (nums directory ends : List ℕ) (scope : coded.Scope) (depth at : ℕ)
       stands = some_assign.value_stands;
     }
 
-    module _ (a : Typed) (j : JudgesLeaf nums directory ends scope (at + 1) a) where
-      pub target-fault : (wrong : Fault) → a ≡ Err wrong
+    pub target-fault : (wrong : Fault) → JudgesLeaf nums directory ends scope (at + 1) (Err wrong)
+        → JudgesStmt nums directory ends scope depth at (Err wrong)
+    unfolding told_stmt judge_stmt judge_expr ◌>>=◌
+    target-fault wrong j = record {
+      judged = λ Γ s z h.
+          let v : AssignView nums ends depth at s = assign-of s h asks.is in
+          rw (v.same, fault-is (j.judges (depth - 1)) Γ _ z (target-stands s v));
+    }
+
+    module _ (t : ℕ) (j : JudgesLeaf nums directory ends scope (at + 1) (Ok t)) where
+      pub value-fault : (wrong : Fault)
+          → JudgesExpr nums directory ends scope (depth - 1) (get_or ends (at + 1) 0) (Err wrong)
           → JudgesStmt nums directory ends scope depth at (Err wrong)
       unfolding told_stmt judge_stmt judge_expr ◌>>=◌
-      target-fault wrong k = record {
+      value-fault wrong l = record {
         judged = λ Γ s z h.
             let v : AssignView nums ends depth at s = assign-of s h asks.is in
-            rw (v.same, fault-is (j.judges (depth - 1)) Γ _ z (target-stands s v) wrong k);
+            rw (
+              v.same,
+              typed-is (j.judges (depth - 1)) Γ _ z (target-stands s v),
+              fault-is l Γ v.value z v.value_stands,
+            );
       }
 
-      module _ (t : ℕ) (k : a ≡ Ok t) (b : Typed)
-          (l : JudgesExpr nums directory ends scope (depth - 1) (get_or ends (at + 1) 0) b) where
-        pub value-fault : (wrong : Fault) → b ≡ Err wrong
-            → JudgesStmt nums directory ends scope depth at (Err wrong)
-        unfolding told_stmt judge_stmt judge_expr ◌>>=◌
-        value-fault wrong m = record {
-          judged = λ Γ s z h.
-              let v : AssignView nums ends depth at s = assign-of s h asks.is in
-              rw (
-                v.same,
-                typed-is (j.judges (depth - 1)) Γ _ z (target-stands s v) t k,
-                fault-is l Γ v.value z v.value_stands wrong m,
-              );
-        }
-
-        pub assign-told : (u : ℕ) → b ≡ Ok u → (writes : Bool) → IsWritable nums scope (at + 1) writes
-            → (r : Formed)
-            → Forms r (ruled_both at (eqb t u) writes) → JudgesStmt nums directory ends scope depth at r
-        assign-told u m writes i r f = record {
-          judged = λ Γ s z h.
-              let v : AssignView nums ends depth at s = assign-of s h asks.is in
-              f.judged
-              ∙ assign-is Γ at v.place v.value t u writes s v.same
-              (typed-is (j.judges (depth - 1)) Γ _ z (target-stands s v) t k)
-              (typed-is l Γ v.value z v.value_stands u m)
-              (i.told directory ends (depth - 1) Γ (read_of (at + 1) v.place) z (target-stands s v));
-        }
+      pub assign-told : (u : ℕ) → JudgesExpr nums directory ends scope (depth - 1) (get_or ends (at + 1) 0) (Ok u)
+          → (writes : Bool) → IsWritable nums scope (at + 1) writes → (r : Formed)
+          → Forms r (ruled_both at (eqb t u) writes) → JudgesStmt nums directory ends scope depth at r
+      assign-told u l writes i r f = record {
+        judged = λ Γ s z h.
+            let v : AssignView nums ends depth at s = assign-of s h asks.is in
+            f.judged
+            ∙ assign-is Γ at v.place v.value t u writes s v.same
+            (typed-is (j.judges (depth - 1)) Γ _ z (target-stands s v))
+            (typed-is l Γ v.value z v.value_stands)
+            (i.told directory ends (depth - 1) Γ (read_of (at + 1) v.place) z (target-stands s v));
+      }
 
 pub ruleset assigning = (
   target-leaf,
@@ -177,30 +176,29 @@ module _ (nums directory ends : List ℕ) (scope : coded.Scope) (depth at : ℕ)
         stands = call-stands asks.asks.stmt asks.asks.stands v;
       }
 
-  module _ (asks : AsksTagged 4 nums directory ends scope depth at) (c : Called)
-      (j : JudgesCall nums directory ends scope depth at c) where
-    call-is : (Γ : Scope) (s : Stmt) → StandsScope nums directory ends scope Γ → StandsStmt nums ends depth at s
+  module _ (asks : AsksTagged 4 nums directory ends scope depth at) where
+    call-is : {c : Called} → JudgesCall nums directory ends scope depth at c → (Γ : Scope) (s : Stmt) → StandsScope nums directory ends scope Γ → StandsStmt nums ends depth at s
         → ((told_call c >>= λ returns. need 8 at (may_call Γ.body returns)) >>= λ _. ok false)
         ≡ (judge_stmt Γ s >>= λ _. ok (returns_on s))
     unfolding returns_on
-    call-is Γ s z h =
+    call-is j Γ s z h =
         let v : CallStmtView nums ends depth at s = call-of s h asks.is in
         ap (λ x. (x >>= λ returns. need 8 at (may_call Γ.body returns)) >>= λ _. ok false)
         (j.judged Γ v.callable v.arguments z (call-stands s h v))
         ∙ ap (λ x. x >>= λ _. ok false) (formed-call Γ at v.callable v.arguments)
         ∙ sym (ap (λ x. judge_stmt Γ x >>= λ _. ok (returns_on x)) v.same)
 
-    pub call-stmt-told : (callee : Callee) → c ≡ Ok callee → (r : Formed)
+    pub call-stmt-told : (callee : Callee) → JudgesCall nums directory ends scope depth at (Ok callee) → (r : Formed)
         → FormsIn scope (called_in at callee.kind callee.returns) r → JudgesStmt nums directory ends scope depth at r
     unfolding called_in ruled told_call ◌>>=◌
-    call-stmt-told callee k r f = record {
-      judged = λ Γ s z h. f.judged Γ.body z.body ∙ rw k at (call-is Γ s z h);
+    call-stmt-told callee j r f = record {
+      judged = λ Γ s z h. f.judged Γ.body z.body ∙ call-is j Γ s z h;
     }
 
-    pub call-stmt-fault : (wrong : Fault) → c ≡ Err wrong
+    pub call-stmt-fault : (wrong : Fault) → JudgesCall nums directory ends scope depth at (Err wrong)
         → JudgesStmt nums directory ends scope depth at (Err wrong)
     unfolding told_stmt told_call ◌>>=◌
-    call-stmt-fault wrong k = record { judged = λ Γ s z h. rw k at (call-is Γ s z h) }
+    call-stmt-fault wrong j = record { judged = λ Γ s z h. call-is j Γ s z h }
 
   -- a return with a value
   return_of : (s : Stmt) → StandsStmt nums ends depth at s → get_or nums at 0 ≡ 6 → ReturnView nums ends depth at s
@@ -220,24 +218,23 @@ module _ (nums directory ends : List ℕ) (scope : coded.Scope) (depth at : ℕ)
     pub return-deep : 0 < depth
     return-deep = (stmt-begins asks.asks.stands).levels
 
-    module _ (a : Typed) (j : JudgesExpr nums directory ends scope (depth - 1) (at + 1) a) where
-      pub returned-told : (t : ℕ) → a ≡ Ok t → (r : Formed) → FormsIn scope (returned_in at t) r
-          → JudgesStmt nums directory ends scope depth at r
-      unfolding returned_in judge_stmt returns_on ◌>>=◌
-      returned-told t k r f = record {
-        judged = λ Γ s z h.
-            let v : ReturnView nums ends depth at s = return_of s h asks.is in
-            f.judged Γ.body z.body ∙ rw (v.same, typed-is j Γ v.value z v.stands t k);
-      }
+    pub returned-told : (t : ℕ) → JudgesExpr nums directory ends scope (depth - 1) (at + 1) (Ok t) → (r : Formed) → FormsIn scope (returned_in at t) r
+        → JudgesStmt nums directory ends scope depth at r
+    unfolding returned_in judge_stmt returns_on ◌>>=◌
+    returned-told t j r f = record {
+      judged = λ Γ s z h.
+          let v : ReturnView nums ends depth at s = return_of s h asks.is in
+          f.judged Γ.body z.body ∙ rw (v.same, typed-is j Γ v.value z v.stands);
+    }
 
-      pub returned-fault : (wrong : Fault) → a ≡ Err wrong
-          → JudgesStmt nums directory ends scope depth at (Err wrong)
-      unfolding told_stmt judge_stmt ◌>>=◌
-      returned-fault wrong k = record {
-        judged = λ Γ s z h.
-            let v : ReturnView nums ends depth at s = return_of s h asks.is in
-            rw (v.same, fault-is j Γ v.value z v.stands wrong k);
-      }
+    pub returned-fault : (wrong : Fault) → JudgesExpr nums directory ends scope (depth - 1) (at + 1) (Err wrong)
+        → JudgesStmt nums directory ends scope depth at (Err wrong)
+    unfolding told_stmt judge_stmt ◌>>=◌
+    returned-fault wrong j = record {
+      judged = λ Γ s z h.
+          let v : ReturnView nums ends depth at s = return_of s h asks.is in
+          rw (v.same, fault-is j Γ v.value z v.stands);
+    }
 
   -- a verify
   verify-of : (s : Stmt) → StandsStmt nums ends depth at s → get_or nums at 0 ≡ 12 → VerifyView nums ends depth at s
@@ -257,24 +254,23 @@ module _ (nums directory ends : List ℕ) (scope : coded.Scope) (depth at : ℕ)
     pub verify-deep : 0 < depth
     verify-deep = (stmt-begins asks.asks.stands).levels
 
-    module _ (a : Typed) (j : JudgesExpr nums directory ends scope (depth - 1) (at + 1) a) where
-      pub verified-told : (t : ℕ) → a ≡ Ok t → (r : Formed) → FormsIn scope (parsed_in at (eqb t 0)) r
-          → JudgesStmt nums directory ends scope depth at r
-      verified-told t k r f = record {
-        judged = λ Γ s z h.
-            let v : VerifyView nums ends depth at s = verify-of s h asks.is in
-            f.judged Γ.body z.body
-            ∙ verify-is Γ at t v.condition v.error s v.same (typed-is j Γ v.condition z v.stands t k);
-      }
+    pub verified-told : (t : ℕ) → JudgesExpr nums directory ends scope (depth - 1) (at + 1) (Ok t) → (r : Formed) → FormsIn scope (parsed_in at (eqb t 0)) r
+        → JudgesStmt nums directory ends scope depth at r
+    verified-told t j r f = record {
+      judged = λ Γ s z h.
+          let v : VerifyView nums ends depth at s = verify-of s h asks.is in
+          f.judged Γ.body z.body
+          ∙ verify-is Γ at t v.condition v.error s v.same (typed-is j Γ v.condition z v.stands);
+    }
 
-      pub verified-fault : (wrong : Fault) → a ≡ Err wrong
-          → JudgesStmt nums directory ends scope depth at (Err wrong)
-      unfolding told_stmt judge_stmt ◌>>=◌
-      verified-fault wrong k = record {
-        judged = λ Γ s z h.
-            let v : VerifyView nums ends depth at s = verify-of s h asks.is in
-            rw (v.same, fault-is j Γ v.condition z v.stands wrong k);
-      }
+    pub verified-fault : (wrong : Fault) → JudgesExpr nums directory ends scope (depth - 1) (at + 1) (Err wrong)
+        → JudgesStmt nums directory ends scope depth at (Err wrong)
+    unfolding told_stmt judge_stmt ◌>>=◌
+    verified-fault wrong j = record {
+      judged = λ Γ s z h.
+          let v : VerifyView nums ends depth at s = verify-of s h asks.is in
+          rw (v.same, fault-is j Γ v.condition z v.stands);
+    }
 
 pub ruleset holding = (
   call-stmt-asks,

@@ -4,9 +4,8 @@ use Rattle.program.specs.declared.Scope as coded
 use mathlib.Core.Bool.{Bool, true, false, ◌&&◌, ◌||◌}
 use mathlib.Core.Path.{◌≡◌, refl, sym, ap, ◌∙◌}
 use mathlib.Core.List.{List}
-use Prim.Native.Nat.{ℕ, ◌+◌, ◌-◌, ◌<◌}
+use Prim.Native.Nat.{ℕ, ◌+◌, ◌-◌, ◌≤◌, ◌<◌}
 use native.Mathlib.Omega.{arith}
-use native.Mathlib.Nat.{sub-zero}
 use lib.ListN.{length, get_or}
 use lib.Dec.{eqb}
 use Rattle.std.specs.Prelude.{Ok, Err}
@@ -64,16 +63,18 @@ faulty-of (fault m i) number index c e =
     let g : i ≡ index = cc in
     rw (f, g)
 
-module _ {nums directory ends : List ℕ} {scope : coded.Scope} {depth at : ℕ} {a : Formed}
-    (j : JudgesStmt nums directory ends scope depth at a)
-    (Γ : Scope) (s : Stmt) (z : StandsScope nums directory ends scope Γ) (h : StandsStmt nums ends depth at s) where
-  pub fine-is : (b : Bool) → a ≡ Ok b → FineOf (judge_stmt Γ s) b (returns_on s)
+module _ {nums directory ends : List ℕ} {scope : coded.Scope} {depth at : ℕ} where
+  pub fine-is : {b : Bool} → JudgesStmt nums directory ends scope depth at (Ok b) → (Γ : Scope) (s : Stmt)
+      → StandsScope nums directory ends scope Γ → StandsStmt nums ends depth at s
+      → FineOf (judge_stmt Γ s) b (returns_on s)
   unfolding told_stmt
-  fine-is b k = fine_of (judge_stmt Γ s) b (returns_on s) (rw k at (j.judged Γ s z h))
+  fine-is j Γ s z h = fine_of (judge_stmt Γ s) _ (returns_on s) (j.judged Γ s z h)
 
-  pub faulty-is : (wrong : Fault) → a ≡ Err wrong → judge_stmt Γ s ≡ fault (number_of wrong.reason) wrong.index
+  pub faulty-is : {wrong : Fault} → JudgesStmt nums directory ends scope depth at (Err wrong) → (Γ : Scope) (s : Stmt)
+      → StandsScope nums directory ends scope Γ → StandsStmt nums ends depth at s
+      → judge_stmt Γ s ≡ fault (number_of wrong.reason) wrong.index
   unfolding told_stmt
-  faulty-is wrong k = faulty-of (judge_stmt Γ s) _ _ (returns_on s) (rw k at (j.judged Γ s z h))
+  faulty-is j Γ s z h = faulty-of (judge_stmt Γ s) _ _ (returns_on s) (j.judged Γ s z h)
 
 -- the branches of an if
 module _ (nums directory ends : List ℕ) (scope : coded.Scope) (depth at : ℕ) where
@@ -89,33 +90,31 @@ module _ (nums directory ends : List ℕ) (scope : coded.Scope) (depth at : ℕ)
     pub branch-ends : at < length ends
     branch-ends = omega (arith, stmt-begins asks.first_stands, asks.seen.program.room)
 
-  module _ (a : Formed) (j : JudgesStmt nums directory ends scope depth at a) where
-    pub first-faulty : (wrong : Fault) → a ≡ Err wrong
+  pub first-faulty : (wrong : Fault) → JudgesStmt nums directory ends scope depth at (Err wrong)
+      → JudgesBranches nums directory ends scope depth at (Err wrong)
+  unfolding told_stmt ◌>>=◌
+  first-faulty wrong j = record {
+    judged = λ Γ s u z h i. rw (faulty-is j Γ s z h);
+  }
+
+  module _ (x : Bool) (j : JudgesStmt nums directory ends scope depth at (Ok x)) where
+    pub second-faulty : (wrong : Fault) → JudgesStmt nums directory ends scope depth (get_or ends at 0) (Err wrong)
         → JudgesBranches nums directory ends scope depth at (Err wrong)
     unfolding told_stmt ◌>>=◌
-    first-faulty wrong k = record {
-      judged = λ Γ s u z h i. rw (faulty-is j Γ s z h wrong k);
+    second-faulty wrong l = record {
+      judged = λ Γ s u z h i. rw ((fine-is j Γ s z h).is, faulty-is l Γ u z i);
     }
 
-    module _ (x : Bool) (k : a ≡ Ok x) (b : Formed) (l : JudgesStmt nums directory ends scope depth
-        (get_or ends at 0) b) where
-      pub second-faulty : (wrong : Fault) → b ≡ Err wrong
-          → JudgesBranches nums directory ends scope depth at (Err wrong)
-      unfolding told_stmt ◌>>=◌
-      second-faulty wrong m = record {
-        judged = λ Γ s u z h i. rw ((fine-is j Γ s z h x k).is, faulty-is l Γ u z i wrong m);
-      }
-
-      pub branches-fine : (y c : Bool) → b ≡ Ok y → c ≡ (x && y)
-          → JudgesBranches nums directory ends scope depth at (Ok c)
-      unfolding told_stmt ◌>>=◌
-      branches-fine y c m e = record {
-        judged = λ Γ s u z h i.
-            let f : FineOf (judge_stmt Γ s) x (returns_on s) = fine-is j Γ s z h x k in
-            let g : FineOf (judge_stmt Γ u) y (returns_on u) = fine-is l Γ u z i y m in
-            let q : c ≡ (returns_on s && returns_on u) = cc in
-            rw (f.is, g.is, q);
-      }
+    pub branches-fine : (y c : Bool) → JudgesStmt nums directory ends scope depth (get_or ends at 0) (Ok y)
+        → c ≡ (x && y) → JudgesBranches nums directory ends scope depth at (Ok c)
+    unfolding told_stmt ◌>>=◌
+    branches-fine y c l e = record {
+      judged = λ Γ s u z h i.
+          let f : FineOf (judge_stmt Γ s) x (returns_on s) = fine-is j Γ s z h in
+          let g : FineOf (judge_stmt Γ u) y (returns_on u) = fine-is l Γ u z i in
+          let q : c ≡ (returns_on s && returns_on u) = cc in
+          rw (f.is, g.is, q);
+    }
 
 pub ruleset branching = (first-branch, second-branch, branch-ends, first-faulty, second-faulty, branches-fine)
 
@@ -169,31 +168,30 @@ module _ (nums directory ends : List ℕ) (scope : coded.Scope) (depth at : ℕ)
       second_stands = some_if.second_stands;
     }
 
-    module _ (a : Typed) (j : JudgesExpr nums directory ends scope (depth - 1) (at + 1) a) where
-      pub condition-fault : (wrong : Fault) → a ≡ Err wrong
-          → JudgesStmt nums directory ends scope depth at (Err wrong)
-      unfolding told_stmt judge_stmt ◌>>=◌
-      condition-fault wrong k = record {
-        judged = λ Γ s z h.
-            let v : IfView nums ends depth at s = if-of s h asks.is in
-            rw (v.same, fault-is j Γ v.condition z v.condition_stands wrong k);
-      }
+    pub condition-fault : (wrong : Fault) → JudgesExpr nums directory ends scope (depth - 1) (at + 1) (Err wrong)
+        → JudgesStmt nums directory ends scope depth at (Err wrong)
+    unfolding told_stmt judge_stmt ◌>>=◌
+    condition-fault wrong j = record {
+      judged = λ Γ s z h.
+          let v : IfView nums ends depth at s = if-of s h asks.is in
+          rw (v.same, fault-is j Γ v.condition z v.condition_stands);
+    }
 
-      pub if-told : (t : ℕ) → a ≡ Ok t → (b : Formed)
-          → JudgesBranches nums directory ends scope (depth - 1) (get_or ends (at + 1) 0) b → (r : Formed)
-          → Forms r (chosen_as at t (told_stmt b)) → JudgesStmt nums directory ends scope depth at r
-      unfolding chosen_as ruled
-      if-told t k b l r f = record {
-        judged = λ Γ s z h.
-            let v : IfView nums ends depth at s = if-of s h asks.is in
-            f.judged
-            ∙ ap (λ x. x >>= λ returns. need 7 at (eqb t 0) >>= λ _. ok returns)
-            (l.judged Γ v.first v.second z v.first_stands v.second_stands)
-            ∙ if-then (judge_stmt Γ v.first) (judge_stmt Γ v.second) (need 7 at (eqb t 0))
-            (returns_on v.first && returns_on v.second)
-            ∙ if-is Γ at t v.condition v.first v.second s v.same
-            (typed-is j Γ v.condition z v.condition_stands t k);
-      }
+    pub if-told : (t : ℕ) → JudgesExpr nums directory ends scope (depth - 1) (at + 1) (Ok t) → (b : Formed)
+        → JudgesBranches nums directory ends scope (depth - 1) (get_or ends (at + 1) 0) b → (r : Formed)
+        → Forms r (chosen_as at t (told_stmt b)) → JudgesStmt nums directory ends scope depth at r
+    unfolding chosen_as ruled
+    if-told t j b l r f = record {
+      judged = λ Γ s z h.
+          let v : IfView nums ends depth at s = if-of s h asks.is in
+          f.judged
+          ∙ ap (λ x. x >>= λ returns. need 7 at (eqb t 0) >>= λ _. ok returns)
+          (l.judged Γ v.first v.second z v.first_stands v.second_stands)
+          ∙ if-then (judge_stmt Γ v.first) (judge_stmt Γ v.second) (need 7 at (eqb t 0))
+          (returns_on v.first && returns_on v.second)
+          ∙ if-is Γ at t v.condition v.first v.second s v.same
+          (typed-is j Γ v.condition z v.condition_stands);
+    }
 
 pub ruleset choosing = (
   condition-asks,
@@ -238,10 +236,12 @@ next-pending Γ returns each b first others rest ss e f g h k =
 module _ (nums directory ends : List ℕ) (scope : coded.Scope) (depth at count : ℕ) where
   pub pending-first : AsksStmts nums directory ends scope depth at count
       → Pending nums directory ends scope depth at count 0 at false
-  pending-first asks = rw sub-zero (record {
-    asks = asks;
-    pending = λ Γ ss z h e. record { rest = ss; stand = h; counted = e; same = refl };
-  })
+  pending-first asks =
+      let all : count - 0 ≡ count = omega arith in
+      record {
+        asks = rw all asks;
+        pending = λ Γ ss z h e. record { rest = ss; stand = h; counted = omega (arith, e); same = refl };
+      }
 
   module _ (done next : ℕ) (returns : Bool)
       (p : Pending nums directory ends scope depth at count done next returns) where
@@ -280,7 +280,7 @@ module _ (nums directory ends : List ℕ) (scope : coded.Scope) (depth at count 
             let q : PendingOf nums ends depth (count - done) next returns Γ ss = p.pending Γ ss z h e in
             let v : MemberView nums ends depth next (count - done) q.rest
             = member-view (count - done) q.rest q.stand q.counted some_left in
-            sym (q.same ∙ rw (v.same, faulty-is j Γ v.first z v.first_stands wrong refl));
+            sym (q.same ∙ rw (v.same, faulty-is j Γ v.first z v.first_stands));
       }
 
       pub pending_next : (each b : Bool) → JudgesStmt nums directory ends scope depth next (Ok each)
@@ -288,41 +288,33 @@ module _ (nums directory ends : List ℕ) (scope : coded.Scope) (depth at count 
           → Pending nums directory ends scope depth at count (done + 1) (get_or ends next 0) b
       pending_next each b j e =
           let fewer : count - (done + 1) ≡ count - done - 1 = omega arith in
-          rw fewer (record {
-            asks = record {
+          record {
+            asks = rw fewer (record {
               scope_of = p.asks.scope_of;
               members = some_member.others;
               seen = p.asks.seen;
               stand = some_member.others_stand;
               counted = some_member.fewer;
-            };
+            });
             pending = λ Γ ss z h i.
                 let q : PendingOf nums ends depth (count - done) next returns Γ ss = p.pending Γ ss z h i in
                 let v : MemberView nums ends depth next (count - done) q.rest
                 = member-view (count - done) q.rest q.stand q.counted some_left in
                 let f : FineOf (judge_stmt Γ v.first) each (returns_on v.first)
-                = fine-is j Γ v.first z v.first_stands each refl in
+                = fine-is j Γ v.first z v.first_stands in
                 record {
                   rest = v.others;
                   stand = v.others_stand;
-                  counted = v.fewer;
+                  counted = omega (arith, v.fewer);
                   same = next-pending Γ returns each b v.first v.others q.rest ss v.same f.is f.same e
                       q.same;
                 };
-          })
+          }
 
 pub ruleset pending = (pending-first, pending_done, pending-asks, pending-ends, pending-fault, pending_next)
 
 -- a statement, by its tag
 module _ (nums directory ends : List ℕ) (scope : coded.Scope) (depth at : ℕ) where
-  pub formed-again : (a : Formed) (b : Bool) → JudgesStmt nums directory ends scope depth at a → a ≡ Ok b
-      → JudgesStmt nums directory ends scope depth at (Ok b)
-  formed-again a b j k = rw k at j
-
-  pub faulty-again : (a : Formed) (wrong : Fault) → JudgesStmt nums directory ends scope depth at a
-      → a ≡ Err wrong → JudgesStmt nums directory ends scope depth at (Err wrong)
-  faulty-again a wrong j k = rw k at j
-
   block_of : (s : Stmt) → StandsStmt nums ends depth at s → get_or nums at 0 ≡ 3 → BlockView nums ends depth at s
   unfolding StmtView
   block_of s h k = rw k at (stmt-view h)
@@ -363,26 +355,18 @@ module _ (nums directory ends : List ℕ) (scope : coded.Scope) (depth at : ℕ)
         counted = some_block.count.holds.is;
       }
 
-  module _ (k : get_or nums at 0 ≡ 3) (a : Formed)
-      (j : JudgesStmts nums directory ends scope (depth - 1) (at + 2) (get_or nums (at + 1) 0) a) where
-    block-is : (Γ : Scope) (s : Stmt) → StandsScope nums directory ends scope Γ → StandsStmt nums ends depth at s
-        → told_stmt a ≡ (judge_stmt Γ s >>= λ _. ok (returns_on s))
-    unfolding judge_stmt returns_on
-    block-is Γ s z h =
+  pub block-told : get_or nums at 0 ≡ 3 → (r : Formed)
+      → JudgesStmts nums directory ends scope (depth - 1) (at + 2) (get_or nums (at + 1) 0) r
+      → JudgesStmt nums directory ends scope depth at r
+  unfolding judge_stmt returns_on
+  block-told k r j = record {
+    judged = λ Γ s z h.
         let v : BlockView nums ends depth at s = block_of s h k in
         j.judged Γ v.members z v.stand v.count.holds.is
-        ∙ sym (ap (λ x. judge_stmt Γ x >>= λ _. ok (returns_on x)) v.same)
-
-    pub block-fine : (b : Bool) → a ≡ Ok b → JudgesStmt nums directory ends scope depth at (Ok b)
-    block-fine b e = record { judged = λ Γ s z h. rw e at (block-is Γ s z h) }
-
-    pub block-fault : (wrong : Fault) → a ≡ Err wrong
-        → JudgesStmt nums directory ends scope depth at (Err wrong)
-    block-fault wrong e = record { judged = λ Γ s z h. rw e at (block-is Γ s z h) }
+        ∙ sym (ap (λ x. judge_stmt Γ x >>= λ _. ok (returns_on x)) v.same);
+  }
 
 pub ruleset stating = (
-  formed-again,
-  faulty-again,
   stmt-inside,
   stmt-next,
   stmt-second,
@@ -391,6 +375,5 @@ pub ruleset stating = (
   single-asks,
   members-inside,
   members-ask,
-  block-fine,
-  block-fault,
+  block-told,
 )

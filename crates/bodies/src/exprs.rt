@@ -140,7 +140,6 @@ pub fn judge_expr(source: &Source, scope: &Scope, depth: usize, at: usize) -> Ty
         let Callee { kind, returns } = judge_call(source, scope, depth, at)?;
         value_type(scope, at, kind, returns)
     } else {
-        let t = judge_operands(source, scope, depth, at)?;
-        Ok(t)
+        judge_operands(source, scope, depth, at)
     }
 }

@@ -60,12 +60,10 @@ pub fn judge_stmt(source: &Source, scope: &Scope, depth: usize, at: usize) -> Fo
 {
     let tag = source.nums[at];
     if tag == 2 {
-        let returns = judge_if(source, scope, depth, at)?;
-        Ok(returns)
+        judge_if(source, scope, depth, at)
     } else if tag == 3 {
         let count = source.nums[at + 1];
-        let returns = judge_stmts(source, scope, depth - 1, at + 2, count)?;
-        Ok(returns)
+        judge_stmts(source, scope, depth - 1, at + 2, count)
     } else {
         judge_single(source, scope, depth, at)
     }

@@ -21,3 +21,24 @@ judge_args-bounds-source-at t c = search (judging, operating, calling, passing, 
 
 pub judge_args-judge_args-requires : goal.judge_args-judge_args-requires
 judge_args-judge_args-requires t c = search (judging, operating, calling, passing, descending, c.in_ok-t.ensures, rules)
+
+pub judge_args-returns-in_err-behind-in-Some : goal.judge_args-returns-in_err-behind-in-Some
+judge_args-returns-in_err-behind-in-Some t c = let p = err_from_is_err_and c.from_residual-in_err-behind-in-Some.result c.from_residual-in_err-behind-in-Some.ensures.1 in rw (p.1, p.2) (search (judging, operating, calling, passing, descending, c.in_ok-t.ensures, c.in_err-behind-in-Some.ensures, rules))
+
+pub judge_args-judge_args-requires-in-None : goal.judge_args-judge_args-requires-in-None
+judge_args-judge_args-requires-in-None t c = search (judging, operating, calling, passing, descending, c.in_ok-t.ensures, rules)
+
+pub judge_args-returns-in_err-behind-in-None : goal.judge_args-returns-in_err-behind-in-None
+judge_args-returns-in_err-behind-in-None t c = let p = err_from_is_err_and c.from_residual-in_err-behind-in-None.result c.from_residual-in_err-behind-in-None.ensures.1 in rw (p.1, p.2) (search (judging, operating, calling, passing, descending, c.in_ok-t.ensures, c.in_err-behind-in-None.ensures, rules))
+
+pub judge_args-writable_at-writable-requires : goal.judge_args-writable_at-writable-requires
+judge_args-writable_at-writable-requires t c = search (judging, operating, calling, passing, descending, c.in_ok-t.ensures, rules)
+
+pub judge_args-returns-then-count-eq0 : goal.judge_args-returns-then-count-eq0
+judge_args-returns-then-count-eq0 t c = search (judging, operating, calling, passing, descending, rules)
+
+pub judge_args-returns-after-wanted : goal.judge_args-returns-after-wanted
+judge_args-returns-after-wanted t c = search (judging, operating, calling, passing, descending, c.in_ok-t.ensures, rules)
+
+pub judge_call-head_of-head-requires : goal.judge_call-head_of-head-requires
+judge_call-head_of-head-requires t c = search (judging, operating, calling, passing, descending, rules)
