@@ -9,7 +9,6 @@ use lib.ListN.{length, get_or}
 use lib.Dec.{ltb, leb, eqb}
 use borrow.Author.Tests.{leb-true, leb-false, ne_eqb}
 use Rattle.std.specs.Prelude.{Ok, Some, None}
-use Rattle.std.specs.Prelude.{Option as Optional}
 use Rattle.rules.specs.declared.Reason.TheVariants as reason
 use Rattle.rules.specs.Words.{widest}
 use Rattle.rules.specs.Syntax.{Parameter}
@@ -19,6 +18,7 @@ use Rattle.program.specs.Stands.{StandsParameters}
 use Rattle.program.specs.Looks.{returns_of}
 use Rattle.program.specs.Scopes.{body_numbered}
 use Rattle.bodies.specs.declared.Agreed.{Agreed}
+use Rattle.bodies.specs.declared.Parameter as coded_parameter
 use Rattle.bodies.specs.declared.Wanted.{Wanted}
 use Rattle.bodies.specs.Claims.{refused, told_ty, TyMost}
 use Rattle.bodies.specs.Leaves.{TellsIn, takes_two, lead_by, lead_length, OperandsAt, value_in, value_ty}
@@ -118,12 +118,8 @@ pub ruleset settling = (no_value, some-value, settled, unsettled-place, unsettle
 -- the parameter that comes next
 module _ (nums : List ℕ) (parameters left : ℕ) where
   next_of : (n : ℕ) → (n ≡ 0 → ⊥) → (ps : List Parameter) → StandsParameters nums parameters ps → n ≡ length ps
-      → NextWanted nums (record {
-        direction = get_or nums parameters 0;
-        ty = get_or nums (parameters + 1) 0;
-        next = parameters + 2;
-        left = n - 1;
-      }) ps × (parameters + 1 < length nums)
+      → NextWanted nums (record { direction = get_or nums parameters 0; ty = get_or nums (parameters + 1) 0 })
+      (parameters + 2) (n - 1) ps × (parameters + 1 < length nums)
   unfolding StandsParameters
   next_of n x [] s e = absurd (x e)
   next_of n x (p ∷ ps) s e = (
@@ -139,21 +135,21 @@ module _ (nums : List ℕ) (parameters left : ℕ) where
     s.1.0.inside,
   )
 
-  pub none-wanted : left ≡ 0 → IsWanted nums parameters left None
+  pub none-wanted : left ≡ 0
+      → IsWanted nums parameters left (record { parameter = None; next = parameters; left = 0 })
   unfolding WantedIf
-  none-wanted k = record { told = λ ps s e. nothing ps (sym e ∙ k) }
+  none-wanted k = record { told = λ ps s e. record { same = nothing ps (sym e ∙ k); left_is = refl } }
     where
       nothing : (ps : List Parameter) → length ps ≡ 0 → ps ≡ []
       nothing [] q = refl
       nothing (p ∷ ps) q = absurd (omega arith)
 
   pub next-wanted : (left ≡ 0 → ⊥)
-      → IsWanted nums parameters left (Some (record {
-        direction = get_or nums parameters 0;
-        ty = get_or nums (parameters + 1) 0;
+      → IsWanted nums parameters left (record {
+        parameter = Some (record { direction = get_or nums parameters 0; ty = get_or nums (parameters + 1) 0 });
         next = parameters + 2;
         left = left - 1;
-      }))
+      })
   unfolding WantedIf
   next-wanted more = record { told = λ ps s e. (next_of left more ps s e).0 }
 
@@ -167,14 +163,14 @@ module _ (nums : List ℕ) (parameters left : ℕ) where
 pub ruleset wanting = (none-wanted, next-wanted, wanted-type-inside, wanted-inside)
 
 -- an argument against its parameter
-module _ (w : Optional Wanted) (t : ℕ) (writable : Bool) (behind : Agreed) where
-  pub weighs-next : (p : Wanted) → w ≡ Some p → (place a b : Bool) → place ≡ (ltb p.direction 2 || writable)
+module _ (w : Wanted) (t : ℕ) (writable : Bool) (behind : Agreed) where
+  pub weighs-next : (p : coded_parameter.Parameter) → w.parameter ≡ Some p → (place a b : Bool) → place ≡ (ltb p.direction 2 || writable)
       → a ≡ (eqb p.ty t && behind.types) → b ≡ (place && behind.places)
       → Weighs w t writable behind (record { types = a; places = b })
   unfolding weighed
   weighs-next p k place a b e f g = record { told = rw (k, f, g, e) }
 
-  pub weighs-none : w ≡ None → Weighs w t writable behind (record { types = false; places = true })
+  pub weighs-none : w.parameter ≡ None → Weighs w t writable behind (record { types = false; places = true })
   unfolding weighed
   weighs-none k = record { told = rw k }
 

@@ -27,6 +27,7 @@ use Rattle.program.proofs.Views.{expr-begins, ArgView, no-args, arg_view}
 use Rattle.program.proofs.Found.{At, member-at}
 use Rattle.program.proofs.Members.{same-types}
 use Rattle.bodies.specs.declared.Agreed.{Agreed}
+use Rattle.bodies.specs.declared.Parameter as coded_parameter
 use Rattle.bodies.specs.declared.Wanted.{Wanted}
 use Rattle.bodies.specs.Claims.{Typed, refused, AsksExpr, JudgesExpr}
 use Rattle.bodies.specs.Leaves.{AsksWritable, IsWritable}
@@ -224,38 +225,33 @@ next_agree p others direction ty t writable types places given d e f g =
     rw (← e, same-types ty t, in-only p.direction, ← d, ← f, ← g)
 
 -- the parameters behind the one that comes next, and what weighing an argument against that one comes to
-record Others (nums : List ℕ) (w : Optional Wanted) (next left : ℕ) (ps : List Parameter) : Type 0 where
+record Others (nums : List ℕ) (o : Optional coded_parameter.Parameter) (next left : ℕ) (ps : List Parameter) : Type 0
+  where
   wanted : List Parameter
   stand : StandsParameters nums next wanted
   left_is : left ≡ length wanted
   agrees : (t : ℕ) (writable : Bool) (behind : Agreed) (given : List Given) → behind.types ≡ types_agree wanted given
       → behind.places ≡ places_agree wanted given
-      → told_passed (Ok (weighed w t writable behind))
+      → told_passed (Ok (weighed o t writable behind))
       ≡ ok (agreement ps (record { ty = ty_of t; writable = writable } ∷ given))
 
-pub record Behind (nums : List ℕ) (w : Optional Wanted) (next left : ℕ) : Type 0 where
-  others : (ps : List Parameter) → WantedIf nums w ps → Others nums w next left ps
-
-module _ (nums : List ℕ) (w : Optional Wanted) where
-  pub behind-next : (p : Wanted) → w ≡ Some p → Behind nums w p.next p.left
-  unfolding WantedIf weighed told_passed
-  behind-next p k = rw k (record {
-    others = λ ps q. record {
-      wanted = q.others;
-      stand = q.others_stand;
-      left_is = q.left_is;
-      agrees = λ t writable behind given e f.
-          rw q.same (ap ok (next_agree q.parameter q.others p.direction p.ty t writable behind.types behind.places given
-          q.direction_is q.ty_is e f));
-    };
-  })
-
-  pub behind-none : (next : ℕ) → w ≡ None → Behind nums w next 0
-  unfolding WantedIf weighed told_passed StandsParameters agreement types_agree places_agree
-  behind-none next k = rw k (record {
-    others = λ ps q.
-        record { wanted = []; stand = tt; left_is = refl; agrees = λ t writable behind given e f. rw q };
-  })
+others_of : (nums : List ℕ) (o : Optional coded_parameter.Parameter) (next left : ℕ) (ps : List Parameter)
+    → WantedIf nums o next left ps → Others nums o next left ps
+unfolding WantedIf weighed told_passed StandsParameters agreement types_agree places_agree
+others_of nums (Some p) next left ps q = record {
+  wanted = q.others;
+  stand = q.others_stand;
+  left_is = q.left_is;
+  agrees = λ t writable behind given e f.
+      rw q.same (ap ok (next_agree q.parameter q.others p.direction p.ty t writable behind.types behind.places given
+      q.direction_is q.ty_is e f));
+}
+others_of nums None next left ps q = record {
+  wanted = [];
+  stand = tt;
+  left_is = q.left_is;
+  agrees = λ t writable behind given e f. rw q.same;
+}
 
 args-given : (Γ : Scope) (first : Expr) (others xs : Args) (t : ℕ) (writable : Bool) (given : List Given)
     → xs ≡ arg first others → judge_expr Γ first ≡ ok (ty_of t) → judge_args Γ others ≡ ok given
@@ -299,11 +295,11 @@ module _ (nums directory ends : List ℕ) (scope : coded.Scope) (depth at count 
       pub arg-ends : at < length ends
       arg-ends = omega (arith, expr-begins some_arg.first_stands, asks.seen.program.room)
 
-      pub rest-asks : (w : Optional Wanted) (next left' : ℕ) → IsWanted nums parameters left w
-          → Behind nums w next left' → AsksArgs nums directory ends scope depth (get_or ends at 0) (count - 1) next left'
-      rest-asks w next left' q o =
-          let v : Others nums w next left' asks.wanted
-          = o.others asks.wanted (q.told asks.wanted asks.wanted_stand asks.left_is) in
+      pub rest-asks : (w : Wanted) → IsWanted nums parameters left w
+          → AsksArgs nums directory ends scope depth (get_or ends at 0) (count - 1) w.next w.left
+      rest-asks w q =
+          let v : Others nums w.parameter w.next w.left asks.wanted
+          = others_of nums w.parameter w.next w.left asks.wanted (q.told asks.wanted asks.wanted_stand asks.left_is) in
           record {
             scope_of = asks.scope_of;
             arguments = some_arg.others;
@@ -326,17 +322,17 @@ module _ (nums directory ends : List ℕ) (scope : coded.Scope) (depth at count 
             rw (v.same, fault-is j Γ v.first s v.first_stands);
       }
 
-      module _ (t : ℕ) (j : JudgesExpr nums directory ends scope depth at (Ok t)) (w : Optional Wanted)
-          (q : IsWanted nums parameters left w) (next left' : ℕ) (o : Behind nums w next left') where
-        others_of : (ps : List Parameter) → StandsParameters nums parameters ps → left ≡ length ps
-            → Others nums w next left' ps
-        others_of ps p l = o.others ps (q.told ps p l)
+      module _ (t : ℕ) (j : JudgesExpr nums directory ends scope depth at (Ok t)) (w : Wanted)
+          (q : IsWanted nums parameters left w) where
+        others_in : (ps : List Parameter) → StandsParameters nums parameters ps → left ≡ length ps
+            → Others nums w.parameter w.next w.left ps
+        others_in ps p l = others_of nums w.parameter w.next w.left ps (q.told ps p l)
 
         abbrev Rest : Passed → Type 0
-        Rest b = JudgesArgs nums directory ends scope depth (get_or ends at 0) (count - 1) next left' b
+        Rest b = JudgesArgs nums directory ends scope depth (get_or ends at 0) (count - 1) w.next w.left b
 
         rest-is : {b : Passed} → Rest b → (Γ : Scope) → StandsScope nums directory ends scope Γ → (xs : Args)
-            (v : ArgView nums ends depth at count xs) (ps : List Parameter) (z : Others nums w next left' ps)
+            (v : ArgView nums ends depth at count xs) (ps : List Parameter) (z : Others nums w.parameter w.next w.left ps)
             → told_passed b ≡ (judge_args Γ v.others >>= λ given. ok (agreement z.wanted given))
         rest-is r Γ s xs v ps z = r.judged Γ v.others z.wanted s v.others_stand v.fewer z.stand z.left_is
 
@@ -346,7 +342,7 @@ module _ (nums directory ends : List ℕ) (scope : coded.Scope) (depth at count 
         rest-fault wrong r = record {
           judged = λ Γ xs ps s h e p l.
               let v : ArgView nums ends depth at count xs = arg_view count xs h e more in
-              let z : Others nums w next left' ps = others_of ps p l in
+              let z : Others nums w.parameter w.next w.left ps = others_in ps p l in
               let y : judge_args Γ v.others ≡ fault (number_of wrong.reason) wrong.index
               = given-fault (judge_args Γ v.others) z.wanted _ _ (rest-is r Γ s xs v ps z) in
               rw (v.same, typed-is j Γ v.first s v.first_stands, y);
@@ -359,7 +355,7 @@ module _ (nums directory ends : List ℕ) (scope : coded.Scope) (depth at count 
         rest-told behind r writable i c u = record {
           judged = λ Γ xs ps s h e p l.
               let v : ArgView nums ends depth at count xs = arg_view count xs h e more in
-              let z : Others nums w next left' ps = others_of ps p l in
+              let z : Others nums w.parameter w.next w.left ps = others_in ps p l in
               let x : GivenOf (judge_args Γ v.others) z.wanted behind.types behind.places
               = given-of (judge_args Γ v.others) z.wanted behind.types behind.places (rest-is r Γ s xs v ps z) in
               ap (λ a. told_passed (Ok a)) u.told
@@ -370,8 +366,6 @@ module _ (nums directory ends : List ℕ) (scope : coded.Scope) (depth at count 
         }
 
 pub ruleset passing = (
-  behind-next,
-  behind-none,
   args_none,
   args-wanted,
   arg-asks,

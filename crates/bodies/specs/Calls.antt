@@ -16,6 +16,7 @@ use Rattle.program.specs.Scopes.{StandsScope}
 use Rattle.program.specs.Looks.{returns_of}
 use Rattle.bodies.specs.declared.Callee.{Callee}
 use Rattle.bodies.specs.declared.Agreed.{Agreed}
+use Rattle.bodies.specs.declared.Parameter as coded_parameter
 use Rattle.bodies.specs.declared.Wanted.{Wanted}
 
 -- what a call calls, and whether its arguments agree; or the first fault
@@ -62,32 +63,37 @@ pub record AsksWanted (nums : List ℕ) (parameters left : ℕ) : Type 0 where
   pub stand : StandsParameters nums parameters wanted
   pub left_is : left ≡ length wanted
 
-pub record NextWanted (nums : List ℕ) (w : Wanted) (ps : List Parameter) : Type 0 where
+pub record NextWanted (nums : List ℕ) (p : coded_parameter.Parameter) (next left : ℕ) (ps : List Parameter) : Type 0 where
   pub parameter : Parameter
   pub others : List Parameter
   pub same : ps ≡ parameter ∷ others
-  pub direction_is : w.direction ≡ direction_number parameter.direction
-  pub ty_is : ty_of w.ty ≡ parameter.ty
-  pub others_stand : StandsParameters nums w.next others
-  pub left_is : w.left ≡ length others
+  pub direction_is : p.direction ≡ direction_number parameter.direction
+  pub ty_is : ty_of p.ty ≡ parameter.ty
+  pub others_stand : StandsParameters nums next others
+  pub left_is : left ≡ length others
 
-unfoldable pub WantedIf : List ℕ → Optional Wanted → List Parameter → Type 0
-WantedIf nums (Some w) ps = NextWanted nums w ps
-WantedIf nums None ps = ps ≡ []
+pub record NoneWanted (left : ℕ) (ps : List Parameter) : Type 0 where
+  pub same : ps ≡ []
+  pub left_is : left ≡ 0
 
-pub record IsWanted (nums : List ℕ) (parameters left : ℕ) (w : Optional Wanted) : Type 0 where
-  pub told : (ps : List Parameter) → StandsParameters nums parameters ps → left ≡ length ps → WantedIf nums w ps
+unfoldable pub WantedIf : List ℕ → Optional coded_parameter.Parameter → ℕ → ℕ → List Parameter → Type 0
+WantedIf nums (Some p) next left ps = NextWanted nums p next left ps
+WantedIf nums None next left ps = NoneWanted left ps
+
+pub record IsWanted (nums : List ℕ) (parameters left : ℕ) (w : Wanted) : Type 0 where
+  pub told : (ps : List Parameter) → StandsParameters nums parameters ps → left ≡ length ps
+      → WantedIf nums w.parameter w.next w.left ps
 
 -- an argument against its parameter, and those behind it
-unfoldable pub weighed : Optional Wanted → ℕ → Bool → Agreed → Agreed
-weighed (Some w) t writable behind = record {
-  types = eqb w.ty t && behind.types;
-  places = (ltb w.direction 2 || writable) && behind.places;
+unfoldable pub weighed : Optional coded_parameter.Parameter → ℕ → Bool → Agreed → Agreed
+weighed (Some p) t writable behind = record {
+  types = eqb p.ty t && behind.types;
+  places = (ltb p.direction 2 || writable) && behind.places;
 }
 weighed None t writable behind = record { types = false; places = true }
 
-pub record Weighs (w : Optional Wanted) (t : ℕ) (writable : Bool) (behind r : Agreed) : Type 0 where
-  pub told : r ≡ weighed w t writable behind
+pub record Weighs (w : Wanted) (t : ℕ) (writable : Bool) (behind r : Agreed) : Type 0 where
+  pub told : r ≡ weighed w.parameter t writable behind
 
 -- a call: what stands behind its tag, and what the callable returns
 pub record StandsCall (nums ends : List ℕ) (depth at callable : ℕ) (arguments : Args) : Type 0 where
