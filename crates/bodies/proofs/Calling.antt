@@ -8,6 +8,8 @@ use native.Mathlib.Omega.{arith}
 use lib.ListN.{length, get_or}
 use lib.Dec.{ltb, leb, eqb}
 use borrow.Author.Tests.{leb-true, leb-false, ne_eqb}
+use Rattle.std.specs.Prelude.{Ok, Some, None}
+use Rattle.rules.specs.declared.Reason.TheVariants as reason
 use Rattle.rules.specs.Words.{widest}
 use Rattle.rules.specs.Syntax.{Parameter}
 use Rattle.rules.specs.Form.{ok, fault, ◌>>=◌, need, function_ty, may_call}
@@ -15,11 +17,10 @@ use Rattle.program.specs.Codes.{ty_of}
 use Rattle.program.specs.Stands.{StandsParameters}
 use Rattle.program.specs.Looks.{returns_of}
 use Rattle.program.specs.Scopes.{body_numbered}
-use Rattle.bodies.specs.declared.Typed.TheVariants as typed
-use Rattle.bodies.specs.declared.Called.TheVariants.{Returns, Uncalled}
-use Rattle.bodies.specs.declared.Passed.TheVariants.{Agree}
+use Rattle.bodies.specs.declared.Agreed.{Agreed}
+use Rattle.bodies.specs.declared.Parameter as coded_parameter
 use Rattle.bodies.specs.declared.Wanted.{Wanted}
-use Rattle.bodies.specs.Claims.{told_ty, TyMost}
+use Rattle.bodies.specs.Claims.{refused, told_ty, TyMost}
 use Rattle.bodies.specs.Leaves.{TellsIn, takes_two, lead_by, lead_length, OperandsAt, value_in, value_ty}
 use Rattle.bodies.specs.Calls.{AsksWanted, NextWanted, WantedIf, IsWanted, weighed, Weighs, told_call, CalledMost, Settles}
 use Rattle.bodies.proofs.Typing.{more}
@@ -80,7 +81,7 @@ value-some at (suc kind) returns (suc (suc (suc k))) returned e =
     absurd (omega (arith, leb-false 3 (suc (suc (suc k))) l))
 
 module _ (scope : coded.Scope) (at kind returns : ℕ) (b : Bool) (e : b ≡ (eqb kind 0 || leb 3 (scope.kind))) where
-  pub no_value : b ≡ true → TellsIn scope (value_ty at kind returns) (typed.Fault 8 at)
+  pub no_value : b ≡ true → TellsIn scope (value_ty at kind returns) (refused reason.Form at)
   unfolding told_ty TyMost
   no_value k = record {
     judged = λ body i.
@@ -88,7 +89,7 @@ module _ (scope : coded.Scope) (at kind returns : ℕ) (b : Bool) (e : b ≡ (eq
     most = tt;
   }
 
-  pub some-value : returns ≤ widest → b ≡ false → TellsIn scope (value_ty at kind returns) (typed.Ty returns)
+  pub some-value : returns ≤ widest → b ≡ false → TellsIn scope (value_ty at kind returns) (Ok returns)
   unfolding told_ty TyMost
   some-value m k = record {
     judged = λ body i.
@@ -100,15 +101,15 @@ module _ (at kind returns : ℕ) where
   -- a call whose arguments are judged
   module _ (types places : Bool) where
     pub settled : returns ≤ widest → types ≡ true → places ≡ true
-        → Settles at kind returns types places (Returns kind returns)
+        → Settles at kind returns types places (Ok (record { kind = kind; returns = returns }))
     unfolding told_call CalledMost need ◌>>=◌
     settled m e f = record { told = rw (e, f); most = m }
 
-    pub unsettled-place : types ≡ true → places ≡ false → Settles at kind returns types places (Uncalled 8 at)
+    pub unsettled-place : types ≡ true → places ≡ false → Settles at kind returns types places (refused reason.Form at)
     unfolding told_call CalledMost need ◌>>=◌
     unsettled-place e f = record { told = rw (e, f); most = tt }
 
-    pub unsettled-type : types ≡ false → Settles at kind returns types places (Uncalled 7 at)
+    pub unsettled-type : types ≡ false → Settles at kind returns types places (refused reason.Type at)
     unfolding told_call CalledMost need ◌>>=◌
     unsettled-type e = record { told = rw e; most = tt }
 
@@ -117,13 +118,8 @@ pub ruleset settling = (no_value, some-value, settled, unsettled-place, unsettle
 -- the parameter that comes next
 module _ (nums : List ℕ) (parameters left : ℕ) where
   next_of : (n : ℕ) → (n ≡ 0 → ⊥) → (ps : List Parameter) → StandsParameters nums parameters ps → n ≡ length ps
-      → NextWanted nums (record {
-        present = true;
-        direction = get_or nums parameters 0;
-        ty = get_or nums (parameters + 1) 0;
-        next = parameters + 2;
-        left = n - 1;
-      }) ps × (parameters + 1 < length nums)
+      → NextWanted nums (record { direction = get_or nums parameters 0; ty = get_or nums (parameters + 1) 0 })
+      (parameters + 2) (n - 1) ps × (parameters + 1 < length nums)
   unfolding StandsParameters
   next_of n x [] s e = absurd (x e)
   next_of n x (p ∷ ps) s e = (
@@ -140,8 +136,7 @@ module _ (nums : List ℕ) (parameters left : ℕ) where
   )
 
   pub none-wanted : left ≡ 0
-      → IsWanted nums parameters left
-      (record { present = false; direction = 0; ty = 0; next = parameters; left = 0 })
+      → IsWanted nums parameters left (record { parameter = None; next = parameters; left = 0 })
   unfolding WantedIf
   none-wanted k = record { told = λ ps s e. record { same = nothing ps (sym e ∙ k); left_is = refl } }
     where
@@ -151,9 +146,7 @@ module _ (nums : List ℕ) (parameters left : ℕ) where
 
   pub next-wanted : (left ≡ 0 → ⊥)
       → IsWanted nums parameters left (record {
-        present = true;
-        direction = get_or nums parameters 0;
-        ty = get_or nums (parameters + 1) 0;
+        parameter = Some (record { direction = get_or nums parameters 0; ty = get_or nums (parameters + 1) 0 });
         next = parameters + 2;
         left = left - 1;
       })
@@ -170,13 +163,14 @@ module _ (nums : List ℕ) (parameters left : ℕ) where
 pub ruleset wanting = (none-wanted, next-wanted, wanted-type-inside, wanted-inside)
 
 -- an argument against its parameter
-module _ (w : Wanted) (t : ℕ) (writable types places : Bool) where
-  pub weighs-next : w.present ≡ true → (place a b : Bool) → place ≡ (ltb w.direction 2 || writable)
-      → a ≡ (eqb w.ty t && types) → b ≡ (place && places) → Weighs w t writable types places (Agree a b)
+module _ (w : Wanted) (t : ℕ) (writable : Bool) (behind : Agreed) where
+  pub weighs-next : (p : coded_parameter.Parameter) → w.parameter ≡ Some p → (place a b : Bool) → place ≡ (ltb p.direction 2 || writable)
+      → a ≡ (eqb p.ty t && behind.types) → b ≡ (place && behind.places)
+      → Weighs w t writable behind (record { types = a; places = b })
   unfolding weighed
-  weighs-next k place a b e f g = record { told = rw (k, f, g, e) }
+  weighs-next p k place a b e f g = record { told = rw (k, f, g, e) }
 
-  pub weighs-none : w.present ≡ false → Weighs w t writable types places (Agree false true)
+  pub weighs-none : w.parameter ≡ None → Weighs w t writable behind (record { types = false; places = true })
   unfolding weighed
   weighs-none k = record { told = rw k }
 

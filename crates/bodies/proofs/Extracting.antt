@@ -2,7 +2,7 @@
 -- judgement.
 use Rattle.program.specs.declared.Scope as coded
 use mathlib.Core.Bool.{Bool, true, false}
-use mathlib.Core.Path.{◌≡◌, refl, sym, ◌∙◌}
+use mathlib.Core.Path.{◌≡◌, refl, sym, ap, ◌∙◌}
 use mathlib.Core.List.{List, [], ◌∷◌}
 use Prim.Native.Nat.{ℕ, ◌+◌, ◌-◌, ◌*◌, ◌%◌, ◌≤◌, ◌<◌}
 use native.Mathlib.Omega.{arith}
@@ -10,43 +10,47 @@ use mir.Syntax.{w64}
 use mir.Val.{Fits}
 use lib.ListN.{length, get_or}
 use lib.Dec.{eqb}
+use Rattle.std.specs.Prelude.{Some, None}
+use Rattle.std.specs.Prelude.{Option as Optional}
+use Rattle.rules.specs.declared.Reason.TheVariants as reason
 use Rattle.rules.specs.Numbers.{most_bytes}
 use Rattle.rules.specs.Words.{widest}
 use Rattle.rules.specs.Form.{ok, ◌>>=◌, named, need, global_at, Body, in_function, in_action, in_apply, in_state, sees_globals, bits_in, whole_bytes, judge_extracted, judge_global, is_state}
 use Rattle.program.specs.Stands.{Holds, HoldsWithin, StandsWidths}
 use Rattle.bodies.specs.declared.Found.{Found}
-use Rattle.bodies.specs.declared.Found.TheVariants.{Variable, Header, Nothing}
-use Rattle.bodies.specs.declared.Formed.{Formed}
-use Rattle.bodies.specs.declared.Formed.TheVariants.{Faulty}
-use Rattle.bodies.specs.Claims.{told_stmt}
+use Rattle.bodies.specs.declared.Found.TheVariants.{Variable, Header}
+use Rattle.bodies.specs.Claims.{Formed, refused, told_stmt}
 use Rattle.bodies.specs.Leaves.{AsksName, HeaderFound, FoundShape, FindsGlobal, AsksWidths, IsWhole}
 use Rattle.bodies.specs.Forms.{ruled, ruled_both, FormsIn, parsed_in, ExtractsIn}
 use Rattle.bodies.proofs.Plain.{shape_of, header-found, nothing-found, name-program}
 use Rattle.bodies.proofs.Forming.{unnamed}
 
--- what is left of the widths: those from an index on, and the bits of those before them
-record RestOf (nums : List ℕ) (next left bits : ℕ) (widths : List ℕ) : Type 0 where
+-- what is left of the widths: those from an index to an end, and the bits of those before them
+record RestOf (nums : List ℕ) (end next bits : ℕ) (widths : List ℕ) : Type 0 where
   rest : List ℕ
   stand : StandsWidths nums next rest
-  counted : left ≡ length rest
+  ended : next + length rest ≡ end
   same : bits + bits_in rest ≡ bits_in widths
 
-pub record Adding (nums : List ℕ) (header next left bits : ℕ) : Type 0 where
+abbrev pub end_of : List ℕ → ℕ → ℕ
+end_of nums header = header + 1 + get_or nums header 0
+
+pub record Adding (nums : List ℕ) (header next bits : ℕ) : Type 0 where
   asks : AsksWidths nums header
   few : bits ≤ widest * next
   rests : (widths : List ℕ) → Holds nums header (length widths) → StandsWidths nums (header + 1) widths
-      → RestOf nums next left bits widths
+      → RestOf nums (end_of nums header) next bits widths
 
 -- one more width
-record OneMore (nums : List ℕ) (next left bits : ℕ) (widths : List ℕ) : Type 0 where
+record OneMore (nums : List ℕ) (end next bits : ℕ) (widths : List ℕ) : Type 0 where
   width : HoldsWithin 1 widest nums next (get_or nums next 0)
-  behind : RestOf nums (next + 1) (left - 1) (bits + get_or nums next 0) widths
+  behind : RestOf nums end (next + 1) (bits + get_or nums next 0) widths
 
-one_more : (nums : List ℕ) (next left bits : ℕ) (widths rest : List ℕ) → StandsWidths nums next rest
-    → left ≡ length rest → bits + bits_in rest ≡ bits_in widths → (left ≡ 0 → ⊥) → OneMore nums next left bits widths
+one_more : (nums : List ℕ) (end next bits : ℕ) (widths rest : List ℕ) → StandsWidths nums next rest
+    → next + length rest ≡ end → bits + bits_in rest ≡ bits_in widths → next < end → OneMore nums end next bits widths
 unfolding StandsWidths bits_in
-one_more nums next left bits widths [] s c e x = absurd (x c)
-one_more nums next left bits widths (w ∷ ws) s c e x =
+one_more nums end next bits widths [] s c e x = absurd (omega (arith, c, x))
+one_more nums end next bits widths (w ∷ ws) s c e x =
     let i : get_or nums next 0 ≡ w = s.0.holds.is in
     record {
       width = record {
@@ -54,12 +58,7 @@ one_more nums next left bits widths (w ∷ ws) s c e x =
         at_least = omega (arith, i, s.0.at_least);
         at_most = omega (arith, i, s.0.at_most);
       };
-      behind = record {
-        rest = ws;
-        stand = s.1;
-        counted = omega (arith, c);
-        same = omega (arith, i, e);
-      };
+      behind = record { rest = ws; stand = s.1; ended = omega (arith, c); same = omega (arith, i, e) };
     }
 
 none_left : (bits : ℕ) (widths rest : List ℕ) → length rest ≡ 0 → bits + bits_in rest ≡ bits_in widths
@@ -67,6 +66,14 @@ none_left : (bits : ℕ) (widths rest : List ℕ) → length rest ≡ 0 → bits
 unfolding bits_in
 none_left bits widths [] c e = omega (arith, e)
 none_left bits widths (w ∷ ws) c e = absurd (omega (arith, c))
+
+-- widths end inside
+widths_end : (nums : List ℕ) (at : ℕ) (ws : List ℕ) → StandsWidths nums at ws → at ≤ length nums → at + length ws ≤ length nums
+unfolding StandsWidths
+widths_end nums at [] s h = omega (arith, h)
+widths_end nums at (w ∷ ws) s h =
+    let l : at + 1 + length ws ≤ length nums = widths_end nums (at + 1) ws s.1 (omega (arith, s.0.holds.inside)) in
+    omega (arith, l)
 
 module _ (nums : List ℕ) (header : ℕ) where
   module _ (asks : AsksWidths nums header) where
@@ -76,42 +83,45 @@ module _ (nums : List ℕ) (header : ℕ) where
     pub widths-small : header + 1 < most_bytes + 1
     widths-small = omega (arith, asks.numbers, widths-inside)
 
-    pub adding-first : Adding nums header (header + 1) (get_or nums header 0) 0
+    pub widths-end : Fits w64 (header + 1 + get_or nums header 0)
+    widths-end =
+        let l : header + 1 + length asks.widths ≤ length nums
+        = widths_end nums (header + 1) asks.widths asks.stand (omega (arith, widths-inside)) in
+        record { fits = omega (arith, l, asks.numbers, asks.count.is) }
+
+    pub adding-first : Adding nums header (header + 1) 0
     adding-first = record {
       asks = asks;
       few = omega arith;
-      rests = λ widths c s. record { rest = widths; stand = s; counted = c.is; same = omega arith };
+      rests = λ widths c s. record { rest = widths; stand = s; ended = omega (arith, c.is); same = omega arith };
     }
 
-  module _ (next left bits : ℕ) (a : Adding nums header next left bits) where
-    pub adding-done : left ≡ 0 → IsWhole nums header (eqb (bits % 8) 0)
+  module _ (next bits : ℕ) (a : Adding nums header next bits) where
+    pub adding-done : end_of nums header ≤ next → IsWhole nums header (eqb (bits % 8) 0)
     unfolding whole_bytes
     adding-done k = record {
       is = λ widths c s.
-          let r : RestOf nums next left bits widths = a.rests widths c s in
-          rw (none_left bits widths r.rest (sym r.counted ∙ k) r.same);
+          let r : RestOf nums (end_of nums header) next bits widths = a.rests widths c s in
+          rw (none_left bits widths r.rest (omega (arith, r.ended, k)) r.same);
     }
 
-    module _ (x : left ≡ 0 → ⊥) where
+    module _ (x : next < end_of nums header) where
       more_of : (widths : List ℕ) → Holds nums header (length widths) → StandsWidths nums (header + 1) widths
-          → OneMore nums next left bits widths
+          → OneMore nums (end_of nums header) next bits widths
       more_of widths c s =
-          let r : RestOf nums next left bits widths = a.rests widths c s in
-          one_more nums next left bits widths r.rest r.stand r.counted r.same x
+          let r : RestOf nums (end_of nums header) next bits widths = a.rests widths c s in
+          one_more nums (end_of nums header) next bits widths r.rest r.stand r.ended r.same x
 
-      some_more : OneMore nums next left bits a.asks.widths
+      some_more : OneMore nums (end_of nums header) next bits a.asks.widths
       some_more = more_of a.asks.widths a.asks.count a.asks.stand
 
       pub adding-inside : next < length nums
       adding-inside = some_more.width.holds.inside
 
-      pub adding-small : Fits w64 (next + 1)
-      adding-small = record { fits = omega (arith, a.asks.numbers, adding-inside) }
-
       pub adding-few : Fits w64 (bits + get_or nums next 0)
       adding-few = record { fits = omega (arith, a.few, a.asks.numbers, adding-inside, some_more.width.at_most) }
 
-      pub adding-next : Adding nums header (next + 1) (left - 1) (bits + get_or nums next 0)
+      pub adding-next : Adding nums header (next + 1) (bits + get_or nums next 0)
       adding-next = record {
         asks = a.asks;
         few = omega (arith, a.few, some_more.width.at_most);
@@ -121,10 +131,10 @@ module _ (nums : List ℕ) (header : ℕ) where
 pub ruleset adding = (
   widths-inside,
   widths-small,
+  widths-end,
   adding-first,
   adding-done,
   adding-inside,
-  adding-small,
   adding-few,
   adding-next,
 )
@@ -140,25 +150,26 @@ in-state at true in_action = refl
 in-state at true in_apply = refl
 in-state at true in_state = refl
 
-module _ (nums directory ends : List ℕ) (scope : coded.Scope) (at : ℕ) (x : Found)
+module _ (nums directory ends : List ℕ) (scope : coded.Scope) (at : ℕ) (x : Optional Found)
     (f : FindsGlobal nums directory ends (get_or nums (at + 1) 0) x) where
-  pub extract-of-variable : (t : ℕ) → x ≡ Variable t → ExtractsIn nums directory ends scope at (Faulty 7 at)
+  pub extract-of-variable : (y : Found) → x ≡ Some y → (t : ℕ) → y ≡ Variable t
+      → ExtractsIn nums directory ends scope at (refused reason.Type at)
   unfolding FoundShape judge_global judge_extracted named ◌>>=◌ told_stmt
-  extract-of-variable t e = record {
-    judged = λ Γ s. rw (shape_of nums directory ends scope at x (Variable t) f e Γ s).1;
+  extract-of-variable y p t k = record {
+    judged = λ Γ s. rw (shape_of nums directory ends scope at x (Some (Variable t)) f (p ∙ ap Some k) Γ s).1;
   }
 
-  pub extract-none : x ≡ Nothing → ExtractsIn nums directory ends scope at (Faulty 6 (at + 1))
+  pub extract-none : x ≡ None → ExtractsIn nums directory ends scope at (refused reason.Unnamed (at + 1))
   unfolding judge_global named ◌>>=◌
   extract-none e = record {
     judged = λ Γ s. unnamed at ∙ rw (nothing-found nums directory ends scope at x f e Γ s);
   }
 
-  module _ (h : ℕ) (e : x ≡ Header h) where
+  module _ (y : Found) (p : x ≡ Some y) (h : ℕ) (e : y ≡ Header h) where
     pub extract-widths : AsksName nums directory ends scope at → AsksWidths nums h
     extract-widths asks =
         let q : HeaderFound nums h (global_at asks.scope_of.program (get_or nums (at + 1) 0))
-        = header-found nums directory ends scope at x f h e asks.scope_of asks.seen in
+        = header-found nums directory ends scope at x f y p h e asks.scope_of asks.seen in
         record { numbers = asks.seen.program.numbers; widths = q.widths; count = q.count; stand = q.stand }
 
     pub extract-header : (whole : Bool) → IsWhole nums h whole → (r : Formed) → FormsIn scope (parsed_in at whole) r
@@ -167,7 +178,7 @@ module _ (nums directory ends : List ℕ) (scope : coded.Scope) (at : ℕ) (x : 
     extract-header whole i r q = record {
       judged = λ Γ s.
           let k : HeaderFound nums h (global_at Γ.program (get_or nums (at + 1) 0))
-          = header-found nums directory ends scope at x f h e Γ s in
+          = header-found nums directory ends scope at x f y p h e Γ s in
           q.judged Γ.body s.body
           ∙ in-state at whole Γ.body
           ∙ rw (k.is, i.is k.widths k.count k.stand);

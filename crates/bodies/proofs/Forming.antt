@@ -9,6 +9,11 @@ use native.Mathlib.Numerals.{add-one}
 use lib.ListN.{get_or}
 use lib.Dec.{ltb, leb, eqb}
 use borrow.Author.Tests.{ne_eqb, le-ltb, le-leb}
+use Rattle.std.specs.Prelude.{Ok, Err}
+use Rattle.rules.specs.declared.Reason.{Reason}
+use Rattle.rules.specs.declared.Reason.TheVariants as reason
+use Rattle.rules.specs.declared.Fault.{Fault}
+use Rattle.rules.specs.Answers.{number_of}
 use Rattle.rules.specs.Syntax.{Ty}
 use Rattle.rules.specs.Form.{Res, ok, fault, ◌>>=◌, named, need, judge_header_at, need_ty, may_call, judge_returned, is_apply, is_function, is_state, may_leave}
 use Rattle.rules.proofs.Predicates.{no_member}
@@ -17,22 +22,18 @@ use Rattle.program.specs.Scopes.{body_numbered}
 use Rattle.program.specs.Looks.{returns_of}
 use Rattle.program.proofs.Found.{At, member-at}
 use Rattle.program.proofs.Members.{same-types}
-use Rattle.bodies.specs.declared.Typed.{Typed}
-use Rattle.bodies.specs.declared.Typed.TheVariants as typed
-use Rattle.bodies.specs.declared.Formed.{Formed}
-use Rattle.bodies.specs.declared.Formed.TheVariants.{Fine, Faulty}
-use Rattle.bodies.specs.Claims.{told_ty, told_stmt}
+use Rattle.bodies.specs.Claims.{Formed, refused, told_ty, told_stmt}
 use Rattle.bodies.specs.Leaves.{TypedIn, header_ty}
 use Rattle.bodies.specs.Forms.{Forms, ruled, ruled_both, chosen_as, FormsIn, called_in, returned_in, applied_in, Applies, left_in, parsed_in, MarksIn}
 use Rattle.bodies.proofs.Typing.{more}
 
 -- a rule that holds, and one that does not
-module _ (number at : ℕ) (holds returns : Bool) where
-  pub rule-holds : holds ≡ true → Forms (Fine returns) (ruled number at holds returns)
+module _ (reason : Reason) (at : ℕ) (holds returns : Bool) where
+  pub rule-holds : holds ≡ true → Forms (Ok returns) (ruled (number_of reason) at holds returns)
   unfolding ruled told_stmt need ◌>>=◌
   rule-holds e = record { judged = rw e }
 
-  pub rule-not : holds ≡ false → Forms (Faulty number at) (ruled number at holds returns)
+  pub rule-not : holds ≡ false → Forms (refused reason at) (ruled (number_of reason) at holds returns)
   unfolding ruled told_stmt need ◌>>=◌
   rule-not e = record { judged = rw e }
 
@@ -41,20 +42,20 @@ module _ (at : ℕ) (first second : Bool) where
   unfolding ruled_both need ◌>>=◌
   rules-second r e f = record { judged = rw e f.judged }
 
-  pub rules-not : first ≡ false → Forms (Faulty 7 at) (ruled_both at first second)
+  pub rules-not : first ≡ false → Forms (refused reason.Type at) (ruled_both at first second)
   unfolding ruled_both told_stmt need ◌>>=◌
   rules-not e = record { judged = rw e }
 
 module _ (at t : ℕ) (branches : Formed) where
-  pub chosen-fine : (x : Bool) → branches ≡ Fine x → (r : Formed) → Forms r (ruled 7 at (eqb t 0) x)
+  pub chosen-fine : (x : Bool) → branches ≡ Ok x → (r : Formed) → Forms r (ruled 7 at (eqb t 0) x)
       → Forms r (chosen_as at t (told_stmt branches))
   unfolding chosen_as told_stmt ◌>>=◌
   chosen-fine x e r f = record { judged = rw e f.judged }
 
-  pub chosen-fault : (number index : ℕ) → branches ≡ Faulty number index
-      → Forms (Faulty number index) (chosen_as at t (told_stmt branches))
+  pub chosen-fault : (wrong : Fault) → branches ≡ Err wrong
+      → Forms (Err wrong) (chosen_as at t (told_stmt branches))
   unfolding chosen_as told_stmt ◌>>=◌
-  chosen-fault number index e = record { judged = rw e }
+  chosen-fault wrong e = record { judged = rw e }
 
 -- the kinds of bodies: a number past the apply body's is a state's
 other : (k n : ℕ) → n < 3 → eqb (suc (suc (suc k))) n ≡ false
@@ -134,7 +135,7 @@ module _ (scope : coded.Scope) (at : ℕ) (r : Formed) where
   }
 
 pub returned-out : (scope : coded.Scope) (at t : ℕ) → (scope.kind ≡ 1 → ⊥)
-    → FormsIn scope (returned_in at t) (Faulty 8 at)
+    → FormsIn scope (returned_in at t) (refused reason.Form at)
 unfolding returned_in told_stmt ◌>>=◌
 returned-out scope at t x = record {
   judged = λ body e. rw (← e, no-function at (scope.kind) (scope.returns) (ty_of t) x);
@@ -156,7 +157,7 @@ pub ruleset ruling = (
 )
 
 -- names: a table, a header
-pub unnamed : (at : ℕ) → told_stmt (Faulty 6 (at + 1)) ≡ fault 6 (suc at)
+pub unnamed : (at : ℕ) → told_stmt (refused reason.Unnamed (at + 1)) ≡ fault 6 (suc at)
 unfolding told_stmt
 unnamed at = rw (add-one at)
 
@@ -171,7 +172,7 @@ module _ (nums directory : List ℕ) (scope : coded.Scope) (at : ℕ) where
         rw m.is (f.judged Γ.body s.body);
   }
 
-  pub table_none : get_or directory 59 0 ≤ get_or nums (at + 1) 0 → Applies nums directory scope at (Faulty 6 (at + 1))
+  pub table_none : get_or directory 59 0 ≤ get_or nums (at + 1) 0 → Applies nums directory scope at (refused reason.Unnamed (at + 1))
   unfolding named ◌>>=◌
   table_none h = record {
     judged = λ ends Γ s. unnamed at
@@ -192,19 +193,19 @@ marked-fault (fault m i) number index u e =
     let g : index ≡ i = cc in
     rw (f, g)
 
-module _ (nums directory ends : List ℕ) (scope : coded.Scope) (at : ℕ) (a : Typed)
-    (j : TypedIn nums directory ends scope (header_ty nums at) a) where
-  pub mark-fine : (t : ℕ) → a ≡ typed.Ty t → MarksIn nums directory ends scope at (Fine false)
+module _ (nums directory ends : List ℕ) (scope : coded.Scope) (at : ℕ) where
+  pub mark-fine : (t : ℕ) → TypedIn nums directory ends scope (header_ty nums at) (Ok t)
+      → MarksIn nums directory ends scope at (Ok false)
   unfolding header_ty told_ty told_stmt
-  mark-fine t k = record {
-    judged = λ Γ s. marked-fine (judge_header_at Γ at (get_or nums (at + 1) 0)) (ty_of t) _ (rw k at (j.judged Γ s));
+  mark-fine t j = record {
+    judged = λ Γ s. marked-fine (judge_header_at Γ at (get_or nums (at + 1) 0)) (ty_of t) _ (j.judged Γ s);
   }
 
-  pub mark-fault : (number index : ℕ) → a ≡ typed.Fault number index
-      → MarksIn nums directory ends scope at (Faulty number index)
+  pub mark-fault : (wrong : Fault) → TypedIn nums directory ends scope (header_ty nums at) (Err wrong)
+      → MarksIn nums directory ends scope at (Err wrong)
   unfolding header_ty told_ty told_stmt
-  mark-fault number index k = record {
-    judged = λ Γ s. marked-fault (judge_header_at Γ at (get_or nums (at + 1) 0)) number index _ (rw k at (j.judged Γ s));
+  mark-fault wrong j = record {
+    judged = λ Γ s. marked-fault (judge_header_at Γ at (get_or nums (at + 1) 0)) _ _ _ (j.judged Γ s);
   }
 
 pub ruleset marking = (table-applies, table_none, mark-fine, mark-fault)

@@ -6,19 +6,18 @@ use mathlib.Core.List.{List}
 use Prim.Native.Nat.{ℕ, suc, ◌+◌, ◌-◌, ◌*◌, ◌≤◌, ◌<◌}
 use native.Mathlib.Omega.{arith}
 use lib.ListN.{length, get_or}
+use Rattle.std.specs.Prelude.{Ok, Err}
+use Rattle.rules.specs.declared.Fault.{Fault}
 use Rattle.rules.specs.Words.{widest}
 use Rattle.rules.specs.Syntax.{Expr, call_expr, Args}
 use Rattle.rules.specs.Form.{Res, ok, fault, ◌>>=◌, named, callable_below, Scope, judge_given, judge_expr, judge_args}
 use Rattle.program.specs.Stands.{StandsExpr}
 use Rattle.program.specs.Scopes.{StandsScope}
 use Rattle.program.proofs.Views.{ExprView, CallView, expr-view, expr-begins}
-use Rattle.bodies.specs.declared.Typed.{Typed}
-use Rattle.bodies.specs.declared.Typed.TheVariants as typed
-use Rattle.bodies.specs.declared.Called.{Called}
-use Rattle.bodies.specs.declared.Called.TheVariants.{Returns, Uncalled}
-use Rattle.bodies.specs.Claims.{told_ty, TyMost, AsksExpr, JudgesExpr}
+use Rattle.bodies.specs.declared.Callee.{Callee}
+use Rattle.bodies.specs.Claims.{Typed, told_ty, TyMost, AsksExpr, JudgesExpr}
 use Rattle.bodies.specs.Leaves.{TellsIn, value_in, value_ty, AsksLeaf, JudgesLeaf, AsksOperands}
-use Rattle.bodies.specs.Calls.{StandsCall, judge_call, told_call, CalledMost, AsksCall, JudgesCall}
+use Rattle.bodies.specs.Calls.{Called, StandsCall, judge_call, told_call, CalledMost, AsksCall, JudgesCall}
 
 -- the measure: levels, then what is left at one level
 unfoldable pub rank : ℕ → ℕ → ℕ
@@ -82,14 +81,6 @@ module _ (nums directory ends : List ℕ) (scope : coded.Scope) (depth at : ℕ)
       → JudgesExpr nums directory ends scope depth at r
   leaf-told r j = j.judges depth
 
-  pub typed-again : (a : Typed) (t : ℕ) → JudgesExpr nums directory ends scope depth at a → a ≡ typed.Ty t
-      → JudgesExpr nums directory ends scope depth at (typed.Ty t)
-  typed-again a t j k = rw k at j
-
-  pub fault-again : (a : Typed) (number index : ℕ) → JudgesExpr nums directory ends scope depth at a
-      → a ≡ typed.Fault number index → JudgesExpr nums directory ends scope depth at (typed.Fault number index)
-  fault-again a number index j k = rw k at j
-
   call-of : (e : Expr) → StandsExpr nums ends depth at e → get_or nums at 0 ≡ 13 → CallView nums ends depth at e
   unfolding ExprView
   call-of e h k = rw k at (expr-view h)
@@ -115,40 +106,36 @@ module _ (nums directory ends : List ℕ) (scope : coded.Scope) (depth at : ℕ)
         stands = call-stands asks.expr asks.stands v;
       }
 
-  pub returns-most : (c : Called) (kind returns : ℕ) → JudgesCall nums directory ends scope depth at c
-      → c ≡ Returns kind returns → returns ≤ widest
+  pub returns-most : (callee : Callee) → JudgesCall nums directory ends scope depth at (Ok callee)
+      → callee.returns ≤ widest
   unfolding CalledMost
-  returns-most c kind returns j k =
-      let m : CalledMost (Returns kind returns) = rw k at j.most in
-      m
+  returns-most callee j = j.most
 
-  module _ (k : get_or nums at 0 ≡ 13) (c : Called) (j : JudgesCall nums directory ends scope depth at c) where
-    call-is : (Γ : Scope) (e : Expr) → StandsScope nums directory ends scope Γ → (h : StandsExpr nums ends depth at e)
+  module _ (k : get_or nums at 0 ≡ 13) where
+    call-is : {c : Called} → JudgesCall nums directory ends scope depth at c → (Γ : Scope) (e : Expr) → StandsScope nums directory ends scope Γ → (h : StandsExpr nums ends depth at e)
         → (told_call c >>= value_in at Γ.body) ≡ judge_expr Γ e
-    call-is Γ e s h =
+    call-is j Γ e s h =
         let v : CallView nums ends depth at e = call-of e h k in
         ap (λ x. x >>= value_in at Γ.body) (j.judged Γ v.callable v.arguments s (call-stands e h v))
         ∙ value-of-call Γ at v.callable v.arguments ∙ sym (ap (judge_expr Γ) v.same)
 
-    pub call-told : (kind returns : ℕ) → c ≡ Returns kind returns → (r : Typed)
-        → TellsIn scope (value_ty at kind returns) r → JudgesExpr nums directory ends scope depth at r
+    pub call-told : (callee : Callee) → JudgesCall nums directory ends scope depth at (Ok callee) → (r : Typed)
+        → TellsIn scope (value_ty at callee.kind callee.returns) r → JudgesExpr nums directory ends scope depth at r
     unfolding value_ty told_call ◌>>=◌
-    call-told kind returns e r q = record {
-      judged = λ Γ x s h. q.judged Γ.body s.body ∙ rw e at (call-is Γ x s h);
+    call-told callee j r q = record {
+      judged = λ Γ x s h. q.judged Γ.body s.body ∙ call-is j Γ x s h;
       most = q.most;
     }
 
-    pub call-fault : (number index : ℕ) → c ≡ Uncalled number index
-        → JudgesExpr nums directory ends scope depth at (typed.Fault number index)
+    pub call-fault : (wrong : Fault) → JudgesCall nums directory ends scope depth at (Err wrong)
+        → JudgesExpr nums directory ends scope depth at (Err wrong)
     unfolding told_ty TyMost told_call ◌>>=◌
-    call-fault number index e = record { judged = λ Γ x s h. rw e at (call-is Γ x s h); most = tt }
+    call-fault wrong j = record { judged = λ Γ x s h. call-is j Γ x s h; most = tt }
 
 pub ruleset judging = (
   expr-inside,
   leaf-asks,
   leaf-told,
-  typed-again,
-  fault-again,
   call_asks,
   returns-most,
   call-told,

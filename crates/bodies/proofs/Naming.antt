@@ -9,6 +9,9 @@ use native.Mathlib.Omega.{arith}
 use native.Mathlib.Numerals.{add-one}
 use lib.ListN.{length, get_or}
 use lib.Dec.{leb}
+use Rattle.std.specs.Prelude.{Ok, Some, None}
+use Rattle.std.specs.Prelude.{Option as Optional}
+use Rattle.rules.specs.declared.Reason.TheVariants as reason
 use Rattle.rules.specs.Numbers.{most_bytes}
 use Rattle.rules.specs.Words.{widest}
 use Rattle.rules.specs.Syntax.{GlobalTy, variable, header, Program}
@@ -22,11 +25,9 @@ use Rattle.program.specs.Scopes.{body_numbered, StandsScope}
 use Rattle.program.specs.Looks.{Has, Finds, headers_of, globals_of, GlobalNumber, FoundGlobal, FoundHeader}
 use Rattle.program.proofs.Found.{At, member-at}
 use Rattle.program.proofs.Members.{StandsParameter, parameter-at, type_at, width-at, bits_of, header-high}
-use Rattle.bodies.specs.declared.Typed.{Typed}
-use Rattle.bodies.specs.declared.Typed.TheVariants as typed
 use Rattle.bodies.specs.declared.Found.{Found}
-use Rattle.bodies.specs.declared.Found.TheVariants.{Variable, Header, Nothing}
-use Rattle.bodies.specs.Claims.{told_ty, TyMost}
+use Rattle.bodies.specs.declared.Found.TheVariants.{Variable, Header}
+use Rattle.bodies.specs.Claims.{Typed, refused, told_ty, TyMost}
 use Rattle.bodies.specs.Leaves.{AsksSlot, SlotTyped, local_ty, parameter_ty, AsksProgram, FoundShape, FindsGlobal, FindsHeader, SeenTyped, AsksField, FieldTyped, IsWritableParameter}
 
 -- what stands at a local's, a parameter's and a field's number
@@ -69,7 +70,7 @@ header-shape P n (header i) h g =
     rw e
 
 -- the fault of a name of nothing
-pub none_found : (at : ℕ) → told_ty (typed.Fault 6 (at + 1)) ≡ fault 6 (suc at)
+pub none_found : (at : ℕ) → told_ty (refused reason.Unnamed (at + 1)) ≡ fault 6 (suc at)
 unfolding told_ty
 none_found at = rw (add-one at)
 
@@ -97,7 +98,7 @@ module _ (nums : List ℕ) (scope : coded.Scope) (at : ℕ) where
     pub local-small : scope.locals + number < most_bytes
     local-small = omega (arith, local-inside)
 
-    pub local_typed : SlotTyped nums scope (local_ty nums at) (typed.Ty (get_or nums (scope.locals + number) 0))
+    pub local_typed : SlotTyped nums scope (local_ty nums at) (Ok (get_or nums (scope.locals + number) 0))
     unfolding told_ty TyMost local_ty judge_place named
     local_typed = record {
       typed = λ directory ends. record {
@@ -108,7 +109,7 @@ module _ (nums : List ℕ) (scope : coded.Scope) (at : ℕ) where
       };
     }
 
-  pub local-none : scope.local_count ≤ number → SlotTyped nums scope (local_ty nums at) (typed.Fault 6 (at + 1))
+  pub local-none : scope.local_count ≤ number → SlotTyped nums scope (local_ty nums at) (refused reason.Unnamed (at + 1))
   unfolding TyMost local_ty judge_place named
   local-none h = record {
     typed = λ directory ends. record {
@@ -141,7 +142,7 @@ module _ (nums : List ℕ) (scope : coded.Scope) (at : ℕ) where
     parameter-small = omega (arith, parameter-inside)
 
     pub parameter-typed : SlotTyped nums scope (parameter_ty nums at)
-        (typed.Ty (get_or nums (scope.parameters + 2 * number + 1) 0))
+        (Ok (get_or nums (scope.parameters + 2 * number + 1) 0))
     unfolding told_ty TyMost parameter_ty judge_place named ◌>>=◌
     parameter-typed = record {
       typed = λ directory ends. record {
@@ -160,7 +161,7 @@ module _ (nums : List ℕ) (scope : coded.Scope) (at : ℕ) where
           rw (m.member.is, m.stands.direction.is) (written m.member.member.direction);
     }
 
-  pub parameter-none : scope.parameter_count ≤ number → SlotTyped nums scope (parameter_ty nums at) (typed.Fault 6 (at + 1))
+  pub parameter-none : scope.parameter_count ≤ number → SlotTyped nums scope (parameter_ty nums at) (refused reason.Unnamed (at + 1))
   unfolding TyMost parameter_ty judge_place named ◌>>=◌
   parameter-none h = record {
     typed = λ directory ends. record {
@@ -199,7 +200,7 @@ module _ (nums directory ends : List ℕ) (i : ℕ) where
   }
 
   pub header_is : (at : ℕ) → i < get_or directory 0 0 → Finds headers_of (FoundHeader nums at) nums directory ends i
-      → FindsHeader nums directory ends i (Header at)
+      → FindsHeader nums directory ends i (Some (Header at))
   unfolding headers_of FoundHeader FoundShape shape_in and_look
   header_is at h f = record {
     found = λ P end s.
@@ -213,7 +214,7 @@ module _ (nums directory ends : List ℕ) (i : ℕ) where
         };
   }
 
-  pub header-none : get_or directory 0 0 ≤ i → FindsHeader nums directory ends i Nothing
+  pub header-none : get_or directory 0 0 ≤ i → FindsHeader nums directory ends i None
   unfolding FoundShape shape_in and_look
   header-none h = record {
     found = λ P end s. rw (no_member P.headers i (omega (arith, h, s.headers.count)));
@@ -228,7 +229,7 @@ module _ (nums directory ends : List ℕ) (i : ℕ) where
     inside = omega (arith, h, asks.stands.globals.count);
   }
 
-  pub global-none : get_or directory 9 0 ≤ i → FindsGlobal nums directory ends i Nothing
+  pub global-none : get_or directory 9 0 ≤ i → FindsGlobal nums directory ends i None
   unfolding FoundShape global_at and_look
   global-none h = record {
     found = λ P end s. rw (no_member P.globals i (omega (arith, h, s.globals.count)));
@@ -241,7 +242,7 @@ module _ (nums directory ends : List ℕ) (i : ℕ) where
         let m : At P.globals i = member-at P.globals i (omega (arith, h, s.globals.count)) in
         record { member = m; numbered = f.finds P end m.member s m.is }
 
-    pub variable-is : n ≤ widest → FindsGlobal nums directory ends i (Variable n)
+    pub variable-is : n ≤ widest → FindsGlobal nums directory ends i (Some (Variable n))
     unfolding FoundShape global_at and_look
     variable-is low = record {
       found = λ P end s.
@@ -254,7 +255,7 @@ module _ (nums directory ends : List ℕ) (i : ℕ) where
         let g : NumberedGlobal asks.program i n = global_of asks.program asks.end asks.stands in
         header-high n g.member.member.ty high g.numbered
 
-    pub global-header : (r : Found) → widest < n → FindsHeader nums directory ends (n - 128) r
+    pub global-header : (r : Optional Found) → widest < n → FindsHeader nums directory ends (n - 128) r
         → FindsGlobal nums directory ends i r
     unfolding global_at and_look
     global-header r high q = record {
@@ -275,14 +276,14 @@ seen_other (suc (suc zero)) returns x = refl
 seen_other (suc (suc (suc kind))) returns x = refl
 
 module _ (scope : coded.Scope) (at t : ℕ) where
-  pub seen-told : t ≤ widest → (scope.kind ≡ 1 → ⊥) → SeenTyped scope at t (typed.Ty t)
+  pub seen-told : t ≤ widest → (scope.kind ≡ 1 → ⊥) → SeenTyped scope at t (Ok t)
   unfolding told_ty TyMost need ◌>>=◌
   seen-told m x = record {
     judged = λ b e. rw (← e, seen_other (scope.kind) (scope.returns) x);
     most = m;
   }
 
-  pub seen-not : scope.kind ≡ 1 → SeenTyped scope at t (typed.Fault 8 at)
+  pub seen-not : scope.kind ≡ 1 → SeenTyped scope at t (refused reason.Form at)
   unfolding told_ty TyMost need ◌>>=◌ sees_globals body_numbered
   seen-not k = record { judged = λ b e. rw (← e, k); most = tt }
 
@@ -322,7 +323,7 @@ module _ (nums : List ℕ) (at header : ℕ) where
     }
 
   pub field-none : (scope : coded.Scope) → get_or nums header 0 ≤ field_number
-      → FieldTyped nums scope at header (typed.Fault 6 (at + 2))
+      → FieldTyped nums scope at header (refused reason.Unnamed (at + 2))
   unfolding told_ty TyMost judge_field named ◌>>=◌
   field-none scope h = record {
     judged = λ b e widths c s.

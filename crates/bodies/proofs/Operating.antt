@@ -6,6 +6,9 @@ use mathlib.Core.List.{List}
 use Prim.Native.Nat.{ℕ, ◌+◌, ◌-◌, ◌≤◌, ◌<◌}
 use native.Mathlib.Omega.{arith}
 use lib.ListN.{length, get_or}
+use Rattle.std.specs.Prelude.{Ok, Err}
+use Rattle.rules.specs.declared.Fault.{Fault}
+use Rattle.rules.specs.Answers.{number_of}
 use Rattle.rules.specs.Words.{widest}
 use Rattle.rules.specs.Syntax.{Place, local, parameter, global, field, Expr}
 use Rattle.rules.specs.Form.{ok, fault, ◌>>=◌, Scope, judge_expr}
@@ -13,9 +16,7 @@ use Rattle.program.specs.Codes.{ty_of, place_tag}
 use Rattle.program.specs.Stands.{Holds, StandsExpr, on_bool, on-bits, on-place, on-valid, on-not, on-complement, on-binary, on-cast, on-slice, on-concatenation, on_call}
 use Rattle.program.specs.Scopes.{StandsScope}
 use Rattle.program.proofs.Views.{ExprView, CastView, expr-view, expr-begins}
-use Rattle.bodies.specs.declared.Typed.{Typed}
-use Rattle.bodies.specs.declared.Typed.TheVariants as typed
-use Rattle.bodies.specs.Claims.{told_ty, TyMost, AsksExpr, JudgesExpr}
+use Rattle.bodies.specs.Claims.{Typed, told_ty, TyMost, AsksExpr, JudgesExpr}
 use Rattle.bodies.specs.Leaves.{not_ty, complement_ty, cast_ty, slice_ty, IsWidth, SliceIn, AsksOne, OneTyped, join_ty, AsksTwo, TwoTyped, takes_two, lead_by, lead_length, OperandsAt, AsksOperands, Inside}
 
 module _ (nums ends : List ℕ) (depth at first : ℕ) (e : Expr) where
@@ -136,23 +137,21 @@ slice_in (on-concatenation t d e) low x f a b c = true-false (rw t.holds.is at f
 slice_in (on_call t n m xs) low x f a b c = absurd (x t.holds.is)
 
 -- what an answer says of the expression that it is about
-module _ {nums directory ends : List ℕ} {scope : coded.Scope} {depth at : ℕ} {a : Typed}
-    (j : JudgesExpr nums directory ends scope depth at a)
-    (Γ : Scope) (e : Expr) (s : StandsScope nums directory ends scope Γ) (h : StandsExpr nums ends depth at e) where
-  pub typed-is : (t : ℕ) → a ≡ typed.Ty t → judge_expr Γ e ≡ ok (ty_of t)
+module _ {nums directory ends : List ℕ} {scope : coded.Scope} {depth at : ℕ} where
+  pub typed-is : {t : ℕ} → JudgesExpr nums directory ends scope depth at (Ok t) → (Γ : Scope) (e : Expr)
+      → StandsScope nums directory ends scope Γ → StandsExpr nums ends depth at e → judge_expr Γ e ≡ ok (ty_of t)
   unfolding told_ty
-  typed-is t k = sym (j.judged Γ e s h) ∙ rw k
+  typed-is j Γ e s h = sym (j.judged Γ e s h)
 
-  pub fault-is : (number index : ℕ) → a ≡ typed.Fault number index → judge_expr Γ e ≡ fault number index
+  pub fault-is : {wrong : Fault} → JudgesExpr nums directory ends scope depth at (Err wrong) → (Γ : Scope) (e : Expr)
+      → StandsScope nums directory ends scope Γ → StandsExpr nums ends depth at e
+      → judge_expr Γ e ≡ fault (number_of wrong.reason) wrong.index
   unfolding told_ty
-  fault-is number index k = sym (j.judged Γ e s h) ∙ rw k
+  fault-is j Γ e s h = sym (j.judged Γ e s h)
 
-pub typed-most : {nums directory ends : List ℕ} {scope : coded.Scope} {depth at : ℕ} {a : Typed} (t : ℕ)
-    → JudgesExpr nums directory ends scope depth at a → a ≡ typed.Ty t → t ≤ widest
-unfolding TyMost
-typed-most {nums} {directory} {ends} {scope} {depth} {at} {a} t j k =
-    let m : TyMost (typed.Ty t) = rw k at j.most in
-    m
+  pub typed-most : {t : ℕ} → JudgesExpr nums directory ends scope depth at (Ok t) → t ≤ widest
+  unfolding TyMost
+  typed-most j = j.most
 
 -- by the tag: no operand, a call, others
 module _ (nums directory ends : List ℕ) (scope : coded.Scope) (depth at : ℕ) where
@@ -208,67 +207,64 @@ module _ (nums directory ends : List ℕ) (scope : coded.Scope) (depth at : ℕ)
         asks.asks.stands in
         record { scope_of = asks.asks.scope_of; expr = q.right; seen = asks.asks.seen; stands = q.right_stands }
 
-    module _ (a : Typed) (j : JudgesExpr nums directory ends scope (depth - 1) first a) where
-      pub first-fault : (number index : ℕ) → a ≡ typed.Fault number index
-          → JudgesExpr nums directory ends scope depth at (typed.Fault number index)
-      unfolding told_ty TyMost
-      first-fault number index k = record { judged = λ Γ e s h. go two refl Γ e s h; most = tt }
-        where
-          go : (b : Bool) → two ≡ b → (Γ : Scope) (e : Expr) → StandsScope nums directory ends scope Γ
-              → StandsExpr nums ends depth at e → fault number index ≡ judge_expr Γ e
-          go true f Γ e s h =
-              let q : TwoOf nums ends depth at first e = own-two f e h in
-              q.left_faulty Γ number index (fault-is j Γ q.left s q.left_stands number index k)
-          go false f Γ e s h =
-              let q : OneOf nums ends depth at first e = own-one f e h in
-              q.faulty Γ number index (fault-is j Γ q.operand s q.stands number index k)
+    pub first-fault : (wrong : Fault) → JudgesExpr nums directory ends scope (depth - 1) first (Err wrong)
+        → JudgesExpr nums directory ends scope depth at (Err wrong)
+    unfolding told_ty TyMost
+    first-fault wrong j = record { judged = λ Γ e s h. go two refl Γ e s h; most = tt }
+      where
+        go : (b : Bool) → two ≡ b → (Γ : Scope) (e : Expr) → StandsScope nums directory ends scope Γ
+            → StandsExpr nums ends depth at e → fault (number_of wrong.reason) wrong.index ≡ judge_expr Γ e
+        go true f Γ e s h =
+            let q : TwoOf nums ends depth at first e = own-two f e h in
+            q.left_faulty Γ _ _ (fault-is j Γ q.left s q.left_stands)
+        go false f Γ e s h =
+            let q : OneOf nums ends depth at first e = own-one f e h in
+            q.faulty Γ _ _ (fault-is j Γ q.operand s q.stands)
 
-      module _ (t : ℕ) (k : a ≡ typed.Ty t) where
-        module _ (f : two ≡ false) where
-          pub one-asks : AsksOne nums at t
-          one-asks = record {
-            numbers = asks.asks.seen.program.numbers;
-            inside = (expr-begins asks.asks.stands).inside;
-            most = typed-most t j k;
-            cast = cast-in asks.asks.stands;
-            slice = slice_in asks.asks.stands asks.inner asks.no_call (sym o.two_is ∙ f);
-          }
+    module _ (t : ℕ) (j : JudgesExpr nums directory ends scope (depth - 1) first (Ok t)) where
+      module _ (f : two ≡ false) where
+        pub one-asks : AsksOne nums at t
+        one-asks = record {
+          numbers = asks.asks.seen.program.numbers;
+          inside = (expr-begins asks.asks.stands).inside;
+          most = typed-most j;
+          cast = cast-in asks.asks.stands;
+          slice = slice_in asks.asks.stands asks.inner asks.no_call (sym o.two_is ∙ f);
+        }
 
-          pub one_told : (r : Typed) → OneTyped nums at t r → JudgesExpr nums directory ends scope depth at r
-          one_told r q = record {
-            judged = λ Γ e s h.
-                let p : OneOf nums ends depth at first e = own-one f e h in
-                p.judged Γ t r q (typed-is j Γ p.operand s p.stands t k);
-            most = q.most;
-          }
+        pub one_told : (r : Typed) → OneTyped nums at t r → JudgesExpr nums directory ends scope depth at r
+        one_told r q = record {
+          judged = λ Γ e s h.
+              let p : OneOf nums ends depth at first e = own-one f e h in
+              p.judged Γ t r q (typed-is j Γ p.operand s p.stands);
+          most = q.most;
+        }
 
-        module _ (f : two ≡ true) (b : Typed) (l : JudgesExpr nums directory ends scope (depth - 1)
-            (get_or ends first 0) b) where
-          pub second-fault : (number index : ℕ) → b ≡ typed.Fault number index
-              → JudgesExpr nums directory ends scope depth at (typed.Fault number index)
-          unfolding told_ty TyMost
-          second-fault number index m = record {
-            judged = λ Γ e s h.
-                let p : TwoOf nums ends depth at first e = own-two f e h in
-                p.right_faulty Γ t number index (typed-is j Γ p.left s p.left_stands t k)
-                (fault-is l Γ p.right s p.right_stands number index m);
-            most = tt;
-          }
+      module _ (f : two ≡ true) where
+        pub second-fault : (wrong : Fault)
+            → JudgesExpr nums directory ends scope (depth - 1) (get_or ends first 0) (Err wrong)
+            → JudgesExpr nums directory ends scope depth at (Err wrong)
+        unfolding told_ty TyMost
+        second-fault wrong l = record {
+          judged = λ Γ e s h.
+              let p : TwoOf nums ends depth at first e = own-two f e h in
+              p.right_faulty Γ t _ _ (typed-is j Γ p.left s p.left_stands) (fault-is l Γ p.right s p.right_stands);
+          most = tt;
+        }
 
-          pub two-asks : (u : ℕ) → b ≡ typed.Ty u → AsksTwo nums at t u
-          two-asks u m = record {
+        module _ (u : ℕ) (l : JudgesExpr nums directory ends scope (depth - 1) (get_or ends first 0) (Ok u)) where
+          pub two-asks : AsksTwo nums at t u
+          two-asks = record {
             numbers = asks.asks.seen.program.numbers;
             inside = (own-two f asks.asks.expr asks.asks.stands).inside;
-            most = record { left = typed-most t j k; right = typed-most u l m };
+            most = record { left = typed-most j; right = typed-most l };
           }
 
-          pub two-told : (u : ℕ) → b ≡ typed.Ty u → (r : Typed) → TwoTyped nums at t u r
-              → JudgesExpr nums directory ends scope depth at r
-          two-told u m r q = record {
+          pub two-told : (r : Typed) → TwoTyped nums at t u r → JudgesExpr nums directory ends scope depth at r
+          two-told r q = record {
             judged = λ Γ e s h.
                 let p : TwoOf nums ends depth at first e = own-two f e h in
-                p.judged Γ t u r q (typed-is j Γ p.left s p.left_stands t k)
-                (typed-is l Γ p.right s p.right_stands u m);
+                p.judged Γ t u r q (typed-is j Γ p.left s p.left_stands) (typed-is l Γ p.right s p.right_stands);
             most = q.most;
           }
 

@@ -11,6 +11,11 @@ use native.Mathlib.Numerals.{add-one}
 use lib.ListN.{length, get_or}
 use lib.Dec.{ltb, eqb}
 use borrow.Author.Tests.{lt-ltb, le-ltb, ne_eqb}
+use Rattle.std.specs.Prelude.{Ok, Err, Some, None}
+use Rattle.std.specs.Prelude.{Option as Optional}
+use Rattle.rules.specs.declared.Reason.TheVariants as reason
+use Rattle.rules.specs.declared.Fault.{Fault}
+use Rattle.rules.specs.Answers.{number_of}
 use Rattle.rules.specs.Words.{widest}
 use Rattle.rules.specs.Syntax.{Ty, Direction, by_none, by_in, by_out, by_inout, Parameter, Callable, Expr, Args, arg, place_in}
 use Rattle.rules.specs.Form.{Res, ok, fault, ◌>>=◌, named, need, only_if, callable_below, wants_place, Scope, writable_in, Given, types_agree, places_agree, judge_given, judge_expr, judge_args}
@@ -21,16 +26,12 @@ use Rattle.program.specs.Looks.{Has, Finds, callables_of, returns_of, FoundHead}
 use Rattle.program.proofs.Views.{expr-begins, ArgView, no-args, arg_view}
 use Rattle.program.proofs.Found.{At, member-at}
 use Rattle.program.proofs.Members.{same-types}
-use Rattle.bodies.specs.declared.Typed.{Typed}
-use Rattle.bodies.specs.declared.Typed.TheVariants as typed
-use Rattle.bodies.specs.declared.Called.{Called}
-use Rattle.bodies.specs.declared.Called.TheVariants.{Uncalled}
-use Rattle.bodies.specs.declared.Passed.{Passed}
-use Rattle.bodies.specs.declared.Passed.TheVariants.{Agree, Unpassed}
+use Rattle.bodies.specs.declared.Agreed.{Agreed}
+use Rattle.bodies.specs.declared.Parameter as coded_parameter
 use Rattle.bodies.specs.declared.Wanted.{Wanted}
-use Rattle.bodies.specs.Claims.{AsksExpr, JudgesExpr}
+use Rattle.bodies.specs.Claims.{Typed, refused, AsksExpr, JudgesExpr}
 use Rattle.bodies.specs.Leaves.{AsksWritable, IsWritable}
-use Rattle.bodies.specs.Calls.{Agreement, agreement, told_passed, AsksArgs, JudgesArgs, AsksWanted, WantedIf, IsWanted, weighed, Weighs, StandsCall, judge_call, told_call, CalledMost, AsksCall, JudgesCall, Settles}
+use Rattle.bodies.specs.Calls.{Called, Passed, Agreement, agreement, told_passed, AsksArgs, JudgesArgs, AsksWanted, WantedIf, IsWanted, weighed, Weighs, StandsCall, judge_call, told_call, CalledMost, AsksCall, JudgesCall, Settles}
 use Rattle.bodies.proofs.Operating.{typed-is, fault-is}
 
 -- what a list of arguments that is judged comes to
@@ -104,7 +105,7 @@ module _ (nums directory ends : List ℕ) (scope : coded.Scope) (depth at : ℕ)
     inside = omega (arith, h, asks.seen.reach, asks.seen.reaches);
   }
 
-  pub callable-none : scope.reach ≤ number → JudgesCall nums directory ends scope depth at (Uncalled 6 (at + 1))
+  pub callable-none : scope.reach ≤ number → JudgesCall nums directory ends scope depth at (refused reason.Unnamed (at + 1))
   unfolding told_call CalledMost judge_call callable_below only_if named ◌>>=◌
   callable-none h = record {
     judged = λ Γ f xs s c. rw (
@@ -154,39 +155,39 @@ module _ (nums directory ends : List ℕ) (scope : coded.Scope) (depth at : ℕ)
     pub head-most : returns ≤ widest
     head-most = (reached asks.scope_of asks.seen).found.returns_most
 
-    module _ (p : Passed)
-        (j : JudgesArgs nums directory ends scope (depth - 1) (at + 3) (get_or nums (at + 2) 0) parameters count p) where
-      passed_is : (Γ : Scope) (xs : Args) (s : StandsScope nums directory ends scope Γ) (g : ℕ)
-          → StandsCall nums ends depth at g xs
-          → told_passed p ≡ (judge_args Γ xs >>= λ given. ok (agreement (reached Γ s).callable.parameters given))
-      passed_is Γ xs s g c =
-          j.judged Γ xs (reached Γ s).callable.parameters s c.stand c.count.holds.is
-          (reached Γ s).found.parameters_stand (reached Γ s).found.count_is
+    abbrev Answers : Passed → Type 0
+    Answers p = JudgesArgs nums directory ends scope (depth - 1) (at + 3) (get_or nums (at + 2) 0) parameters count p
 
-      pub call_settled : (types places : Bool) → p ≡ Agree types places → (r : Called)
-          → Settles at kind returns types places r → JudgesCall nums directory ends scope depth at r
-      unfolding told_passed judge_call named ◌>>=◌
-      call_settled types places e r q = record {
-        judged = λ Γ g xs s c.
-            let x : GivenOf (judge_args Γ xs) (reached Γ s).callable.parameters types places
-            = given-of (judge_args Γ xs) (reached Γ s).callable.parameters types places
-            (rw e at (passed_is Γ xs s g c)) in
-            q.told
-            ∙ settled-call at types places (returns_of kind returns) (reached Γ s).callable (judge_args Γ xs) x.given
-            x.is x.types_are x.places_are (reached Γ s).found.returns_is
-            ∙ rw (← c.holds.is, (reached Γ s).is);
-        most = q.most;
-      }
+    passed_is : {p : Passed} → Answers p → (Γ : Scope) (xs : Args) (s : StandsScope nums directory ends scope Γ) (g : ℕ)
+        → StandsCall nums ends depth at g xs
+        → told_passed p ≡ (judge_args Γ xs >>= λ given. ok (agreement (reached Γ s).callable.parameters given))
+    passed_is j Γ xs s g c =
+        j.judged Γ xs (reached Γ s).callable.parameters s c.stand c.count.holds.is
+        (reached Γ s).found.parameters_stand (reached Γ s).found.count_is
 
-      pub call-unpassed : (m i : ℕ) → p ≡ Unpassed m i → JudgesCall nums directory ends scope depth at (Uncalled m i)
-      unfolding told_passed told_call CalledMost judge_call named ◌>>=◌
-      call-unpassed m i e = record {
-        judged = λ Γ g xs s c.
-            let x : judge_args Γ xs ≡ fault m i
-            = given-fault (judge_args Γ xs) (reached Γ s).callable.parameters m i (rw e at (passed_is Γ xs s g c)) in
-            rw (← c.holds.is, (reached Γ s).is, x);
-        most = tt;
-      }
+    pub call_settled : (a : Agreed) → Answers (Ok a) → (r : Called) → Settles at kind returns a.types a.places r
+        → JudgesCall nums directory ends scope depth at r
+    unfolding told_passed judge_call named ◌>>=◌
+    call_settled a j r q = record {
+      judged = λ Γ g xs s c.
+          let x : GivenOf (judge_args Γ xs) (reached Γ s).callable.parameters a.types a.places
+          = given-of (judge_args Γ xs) (reached Γ s).callable.parameters a.types a.places (passed_is j Γ xs s g c) in
+          q.told
+          ∙ settled-call at a.types a.places (returns_of kind returns) (reached Γ s).callable (judge_args Γ xs) x.given
+          x.is x.types_are x.places_are (reached Γ s).found.returns_is
+          ∙ rw (← c.holds.is, (reached Γ s).is);
+      most = q.most;
+    }
+
+    pub call-unpassed : (wrong : Fault) → Answers (Err wrong) → JudgesCall nums directory ends scope depth at (Err wrong)
+    unfolding told_passed told_call CalledMost judge_call named ◌>>=◌
+    call-unpassed wrong j = record {
+      judged = λ Γ g xs s c.
+          let x : judge_args Γ xs ≡ fault (number_of wrong.reason) wrong.index
+          = given-fault (judge_args Γ xs) (reached Γ s).callable.parameters _ _ (passed_is j Γ xs s g c) in
+          rw (← c.holds.is, (reached Γ s).is, x);
+      most = tt;
+    }
 
 pub ruleset calling = (
   callable-inside,
@@ -213,18 +214,6 @@ unfolding agreement types_agree places_agree
 none-agree [] n e = rw e
 none-agree (p ∷ ps) n e = rw (e, ne_eqb (length (p ∷ ps)) 0 (λ z. absurd (omega (arith, z))))
 
--- the parameters behind the one that comes next
-record LeftOver (nums : List ℕ) (w : Wanted) : Type 0 where
-  wanted : List Parameter
-  stand : StandsParameters nums w.next wanted
-  left_is : w.left ≡ length wanted
-
-unfoldable left_over : (nums : List ℕ) (w : Wanted) (ps : List Parameter) (b : Bool) → WantedIf b nums w ps
-    → LeftOver nums w
-unfolding WantedIf StandsParameters
-left_over nums w ps true q = record { wanted = q.others; stand = q.others_stand; left_is = q.left_is }
-left_over nums w ps false q = record { wanted = []; stand = tt; left_is = q.left_is }
-
 next_agree : (p : Parameter) (others : List Parameter) (direction ty t : ℕ) (writable types places : Bool)
     (given : List Given) → direction ≡ direction_number p.direction → ty_of ty ≡ p.ty
     → types ≡ types_agree others given
@@ -235,16 +224,34 @@ unfolding agreement types_agree places_agree
 next_agree p others direction ty t writable types places given d e f g =
     rw (← e, same-types ty t, in-only p.direction, ← d, ← f, ← g)
 
-weighed-agree : (nums : List ℕ) (w : Wanted) (ps : List Parameter) (b : Bool) (q : WantedIf b nums w ps) (t : ℕ)
-    (writable types places : Bool) (given : List Given) → types ≡ types_agree (left_over nums w ps b q).wanted given
-    → places ≡ places_agree (left_over nums w ps b q).wanted given
-    → told_passed (weighed b w t writable types places)
-    ≡ ok (agreement ps (record { ty = ty_of t; writable = writable } ∷ given))
-unfolding WantedIf left_over told_passed weighed agreement types_agree places_agree
-weighed-agree nums w ps true q t writable types places given e f =
-    rw q.same (ap ok (next_agree q.parameter q.others w.direction w.ty t writable types places given
-    q.direction_is q.ty_is e f))
-weighed-agree nums w ps false q t writable types places given e f = rw q.same
+-- the parameters behind the one that comes next, and what weighing an argument against that one comes to
+record Others (nums : List ℕ) (o : Optional coded_parameter.Parameter) (next left : ℕ) (ps : List Parameter) : Type 0
+  where
+  wanted : List Parameter
+  stand : StandsParameters nums next wanted
+  left_is : left ≡ length wanted
+  agrees : (t : ℕ) (writable : Bool) (behind : Agreed) (given : List Given) → behind.types ≡ types_agree wanted given
+      → behind.places ≡ places_agree wanted given
+      → told_passed (Ok (weighed o t writable behind))
+      ≡ ok (agreement ps (record { ty = ty_of t; writable = writable } ∷ given))
+
+others_of : (nums : List ℕ) (o : Optional coded_parameter.Parameter) (next left : ℕ) (ps : List Parameter)
+    → WantedIf nums o next left ps → Others nums o next left ps
+unfolding WantedIf weighed told_passed StandsParameters agreement types_agree places_agree
+others_of nums (Some p) next left ps q = record {
+  wanted = q.others;
+  stand = q.others_stand;
+  left_is = q.left_is;
+  agrees = λ t writable behind given e f.
+      rw q.same (ap ok (next_agree q.parameter q.others p.direction p.ty t writable behind.types behind.places given
+      q.direction_is q.ty_is e f));
+}
+others_of nums None next left ps q = record {
+  wanted = [];
+  stand = tt;
+  left_is = q.left_is;
+  agrees = λ t writable behind given e f. rw q.same;
+}
 
 args-given : (Γ : Scope) (first : Expr) (others xs : Args) (t : ℕ) (writable : Bool) (given : List Given)
     → xs ≡ arg first others → judge_expr Γ first ≡ ok (ty_of t) → judge_args Γ others ≡ ok given
@@ -255,7 +262,7 @@ args-given Γ first others xs t writable given e f g h = rw (e, f, g, h)
 
 module _ (nums directory ends : List ℕ) (scope : coded.Scope) (depth at count parameters left : ℕ) where
   pub args_none : count ≡ 0
-      → JudgesArgs nums directory ends scope depth at count parameters left (Agree (eqb left 0) true)
+      → JudgesArgs nums directory ends scope depth at count parameters left (Ok (record { types = eqb left 0; places = true }))
   unfolding told_passed judge_args ◌>>=◌
   args_none k = record {
     judged = λ Γ xs ps s h e p l. rw (no-args xs (sym e ∙ k), none-agree ps left l);
@@ -291,8 +298,8 @@ module _ (nums directory ends : List ℕ) (scope : coded.Scope) (depth at count 
       pub rest-asks : (w : Wanted) → IsWanted nums parameters left w
           → AsksArgs nums directory ends scope depth (get_or ends at 0) (count - 1) w.next w.left
       rest-asks w q =
-          let v : LeftOver nums w = left_over nums w asks.wanted w.present (q.told asks.wanted
-          asks.wanted_stand asks.left_is) in
+          let v : Others nums w.parameter w.next w.left asks.wanted
+          = others_of nums w.parameter w.next w.left asks.wanted (q.told asks.wanted asks.wanted_stand asks.left_is) in
           record {
             scope_of = asks.scope_of;
             arguments = some_arg.others;
@@ -306,55 +313,57 @@ module _ (nums directory ends : List ℕ) (scope : coded.Scope) (depth at count 
           }
 
       -- the first argument, and those behind it
-      module _ (a : Typed) (j : JudgesExpr nums directory ends scope depth at a) where
-        pub arg-fault : (number index : ℕ) → a ≡ typed.Fault number index
-            → JudgesArgs nums directory ends scope depth at count parameters left (Unpassed number index)
+      pub arg-fault : (wrong : Fault) → JudgesExpr nums directory ends scope depth at (Err wrong)
+          → JudgesArgs nums directory ends scope depth at count parameters left (Err wrong)
+      unfolding told_passed judge_args ◌>>=◌
+      arg-fault wrong j = record {
+        judged = λ Γ xs ps s h e p l.
+            let v : ArgView nums ends depth at count xs = arg_view count xs h e more in
+            rw (v.same, fault-is j Γ v.first s v.first_stands);
+      }
+
+      module _ (t : ℕ) (j : JudgesExpr nums directory ends scope depth at (Ok t)) (w : Wanted)
+          (q : IsWanted nums parameters left w) where
+        others_in : (ps : List Parameter) → StandsParameters nums parameters ps → left ≡ length ps
+            → Others nums w.parameter w.next w.left ps
+        others_in ps p l = others_of nums w.parameter w.next w.left ps (q.told ps p l)
+
+        abbrev Rest : Passed → Type 0
+        Rest b = JudgesArgs nums directory ends scope depth (get_or ends at 0) (count - 1) w.next w.left b
+
+        rest-is : {b : Passed} → Rest b → (Γ : Scope) → StandsScope nums directory ends scope Γ → (xs : Args)
+            (v : ArgView nums ends depth at count xs) (ps : List Parameter) (z : Others nums w.parameter w.next w.left ps)
+            → told_passed b ≡ (judge_args Γ v.others >>= λ given. ok (agreement z.wanted given))
+        rest-is r Γ s xs v ps z = r.judged Γ v.others z.wanted s v.others_stand v.fewer z.stand z.left_is
+
+        pub rest-fault : (wrong : Fault) → Rest (Err wrong)
+            → JudgesArgs nums directory ends scope depth at count parameters left (Err wrong)
         unfolding told_passed judge_args ◌>>=◌
-        arg-fault number index k = record {
+        rest-fault wrong r = record {
           judged = λ Γ xs ps s h e p l.
               let v : ArgView nums ends depth at count xs = arg_view count xs h e more in
-              rw (v.same, fault-is j Γ v.first s v.first_stands number index k);
+              let z : Others nums w.parameter w.next w.left ps = others_in ps p l in
+              let y : judge_args Γ v.others ≡ fault (number_of wrong.reason) wrong.index
+              = given-fault (judge_args Γ v.others) z.wanted _ _ (rest-is r Γ s xs v ps z) in
+              rw (v.same, typed-is j Γ v.first s v.first_stands, y);
         }
 
-        module _ (t : ℕ) (k : a ≡ typed.Ty t) (w : Wanted) (q : IsWanted nums parameters left w) (b : Passed)
-            (r : JudgesArgs nums directory ends scope depth (get_or ends at 0) (count - 1) w.next w.left b) where
-          rest-is : (Γ : Scope) → StandsScope nums directory ends scope Γ → (xs : Args)
-              (v : ArgView nums ends depth at count xs) (ps : List Parameter) (o : LeftOver nums w)
-              → told_passed b ≡ (judge_args Γ v.others >>= λ given. ok (agreement o.wanted given))
-          rest-is Γ s xs v ps o =
-              r.judged Γ v.others o.wanted s v.others_stand v.fewer o.stand o.left_is
-
-          pub rest-fault : (number index : ℕ) → b ≡ Unpassed number index
-              → JudgesArgs nums directory ends scope depth at count parameters left (Unpassed number index)
-          unfolding told_passed judge_args ◌>>=◌
-          rest-fault number index m = record {
-            judged = λ Γ xs ps s h e p l.
-                let v : ArgView nums ends depth at count xs = arg_view count xs h e more in
-                let o : LeftOver nums w = left_over nums w ps w.present (q.told ps p l) in
-                let z : judge_args Γ v.others ≡ fault number index
-                = given-fault (judge_args Γ v.others) o.wanted number index (rw m at (rest-is Γ s xs v ps o)) in
-                rw (v.same, typed-is j Γ v.first s v.first_stands t k, z);
-          }
-
-          pub rest-told : (types places : Bool) → b ≡ Agree types places → (writable : Bool)
-              → IsWritable nums scope at writable
-              → (c : Passed) → Weighs w t writable types places c
-              → JudgesArgs nums directory ends scope depth at count parameters left c
-          unfolding told_passed ◌>>=◌
-          rest-told types places m writable i c z = record {
-            judged = λ Γ xs ps s h e p l.
-                let v : ArgView nums ends depth at count xs = arg_view count xs h e more in
-                let o : WantedIf w.present nums w ps = q.told ps p l in
-                let x : GivenOf (judge_args Γ v.others) (left_over nums w ps w.present o).wanted types places
-                = given-of (judge_args Γ v.others) (left_over nums w ps w.present o).wanted types places
-                (rw m at (rest-is Γ s xs v ps (left_over nums w ps w.present o))) in
-                ap told_passed z.told
-                ∙ weighed-agree nums w ps w.present o t writable types places x.given x.types_are
-                x.places_are
-                ∙ ap (λ y. y >>= λ given. ok (agreement ps given)) (args-given Γ v.first v.others xs t writable
-                x.given v.same (typed-is j Γ v.first s v.first_stands t k) x.is
-                (i.told directory ends depth Γ v.first s v.first_stands));
-          }
+        pub rest-told : (behind : Agreed) → Rest (Ok behind) → (writable : Bool) → IsWritable nums scope at writable
+            → (c : Agreed) → Weighs w t writable behind c
+            → JudgesArgs nums directory ends scope depth at count parameters left (Ok c)
+        unfolding told_passed ◌>>=◌
+        rest-told behind r writable i c u = record {
+          judged = λ Γ xs ps s h e p l.
+              let v : ArgView nums ends depth at count xs = arg_view count xs h e more in
+              let z : Others nums w.parameter w.next w.left ps = others_in ps p l in
+              let x : GivenOf (judge_args Γ v.others) z.wanted behind.types behind.places
+              = given-of (judge_args Γ v.others) z.wanted behind.types behind.places (rest-is r Γ s xs v ps z) in
+              ap (λ a. told_passed (Ok a)) u.told
+              ∙ z.agrees t writable behind x.given x.types_are x.places_are
+              ∙ ap (λ y. y >>= λ given. ok (agreement ps given)) (args-given Γ v.first v.others xs t writable
+              x.given v.same (typed-is j Γ v.first s v.first_stands) x.is
+              (i.told directory ends depth Γ v.first s v.first_stands));
+        }
 
 pub ruleset passing = (
   args_none,

@@ -2,11 +2,14 @@
 use Rattle.program.specs.declared.Scope as coded
 use mathlib.Core.Bool.{Bool, true, false}
 use mathlib.Core.Option.{none}
-use mathlib.Core.Path.{◌≡◌, refl, ◌∙◌}
+use mathlib.Core.Path.{◌≡◌, refl, ap, ◌∙◌}
 use mathlib.Core.List.{List}
 use Prim.Native.Nat.{ℕ, ◌+◌, ◌≤◌, ◌<◌}
 use native.Mathlib.Omega.{arith}
 use lib.ListN.{length, get_or}
+use Rattle.std.specs.Prelude.{Some, None}
+use Rattle.std.specs.Prelude.{Option as Optional}
+use Rattle.rules.specs.declared.Reason.TheVariants as reason
 use Rattle.rules.specs.Numbers.{most_bytes}
 use Rattle.rules.specs.Words.{widest}
 use Rattle.rules.specs.Syntax.{bool, Place, local, parameter, global, field, Expr, read_of, place_in}
@@ -15,11 +18,9 @@ use Rattle.program.specs.Codes.{ty_of, place_tag}
 use Rattle.program.specs.Stands.{StandsPlace, StandsExpr, on_bool, on-bits, on-place, on-valid, on-not, on-complement, on-binary, on-cast, on-slice, on-concatenation, on_call}
 use Rattle.program.specs.Scopes.{StandsScope}
 use Rattle.program.proofs.Views.{ExprView, BoolView, BitsView, PlaceView, ValidView, expr-view, expr-begins}
-use Rattle.bodies.specs.declared.Typed.{Typed}
-use Rattle.bodies.specs.declared.Typed.TheVariants as typed
 use Rattle.bodies.specs.declared.Found.{Found}
-use Rattle.bodies.specs.declared.Found.TheVariants.{Variable, Header, Nothing}
-use Rattle.bodies.specs.Claims.{told_ty, TyMost}
+use Rattle.bodies.specs.declared.Found.TheVariants.{Variable, Header}
+use Rattle.bodies.specs.Claims.{Typed, refused, told_ty, TyMost}
 use Rattle.bodies.specs.Leaves.{Tells, IsWidth, bool_ty, bits_ty, AsksName, AsksFieldName, TypedIn, AsksSlot, SlotTyped, local_ty, parameter_ty, variable_ty, field_ty, header_ty, AsksProgram, HeaderFound, FoundShape, FindsGlobal, SeenTyped, AsksField, FieldTyped, AsksWritable, IsWritableParameter, IsWritable, AsksLeaf, JudgesLeaf}
 use Rattle.bodies.proofs.Naming.{none_found}
 
@@ -35,40 +36,46 @@ module _ (nums directory ends : List ℕ) (scope : coded.Scope) (at : ℕ) where
   name-program asks =
       record { program = asks.scope_of.program; end = asks.seen.end; stands = asks.seen.program }
 
-  module _ (x y : Found) (f : FindsGlobal nums directory ends (get_or nums (at + 1) 0) x) (e : x ≡ y) (Γ : Scope)
+  module _ (x y : Optional Found) (f : FindsGlobal nums directory ends (get_or nums (at + 1) 0) x) (e : x ≡ y) (Γ : Scope)
       (s : StandsScope nums directory ends scope Γ) where
     pub shape_of : FoundShape nums y (global_at Γ.program (get_or nums (at + 1) 0))
     shape_of = rw e at (f.found Γ.program s.end s.program)
 
-  module _ (x : Found) (f : FindsGlobal nums directory ends (get_or nums (at + 1) 0) x) where
-    module _ (t : ℕ) (e : x ≡ Variable t) where
+  module _ (x : Optional Found) (f : FindsGlobal nums directory ends (get_or nums (at + 1) 0) x) where
+    module _ (y : Found) (p : x ≡ Some y) (t : ℕ) (k : y ≡ Variable t) where
+      abbrev a_variable_found : x ≡ Some (Variable t)
+      a_variable_found = p ∙ ap Some k
+
       pub variable-most : AsksName nums directory ends scope at → t ≤ widest
       unfolding FoundShape
-      variable-most asks = (shape_of x (Variable t) f e asks.scope_of asks.seen).0
+      variable-most asks = (shape_of x (Some (Variable t)) f a_variable_found asks.scope_of asks.seen).0
 
       pub variable-seen : (r : Typed) → SeenTyped scope at t r
           → TypedIn nums directory ends scope (variable_ty nums at) r
       unfolding FoundShape variable_ty judge_place judge_global judge_variable named ◌>>=◌
       variable-seen r q = record {
-        judged = λ Γ s. rw (shape_of x (Variable t) f e Γ s).1 (q.judged Γ.body s.body);
+        judged = λ Γ s. rw (shape_of x (Some (Variable t)) f a_variable_found Γ s).1 (q.judged Γ.body s.body);
         most = q.most;
       }
 
-      pub field-of-variable : TypedIn nums directory ends scope (field_ty nums at) (typed.Fault 7 at)
+      pub field-of-variable : TypedIn nums directory ends scope (field_ty nums at) (refused reason.Type at)
       unfolding FoundShape field_ty judge_place judge_global judge_field named ◌>>=◌ told_ty TyMost
-      field-of-variable = record { judged = λ Γ s. rw (shape_of x (Variable t) f e Γ s).1; most = tt }
+      field-of-variable = record { judged = λ Γ s. rw (shape_of x (Some (Variable t)) f a_variable_found Γ s).1; most = tt }
 
-      pub header-of-variable : TypedIn nums directory ends scope (header_ty nums at) (typed.Fault 7 at)
+      pub header-of-variable : TypedIn nums directory ends scope (header_ty nums at) (refused reason.Type at)
       unfolding FoundShape header_ty judge_header_at judge_global judge_header named ◌>>=◌ told_ty TyMost
-      header-of-variable = record { judged = λ Γ s. rw (shape_of x (Variable t) f e Γ s).1; most = tt }
+      header-of-variable = record { judged = λ Γ s. rw (shape_of x (Some (Variable t)) f a_variable_found Γ s).1; most = tt }
 
-    module _ (h : ℕ) (e : x ≡ Header h) where
+    module _ (y : Found) (p : x ≡ Some y) (h : ℕ) (k : y ≡ Header h) where
+      abbrev a_header_found : x ≡ Some (Header h)
+      a_header_found = p ∙ ap Some k
+
       pub header-found : (Γ : Scope) → StandsScope nums directory ends scope Γ
           → HeaderFound nums h (global_at Γ.program (get_or nums (at + 1) 0))
       unfolding FoundShape
-      header-found Γ s = shape_of x (Header h) f e Γ s
+      header-found Γ s = shape_of x (Some (Header h)) f a_header_found Γ s
 
-      pub variable-of-header : TypedIn nums directory ends scope (variable_ty nums at) (typed.Fault 7 at)
+      pub variable-of-header : TypedIn nums directory ends scope (variable_ty nums at) (refused reason.Type at)
       unfolding variable_ty judge_place judge_global judge_variable named ◌>>=◌ told_ty TyMost
       variable-of-header = record { judged = λ Γ s. rw (header-found Γ s).is; most = tt }
 
@@ -89,8 +96,8 @@ module _ (nums directory ends : List ℕ) (scope : coded.Scope) (at : ℕ) where
       unfolding field_ty judge_place judge_global named ◌>>=◌
       field-seen r q = record {
         judged = λ Γ s.
-            let k : HeaderFound nums h (global_at Γ.program (get_or nums (at + 1) 0)) = header-found Γ s in
-            rw k.is (q.judged Γ.body s.body k.widths k.count k.stand);
+            let z : HeaderFound nums h (global_at Γ.program (get_or nums (at + 1) 0)) = header-found Γ s in
+            rw z.is (q.judged Γ.body s.body z.widths z.count z.stand);
         most = q.most;
       }
 
@@ -102,21 +109,21 @@ module _ (nums directory ends : List ℕ) (scope : coded.Scope) (at : ℕ) where
         most = q.most;
       }
 
-    module _ (e : x ≡ Nothing) where
+    module _ (e : x ≡ None) where
       pub nothing-found : (Γ : Scope) → StandsScope nums directory ends scope Γ
           → global_at Γ.program (get_or nums (at + 1) 0) ≡ none
       unfolding FoundShape
-      nothing-found Γ s = shape_of x Nothing f e Γ s
+      nothing-found Γ s = shape_of x None f e Γ s
 
-      pub variable-none : TypedIn nums directory ends scope (variable_ty nums at) (typed.Fault 6 (at + 1))
+      pub variable-none : TypedIn nums directory ends scope (variable_ty nums at) (refused reason.Unnamed (at + 1))
       unfolding variable_ty judge_place judge_global named ◌>>=◌ TyMost
       variable-none = record { judged = λ Γ s. none_found at ∙ rw (nothing-found Γ s); most = tt }
 
-      pub field-none : TypedIn nums directory ends scope (field_ty nums at) (typed.Fault 6 (at + 1))
+      pub field-none : TypedIn nums directory ends scope (field_ty nums at) (refused reason.Unnamed (at + 1))
       unfolding field_ty judge_place judge_global named ◌>>=◌ TyMost
       field-none = record { judged = λ Γ s. none_found at ∙ rw (nothing-found Γ s); most = tt }
 
-      pub header-none : TypedIn nums directory ends scope (header_ty nums at) (typed.Fault 6 (at + 1))
+      pub header-none : TypedIn nums directory ends scope (header_ty nums at) (refused reason.Unnamed (at + 1))
       unfolding header_ty judge_header_at judge_global named ◌>>=◌ TyMost
       header-none = record { judged = λ Γ s. none_found at ∙ rw (nothing-found Γ s); most = tt }
 

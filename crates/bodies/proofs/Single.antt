@@ -7,6 +7,8 @@ use Prim.Native.Nat.{ℕ, suc, ◌+◌, ◌-◌, ◌<◌}
 use native.Mathlib.Omega.{arith}
 use lib.ListN.{length, get_or, get_elem?}
 use lib.Dec.{eqb}
+use Rattle.std.specs.Prelude.{Ok, Err}
+use Rattle.rules.specs.declared.Fault.{Fault}
 use Rattle.rules.specs.Numbers.{most_bytes}
 use Rattle.rules.specs.Syntax.{Place, Expr, read_of, Args, place_in, Stmt, empty, assign, call_stmt, apply, return, exit, extract, verify}
 use Rattle.rules.specs.Form.{Res, ok, fault, ◌>>=◌, named, need, callable_below, Scope, writable_in, judge_extracted, judge_global, judge_header_at, need_ty, judge_given, may_call, judge_expr, judge_args, is_apply, is_state, judge_stmt, returns_on}
@@ -15,15 +17,10 @@ use Rattle.program.specs.Stands.{Holds, StandsExpr, on-place, StandsStmt, on-emp
 use Rattle.program.specs.Scopes.{StandsScope}
 use Rattle.program.proofs.Views.{expr-begins, StmtView, BareView, AssignView, CallStmtView, NamedView, ReturnView, VerifyView, stmt-view, stmt-begins}
 use Rattle.program.proofs.Members.{same-types}
-use Rattle.bodies.specs.declared.Typed.{Typed}
-use Rattle.bodies.specs.declared.Typed.TheVariants as typed
-use Rattle.bodies.specs.declared.Formed.{Formed}
-use Rattle.bodies.specs.declared.Formed.TheVariants.{Fine, Faulty}
-use Rattle.bodies.specs.declared.Called.{Called}
-use Rattle.bodies.specs.declared.Called.TheVariants.{Returns, Uncalled}
-use Rattle.bodies.specs.Claims.{AsksExpr, JudgesExpr, told_stmt, JudgesStmt}
+use Rattle.bodies.specs.declared.Callee.{Callee}
+use Rattle.bodies.specs.Claims.{Typed, Formed, AsksExpr, JudgesExpr, told_stmt, JudgesStmt}
 use Rattle.bodies.specs.Leaves.{AsksName, AsksWritable, IsWritable, AsksLeaf, JudgesLeaf}
-use Rattle.bodies.specs.Calls.{StandsCall, judge_call, told_call, AsksCall, JudgesCall}
+use Rattle.bodies.specs.Calls.{Called, StandsCall, judge_call, told_call, AsksCall, JudgesCall}
 use Rattle.bodies.specs.Forms.{Forms, ruled, ruled_both, FormsIn, called_in, returned_in, applied_in, Applies, left_in, parsed_in, MarksIn, ExtractsIn, AsksTagged, AsksSingle}
 use Rattle.bodies.proofs.Typing.{bool-rule}
 use Rattle.bodies.proofs.Operating.{place-low, typed-is, fault-is}
@@ -93,43 +90,42 @@ module _ (nums directory ends : List ℕ) (scope : coded.Scope) (depth at : ℕ)
       stands = some_assign.value_stands;
     }
 
-    module _ (a : Typed) (j : JudgesLeaf nums directory ends scope (at + 1) a) where
-      pub target-fault : (number index : ℕ) → a ≡ typed.Fault number index
-          → JudgesStmt nums directory ends scope depth at (Faulty number index)
+    pub target-fault : (wrong : Fault) → JudgesLeaf nums directory ends scope (at + 1) (Err wrong)
+        → JudgesStmt nums directory ends scope depth at (Err wrong)
+    unfolding told_stmt judge_stmt judge_expr ◌>>=◌
+    target-fault wrong j = record {
+      judged = λ Γ s z h.
+          let v : AssignView nums ends depth at s = assign-of s h asks.is in
+          rw (v.same, fault-is (j.judges (depth - 1)) Γ _ z (target-stands s v));
+    }
+
+    module _ (t : ℕ) (j : JudgesLeaf nums directory ends scope (at + 1) (Ok t)) where
+      pub value-fault : (wrong : Fault)
+          → JudgesExpr nums directory ends scope (depth - 1) (get_or ends (at + 1) 0) (Err wrong)
+          → JudgesStmt nums directory ends scope depth at (Err wrong)
       unfolding told_stmt judge_stmt judge_expr ◌>>=◌
-      target-fault number index k = record {
+      value-fault wrong l = record {
         judged = λ Γ s z h.
             let v : AssignView nums ends depth at s = assign-of s h asks.is in
-            rw (v.same, fault-is (j.judges (depth - 1)) Γ _ z (target-stands s v) number index k);
+            rw (
+              v.same,
+              typed-is (j.judges (depth - 1)) Γ _ z (target-stands s v),
+              fault-is l Γ v.value z v.value_stands,
+            );
       }
 
-      module _ (t : ℕ) (k : a ≡ typed.Ty t) (b : Typed)
-          (l : JudgesExpr nums directory ends scope (depth - 1) (get_or ends (at + 1) 0) b) where
-        pub value-fault : (number index : ℕ) → b ≡ typed.Fault number index
-            → JudgesStmt nums directory ends scope depth at (Faulty number index)
-        unfolding told_stmt judge_stmt judge_expr ◌>>=◌
-        value-fault number index m = record {
-          judged = λ Γ s z h.
-              let v : AssignView nums ends depth at s = assign-of s h asks.is in
-              rw (
-                v.same,
-                typed-is (j.judges (depth - 1)) Γ _ z (target-stands s v) t k,
-                fault-is l Γ v.value z v.value_stands number index m,
-              );
-        }
-
-        pub assign-told : (u : ℕ) → b ≡ typed.Ty u → (writes : Bool) → IsWritable nums scope (at + 1) writes
-            → (r : Formed)
-            → Forms r (ruled_both at (eqb t u) writes) → JudgesStmt nums directory ends scope depth at r
-        assign-told u m writes i r f = record {
-          judged = λ Γ s z h.
-              let v : AssignView nums ends depth at s = assign-of s h asks.is in
-              f.judged
-              ∙ assign-is Γ at v.place v.value t u writes s v.same
-              (typed-is (j.judges (depth - 1)) Γ _ z (target-stands s v) t k)
-              (typed-is l Γ v.value z v.value_stands u m)
-              (i.told directory ends (depth - 1) Γ (read_of (at + 1) v.place) z (target-stands s v));
-        }
+      pub assign-told : (u : ℕ) → JudgesExpr nums directory ends scope (depth - 1) (get_or ends (at + 1) 0) (Ok u)
+          → (writes : Bool) → IsWritable nums scope (at + 1) writes → (r : Formed)
+          → Forms r (ruled_both at (eqb t u) writes) → JudgesStmt nums directory ends scope depth at r
+      assign-told u l writes i r f = record {
+        judged = λ Γ s z h.
+            let v : AssignView nums ends depth at s = assign-of s h asks.is in
+            f.judged
+            ∙ assign-is Γ at v.place v.value t u writes s v.same
+            (typed-is (j.judges (depth - 1)) Γ _ z (target-stands s v))
+            (typed-is l Γ v.value z v.value_stands)
+            (i.told directory ends (depth - 1) Γ (read_of (at + 1) v.place) z (target-stands s v));
+      }
 
 pub ruleset assigning = (
   target-leaf,
@@ -180,30 +176,29 @@ module _ (nums directory ends : List ℕ) (scope : coded.Scope) (depth at : ℕ)
         stands = call-stands asks.asks.stmt asks.asks.stands v;
       }
 
-  module _ (asks : AsksTagged 4 nums directory ends scope depth at) (c : Called)
-      (j : JudgesCall nums directory ends scope depth at c) where
-    call-is : (Γ : Scope) (s : Stmt) → StandsScope nums directory ends scope Γ → StandsStmt nums ends depth at s
+  module _ (asks : AsksTagged 4 nums directory ends scope depth at) where
+    call-is : {c : Called} → JudgesCall nums directory ends scope depth at c → (Γ : Scope) (s : Stmt) → StandsScope nums directory ends scope Γ → StandsStmt nums ends depth at s
         → ((told_call c >>= λ returns. need 8 at (may_call Γ.body returns)) >>= λ _. ok false)
         ≡ (judge_stmt Γ s >>= λ _. ok (returns_on s))
     unfolding returns_on
-    call-is Γ s z h =
+    call-is j Γ s z h =
         let v : CallStmtView nums ends depth at s = call-of s h asks.is in
         ap (λ x. (x >>= λ returns. need 8 at (may_call Γ.body returns)) >>= λ _. ok false)
         (j.judged Γ v.callable v.arguments z (call-stands s h v))
         ∙ ap (λ x. x >>= λ _. ok false) (formed-call Γ at v.callable v.arguments)
         ∙ sym (ap (λ x. judge_stmt Γ x >>= λ _. ok (returns_on x)) v.same)
 
-    pub call-stmt-told : (kind returns : ℕ) → c ≡ Returns kind returns → (r : Formed)
-        → FormsIn scope (called_in at kind returns) r → JudgesStmt nums directory ends scope depth at r
+    pub call-stmt-told : (callee : Callee) → JudgesCall nums directory ends scope depth at (Ok callee) → (r : Formed)
+        → FormsIn scope (called_in at callee.kind callee.returns) r → JudgesStmt nums directory ends scope depth at r
     unfolding called_in ruled told_call ◌>>=◌
-    call-stmt-told kind returns k r f = record {
-      judged = λ Γ s z h. f.judged Γ.body z.body ∙ rw k at (call-is Γ s z h);
+    call-stmt-told callee j r f = record {
+      judged = λ Γ s z h. f.judged Γ.body z.body ∙ call-is j Γ s z h;
     }
 
-    pub call-stmt-fault : (number index : ℕ) → c ≡ Uncalled number index
-        → JudgesStmt nums directory ends scope depth at (Faulty number index)
+    pub call-stmt-fault : (wrong : Fault) → JudgesCall nums directory ends scope depth at (Err wrong)
+        → JudgesStmt nums directory ends scope depth at (Err wrong)
     unfolding told_stmt told_call ◌>>=◌
-    call-stmt-fault number index k = record { judged = λ Γ s z h. rw k at (call-is Γ s z h) }
+    call-stmt-fault wrong j = record { judged = λ Γ s z h. call-is j Γ s z h }
 
   -- a return with a value
   return_of : (s : Stmt) → StandsStmt nums ends depth at s → get_or nums at 0 ≡ 6 → ReturnView nums ends depth at s
@@ -223,24 +218,23 @@ module _ (nums directory ends : List ℕ) (scope : coded.Scope) (depth at : ℕ)
     pub return-deep : 0 < depth
     return-deep = (stmt-begins asks.asks.stands).levels
 
-    module _ (a : Typed) (j : JudgesExpr nums directory ends scope (depth - 1) (at + 1) a) where
-      pub returned-told : (t : ℕ) → a ≡ typed.Ty t → (r : Formed) → FormsIn scope (returned_in at t) r
-          → JudgesStmt nums directory ends scope depth at r
-      unfolding returned_in judge_stmt returns_on ◌>>=◌
-      returned-told t k r f = record {
-        judged = λ Γ s z h.
-            let v : ReturnView nums ends depth at s = return_of s h asks.is in
-            f.judged Γ.body z.body ∙ rw (v.same, typed-is j Γ v.value z v.stands t k);
-      }
+    pub returned-told : (t : ℕ) → JudgesExpr nums directory ends scope (depth - 1) (at + 1) (Ok t) → (r : Formed) → FormsIn scope (returned_in at t) r
+        → JudgesStmt nums directory ends scope depth at r
+    unfolding returned_in judge_stmt returns_on ◌>>=◌
+    returned-told t j r f = record {
+      judged = λ Γ s z h.
+          let v : ReturnView nums ends depth at s = return_of s h asks.is in
+          f.judged Γ.body z.body ∙ rw (v.same, typed-is j Γ v.value z v.stands);
+    }
 
-      pub returned-fault : (number index : ℕ) → a ≡ typed.Fault number index
-          → JudgesStmt nums directory ends scope depth at (Faulty number index)
-      unfolding told_stmt judge_stmt ◌>>=◌
-      returned-fault number index k = record {
-        judged = λ Γ s z h.
-            let v : ReturnView nums ends depth at s = return_of s h asks.is in
-            rw (v.same, fault-is j Γ v.value z v.stands number index k);
-      }
+    pub returned-fault : (wrong : Fault) → JudgesExpr nums directory ends scope (depth - 1) (at + 1) (Err wrong)
+        → JudgesStmt nums directory ends scope depth at (Err wrong)
+    unfolding told_stmt judge_stmt ◌>>=◌
+    returned-fault wrong j = record {
+      judged = λ Γ s z h.
+          let v : ReturnView nums ends depth at s = return_of s h asks.is in
+          rw (v.same, fault-is j Γ v.value z v.stands);
+    }
 
   -- a verify
   verify-of : (s : Stmt) → StandsStmt nums ends depth at s → get_or nums at 0 ≡ 12 → VerifyView nums ends depth at s
@@ -260,24 +254,23 @@ module _ (nums directory ends : List ℕ) (scope : coded.Scope) (depth at : ℕ)
     pub verify-deep : 0 < depth
     verify-deep = (stmt-begins asks.asks.stands).levels
 
-    module _ (a : Typed) (j : JudgesExpr nums directory ends scope (depth - 1) (at + 1) a) where
-      pub verified-told : (t : ℕ) → a ≡ typed.Ty t → (r : Formed) → FormsIn scope (parsed_in at (eqb t 0)) r
-          → JudgesStmt nums directory ends scope depth at r
-      verified-told t k r f = record {
-        judged = λ Γ s z h.
-            let v : VerifyView nums ends depth at s = verify-of s h asks.is in
-            f.judged Γ.body z.body
-            ∙ verify-is Γ at t v.condition v.error s v.same (typed-is j Γ v.condition z v.stands t k);
-      }
+    pub verified-told : (t : ℕ) → JudgesExpr nums directory ends scope (depth - 1) (at + 1) (Ok t) → (r : Formed) → FormsIn scope (parsed_in at (eqb t 0)) r
+        → JudgesStmt nums directory ends scope depth at r
+    verified-told t j r f = record {
+      judged = λ Γ s z h.
+          let v : VerifyView nums ends depth at s = verify-of s h asks.is in
+          f.judged Γ.body z.body
+          ∙ verify-is Γ at t v.condition v.error s v.same (typed-is j Γ v.condition z v.stands);
+    }
 
-      pub verified-fault : (number index : ℕ) → a ≡ typed.Fault number index
-          → JudgesStmt nums directory ends scope depth at (Faulty number index)
-      unfolding told_stmt judge_stmt ◌>>=◌
-      verified-fault number index k = record {
-        judged = λ Γ s z h.
-            let v : VerifyView nums ends depth at s = verify-of s h asks.is in
-            rw (v.same, fault-is j Γ v.condition z v.stands number index k);
-      }
+    pub verified-fault : (wrong : Fault) → JudgesExpr nums directory ends scope (depth - 1) (at + 1) (Err wrong)
+        → JudgesStmt nums directory ends scope depth at (Err wrong)
+    unfolding told_stmt judge_stmt ◌>>=◌
+    verified-fault wrong j = record {
+      judged = λ Γ s z h.
+          let v : VerifyView nums ends depth at s = verify-of s h asks.is in
+          rw (v.same, fault-is j Γ v.condition z v.stands);
+    }
 
 pub ruleset holding = (
   call-stmt-asks,
@@ -377,7 +370,7 @@ module _ (nums directory ends : List ℕ) (scope : coded.Scope) (depth at : ℕ)
         judged = λ Γ s z h. f.judged Γ z ∙ rw (marks s h).holds.is (sym ((marks s h).judged Γ));
       }
 
-  pub empty-told : get_or nums at 0 ≡ 0 → JudgesStmt nums directory ends scope depth at (Fine false)
+  pub empty-told : get_or nums at 0 ≡ 0 → JudgesStmt nums directory ends scope depth at (Ok false)
   unfolding StmtView told_stmt judge_stmt returns_on ◌>>=◌
   empty-told k = record {
     judged = λ Γ s z h.

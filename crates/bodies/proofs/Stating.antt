@@ -4,10 +4,13 @@ use Rattle.program.specs.declared.Scope as coded
 use mathlib.Core.Bool.{Bool, true, false, ◌&&◌, ◌||◌}
 use mathlib.Core.Path.{◌≡◌, refl, sym, ap, ◌∙◌}
 use mathlib.Core.List.{List}
-use Prim.Native.Nat.{ℕ, ◌+◌, ◌-◌, ◌<◌}
+use Prim.Native.Nat.{ℕ, ◌+◌, ◌-◌, ◌≤◌, ◌<◌}
 use native.Mathlib.Omega.{arith}
 use lib.ListN.{length, get_or}
 use lib.Dec.{eqb}
+use Rattle.std.specs.Prelude.{Ok, Err}
+use Rattle.rules.specs.declared.Fault.{Fault}
+use Rattle.rules.specs.Answers.{number_of}
 use Rattle.rules.specs.Numbers.{most_bytes}
 use Rattle.rules.specs.Syntax.{Expr, Stmt, if_else, Stmts, stmt}
 use Rattle.rules.specs.Form.{Res, ok, fault, ◌>>=◌, need, Scope, judge_expr, judge_stmt, judge_stmts, returns_on, some_returns}
@@ -15,11 +18,7 @@ use Rattle.program.specs.Codes.{ty_of, member_count}
 use Rattle.program.specs.Stands.{StandsStmt, StandsStmts}
 use Rattle.program.specs.Scopes.{StandsScope}
 use Rattle.program.proofs.Views.{expr-begins, StmtView, IfView, BlockView, stmt-view, stmt-begins, MemberView, no-members, member-view}
-use Rattle.bodies.specs.declared.Typed.{Typed}
-use Rattle.bodies.specs.declared.Typed.TheVariants as typed
-use Rattle.bodies.specs.declared.Formed.{Formed}
-use Rattle.bodies.specs.declared.Formed.TheVariants.{Fine, Faulty}
-use Rattle.bodies.specs.Claims.{AsksExpr, JudgesExpr, told_stmt, AsksStmt, JudgesStmt}
+use Rattle.bodies.specs.Claims.{Typed, Formed, AsksExpr, JudgesExpr, told_stmt, AsksStmt, JudgesStmt}
 use Rattle.bodies.specs.Forms.{Forms, ruled, chosen_as, AsksTagged, AsksSingle, AsksBranches, JudgesBranches, AsksStmts, JudgesStmts}
 use Rattle.bodies.proofs.Typing.{bool-rule}
 use Rattle.bodies.proofs.Operating.{typed-is, fault-is}
@@ -64,16 +63,18 @@ faulty-of (fault m i) number index c e =
     let g : i ≡ index = cc in
     rw (f, g)
 
-module _ {nums directory ends : List ℕ} {scope : coded.Scope} {depth at : ℕ} {a : Formed}
-    (j : JudgesStmt nums directory ends scope depth at a)
-    (Γ : Scope) (s : Stmt) (z : StandsScope nums directory ends scope Γ) (h : StandsStmt nums ends depth at s) where
-  pub fine-is : (b : Bool) → a ≡ Fine b → FineOf (judge_stmt Γ s) b (returns_on s)
+module _ {nums directory ends : List ℕ} {scope : coded.Scope} {depth at : ℕ} where
+  pub fine-is : {b : Bool} → JudgesStmt nums directory ends scope depth at (Ok b) → (Γ : Scope) (s : Stmt)
+      → StandsScope nums directory ends scope Γ → StandsStmt nums ends depth at s
+      → FineOf (judge_stmt Γ s) b (returns_on s)
   unfolding told_stmt
-  fine-is b k = fine_of (judge_stmt Γ s) b (returns_on s) (rw k at (j.judged Γ s z h))
+  fine-is j Γ s z h = fine_of (judge_stmt Γ s) _ (returns_on s) (j.judged Γ s z h)
 
-  pub faulty-is : (number index : ℕ) → a ≡ Faulty number index → judge_stmt Γ s ≡ fault number index
+  pub faulty-is : {wrong : Fault} → JudgesStmt nums directory ends scope depth at (Err wrong) → (Γ : Scope) (s : Stmt)
+      → StandsScope nums directory ends scope Γ → StandsStmt nums ends depth at s
+      → judge_stmt Γ s ≡ fault (number_of wrong.reason) wrong.index
   unfolding told_stmt
-  faulty-is number index k = faulty-of (judge_stmt Γ s) number index (returns_on s) (rw k at (j.judged Γ s z h))
+  faulty-is j Γ s z h = faulty-of (judge_stmt Γ s) _ _ (returns_on s) (j.judged Γ s z h)
 
 -- the branches of an if
 module _ (nums directory ends : List ℕ) (scope : coded.Scope) (depth at : ℕ) where
@@ -89,33 +90,31 @@ module _ (nums directory ends : List ℕ) (scope : coded.Scope) (depth at : ℕ)
     pub branch-ends : at < length ends
     branch-ends = omega (arith, stmt-begins asks.first_stands, asks.seen.program.room)
 
-  module _ (a : Formed) (j : JudgesStmt nums directory ends scope depth at a) where
-    pub first-faulty : (number index : ℕ) → a ≡ Faulty number index
-        → JudgesBranches nums directory ends scope depth at (Faulty number index)
+  pub first-faulty : (wrong : Fault) → JudgesStmt nums directory ends scope depth at (Err wrong)
+      → JudgesBranches nums directory ends scope depth at (Err wrong)
+  unfolding told_stmt ◌>>=◌
+  first-faulty wrong j = record {
+    judged = λ Γ s u z h i. rw (faulty-is j Γ s z h);
+  }
+
+  module _ (x : Bool) (j : JudgesStmt nums directory ends scope depth at (Ok x)) where
+    pub second-faulty : (wrong : Fault) → JudgesStmt nums directory ends scope depth (get_or ends at 0) (Err wrong)
+        → JudgesBranches nums directory ends scope depth at (Err wrong)
     unfolding told_stmt ◌>>=◌
-    first-faulty number index k = record {
-      judged = λ Γ s u z h i. rw (faulty-is j Γ s z h number index k);
+    second-faulty wrong l = record {
+      judged = λ Γ s u z h i. rw ((fine-is j Γ s z h).is, faulty-is l Γ u z i);
     }
 
-    module _ (x : Bool) (k : a ≡ Fine x) (b : Formed) (l : JudgesStmt nums directory ends scope depth
-        (get_or ends at 0) b) where
-      pub second-faulty : (number index : ℕ) → b ≡ Faulty number index
-          → JudgesBranches nums directory ends scope depth at (Faulty number index)
-      unfolding told_stmt ◌>>=◌
-      second-faulty number index m = record {
-        judged = λ Γ s u z h i. rw ((fine-is j Γ s z h x k).is, faulty-is l Γ u z i number index m);
-      }
-
-      pub branches-fine : (y c : Bool) → b ≡ Fine y → c ≡ (x && y)
-          → JudgesBranches nums directory ends scope depth at (Fine c)
-      unfolding told_stmt ◌>>=◌
-      branches-fine y c m e = record {
-        judged = λ Γ s u z h i.
-            let f : FineOf (judge_stmt Γ s) x (returns_on s) = fine-is j Γ s z h x k in
-            let g : FineOf (judge_stmt Γ u) y (returns_on u) = fine-is l Γ u z i y m in
-            let q : c ≡ (returns_on s && returns_on u) = cc in
-            rw (f.is, g.is, q);
-      }
+    pub branches-fine : (y c : Bool) → JudgesStmt nums directory ends scope depth (get_or ends at 0) (Ok y)
+        → c ≡ (x && y) → JudgesBranches nums directory ends scope depth at (Ok c)
+    unfolding told_stmt ◌>>=◌
+    branches-fine y c l e = record {
+      judged = λ Γ s u z h i.
+          let f : FineOf (judge_stmt Γ s) x (returns_on s) = fine-is j Γ s z h in
+          let g : FineOf (judge_stmt Γ u) y (returns_on u) = fine-is l Γ u z i in
+          let q : c ≡ (returns_on s && returns_on u) = cc in
+          rw (f.is, g.is, q);
+    }
 
 pub ruleset branching = (first-branch, second-branch, branch-ends, first-faulty, second-faulty, branches-fine)
 
@@ -169,31 +168,30 @@ module _ (nums directory ends : List ℕ) (scope : coded.Scope) (depth at : ℕ)
       second_stands = some_if.second_stands;
     }
 
-    module _ (a : Typed) (j : JudgesExpr nums directory ends scope (depth - 1) (at + 1) a) where
-      pub condition-fault : (number index : ℕ) → a ≡ typed.Fault number index
-          → JudgesStmt nums directory ends scope depth at (Faulty number index)
-      unfolding told_stmt judge_stmt ◌>>=◌
-      condition-fault number index k = record {
-        judged = λ Γ s z h.
-            let v : IfView nums ends depth at s = if-of s h asks.is in
-            rw (v.same, fault-is j Γ v.condition z v.condition_stands number index k);
-      }
+    pub condition-fault : (wrong : Fault) → JudgesExpr nums directory ends scope (depth - 1) (at + 1) (Err wrong)
+        → JudgesStmt nums directory ends scope depth at (Err wrong)
+    unfolding told_stmt judge_stmt ◌>>=◌
+    condition-fault wrong j = record {
+      judged = λ Γ s z h.
+          let v : IfView nums ends depth at s = if-of s h asks.is in
+          rw (v.same, fault-is j Γ v.condition z v.condition_stands);
+    }
 
-      pub if-told : (t : ℕ) → a ≡ typed.Ty t → (b : Formed)
-          → JudgesBranches nums directory ends scope (depth - 1) (get_or ends (at + 1) 0) b → (r : Formed)
-          → Forms r (chosen_as at t (told_stmt b)) → JudgesStmt nums directory ends scope depth at r
-      unfolding chosen_as ruled
-      if-told t k b l r f = record {
-        judged = λ Γ s z h.
-            let v : IfView nums ends depth at s = if-of s h asks.is in
-            f.judged
-            ∙ ap (λ x. x >>= λ returns. need 7 at (eqb t 0) >>= λ _. ok returns)
-            (l.judged Γ v.first v.second z v.first_stands v.second_stands)
-            ∙ if-then (judge_stmt Γ v.first) (judge_stmt Γ v.second) (need 7 at (eqb t 0))
-            (returns_on v.first && returns_on v.second)
-            ∙ if-is Γ at t v.condition v.first v.second s v.same
-            (typed-is j Γ v.condition z v.condition_stands t k);
-      }
+    pub if-told : (t : ℕ) → JudgesExpr nums directory ends scope (depth - 1) (at + 1) (Ok t) → (b : Formed)
+        → JudgesBranches nums directory ends scope (depth - 1) (get_or ends (at + 1) 0) b → (r : Formed)
+        → Forms r (chosen_as at t (told_stmt b)) → JudgesStmt nums directory ends scope depth at r
+    unfolding chosen_as ruled
+    if-told t j b l r f = record {
+      judged = λ Γ s z h.
+          let v : IfView nums ends depth at s = if-of s h asks.is in
+          f.judged
+          ∙ ap (λ x. x >>= λ returns. need 7 at (eqb t 0) >>= λ _. ok returns)
+          (l.judged Γ v.first v.second z v.first_stands v.second_stands)
+          ∙ if-then (judge_stmt Γ v.first) (judge_stmt Γ v.second) (need 7 at (eqb t 0))
+          (returns_on v.first && returns_on v.second)
+          ∙ if-is Γ at t v.condition v.first v.second s v.same
+          (typed-is j Γ v.condition z v.condition_stands);
+    }
 
 pub ruleset choosing = (
   condition-asks,
@@ -205,17 +203,19 @@ pub ruleset choosing = (
   if-told,
 )
 
--- what is pending of a block's members: those from an index on, and whether one before them returns
-record PendingOf (nums ends : List ℕ) (depth next left : ℕ) (returns : Bool) (Γ : Scope) (ss : Stmts) : Type 0 where
+-- what is pending of a block's members, so many of which are done: those from an index on, and whether one before
+-- them returns
+record PendingOf (nums ends : List ℕ) (depth left next : ℕ) (returns : Bool) (Γ : Scope) (ss : Stmts) : Type 0 where
   rest : Stmts
   stand : StandsStmts nums ends depth next rest
   counted : left ≡ member_count rest
   same : (judge_stmts Γ ss >>= λ _. ok (some_returns ss)) ≡ (judge_stmts Γ rest >>= λ _. ok (returns || some_returns rest))
 
-pub record Pending (nums directory ends : List ℕ) (scope : coded.Scope) (depth at count next left : ℕ) (returns : Bool) : Type 0 where
-  asks : AsksStmts nums directory ends scope depth next left
+pub record Pending (nums directory ends : List ℕ) (scope : coded.Scope) (depth at count done next : ℕ) (returns : Bool)
+    : Type 0 where
+  asks : AsksStmts nums directory ends scope depth next (count - done)
   pending : (Γ : Scope) (ss : Stmts) → StandsScope nums directory ends scope Γ → StandsStmts nums ends depth at ss
-      → count ≡ member_count ss → PendingOf nums ends depth next left returns Γ ss
+      → count ≡ member_count ss → PendingOf nums ends depth (count - done) next returns Γ ss
 
 either-none : (a : Bool) → ok (a || false) ≡ ok a
 either-none true = refl
@@ -235,25 +235,31 @@ next-pending Γ returns each b first others rest ss e f g h k =
 
 module _ (nums directory ends : List ℕ) (scope : coded.Scope) (depth at count : ℕ) where
   pub pending-first : AsksStmts nums directory ends scope depth at count
-      → Pending nums directory ends scope depth at count at count false
-  pending-first asks = record {
-    asks = asks;
-    pending = λ Γ ss z h e. record { rest = ss; stand = h; counted = e; same = refl };
-  }
+      → Pending nums directory ends scope depth at count 0 at false
+  pending-first asks =
+      let all : count - 0 ≡ count = omega arith in
+      record {
+        asks = rw all asks;
+        pending = λ Γ ss z h e. record { rest = ss; stand = h; counted = omega (arith, e); same = refl };
+      }
 
-  module _ (next left : ℕ) (returns : Bool)
-      (p : Pending nums directory ends scope depth at count next left returns) where
-    pub pending_done : left ≡ 0 → JudgesStmts nums directory ends scope depth at count (Fine returns)
+  module _ (done next : ℕ) (returns : Bool)
+      (p : Pending nums directory ends scope depth at count done next returns) where
+    pub pending_done : count ≤ done → JudgesStmts nums directory ends scope depth at count (Ok returns)
     unfolding told_stmt judge_stmts some_returns ◌>>=◌
     pending_done k = record {
       judged = λ Γ ss z h e.
-          let q : PendingOf nums ends depth next left returns Γ ss = p.pending Γ ss z h e in
-          sym (q.same ∙ rw (no-members q.rest (sym q.counted ∙ k)) (either-none returns));
+          let q : PendingOf nums ends depth (count - done) next returns Γ ss = p.pending Γ ss z h e in
+          let n : member_count q.rest ≡ 0 = omega (arith, k, q.counted) in
+          sym (q.same ∙ rw (no-members q.rest n) (either-none returns));
     }
 
-    module _ (more : left ≡ 0 → ⊥) where
-      abbrev some_member : MemberView nums ends depth next left p.asks.members
-      some_member = member-view left p.asks.members p.asks.stand p.asks.counted more
+    module _ (k : done < count) where
+      abbrev some_left : count - done ≡ 0 → ⊥
+      some_left e = omega (arith, k, e)
+
+      abbrev some_member : MemberView nums ends depth next (count - done) p.asks.members
+      some_member = member-view (count - done) p.asks.members p.asks.stand p.asks.counted some_left
 
       pub pending-asks : AsksStmt nums directory ends scope depth next
       pending-asks = record {
@@ -266,55 +272,49 @@ module _ (nums directory ends : List ℕ) (scope : coded.Scope) (depth at count 
       pub pending-ends : next < length ends
       pending-ends = omega (arith, stmt-begins some_member.first_stands, p.asks.seen.program.room)
 
-      module _ (a : Formed) (j : JudgesStmt nums directory ends scope depth next a) where
-        pub pending-fault : (number index : ℕ) → a ≡ Faulty number index
-            → JudgesStmts nums directory ends scope depth at count (Faulty number index)
-        unfolding told_stmt judge_stmts ◌>>=◌
-        pending-fault number index k = record {
-          judged = λ Γ ss z h e.
-              let q : PendingOf nums ends depth next left returns Γ ss = p.pending Γ ss z h e in
-              let v : MemberView nums ends depth next left q.rest
-              = member-view left q.rest q.stand q.counted more in
-              sym (q.same ∙ rw (v.same, faulty-is j Γ v.first z v.first_stands number index k));
-        }
+      pub pending-fault : (wrong : Fault) → JudgesStmt nums directory ends scope depth next (Err wrong)
+          → JudgesStmts nums directory ends scope depth at count (Err wrong)
+      unfolding told_stmt judge_stmts ◌>>=◌
+      pending-fault wrong j = record {
+        judged = λ Γ ss z h e.
+            let q : PendingOf nums ends depth (count - done) next returns Γ ss = p.pending Γ ss z h e in
+            let v : MemberView nums ends depth next (count - done) q.rest
+            = member-view (count - done) q.rest q.stand q.counted some_left in
+            sym (q.same ∙ rw (v.same, faulty-is j Γ v.first z v.first_stands));
+      }
 
-        pub pending_next : (each b : Bool) → a ≡ Fine each → b ≡ (returns || each)
-            → Pending nums directory ends scope depth at count (get_or ends next 0) (left - 1) b
-        pending_next each b k e = record {
-          asks = record {
-            scope_of = p.asks.scope_of;
-            members = some_member.others;
-            seen = p.asks.seen;
-            stand = some_member.others_stand;
-            counted = some_member.fewer;
-          };
-          pending = λ Γ ss z h i.
-              let q : PendingOf nums ends depth next left returns Γ ss = p.pending Γ ss z h i in
-              let v : MemberView nums ends depth next left q.rest
-              = member-view left q.rest q.stand q.counted more in
-              let f : FineOf (judge_stmt Γ v.first) each (returns_on v.first)
-              = fine-is j Γ v.first z v.first_stands each k in
-              record {
-                rest = v.others;
-                stand = v.others_stand;
-                counted = v.fewer;
-                same = next-pending Γ returns each b v.first v.others q.rest ss v.same f.is f.same e
-                    q.same;
-              };
-        }
+      pub pending_next : (each b : Bool) → JudgesStmt nums directory ends scope depth next (Ok each)
+          → b ≡ (returns || each)
+          → Pending nums directory ends scope depth at count (done + 1) (get_or ends next 0) b
+      pending_next each b j e =
+          let fewer : count - (done + 1) ≡ count - done - 1 = omega arith in
+          record {
+            asks = rw fewer (record {
+              scope_of = p.asks.scope_of;
+              members = some_member.others;
+              seen = p.asks.seen;
+              stand = some_member.others_stand;
+              counted = some_member.fewer;
+            });
+            pending = λ Γ ss z h i.
+                let q : PendingOf nums ends depth (count - done) next returns Γ ss = p.pending Γ ss z h i in
+                let v : MemberView nums ends depth next (count - done) q.rest
+                = member-view (count - done) q.rest q.stand q.counted some_left in
+                let f : FineOf (judge_stmt Γ v.first) each (returns_on v.first)
+                = fine-is j Γ v.first z v.first_stands in
+                record {
+                  rest = v.others;
+                  stand = v.others_stand;
+                  counted = omega (arith, v.fewer);
+                  same = next-pending Γ returns each b v.first v.others q.rest ss v.same f.is f.same e
+                      q.same;
+                };
+          }
 
 pub ruleset pending = (pending-first, pending_done, pending-asks, pending-ends, pending-fault, pending_next)
 
 -- a statement, by its tag
 module _ (nums directory ends : List ℕ) (scope : coded.Scope) (depth at : ℕ) where
-  pub formed-again : (a : Formed) (b : Bool) → JudgesStmt nums directory ends scope depth at a → a ≡ Fine b
-      → JudgesStmt nums directory ends scope depth at (Fine b)
-  formed-again a b j k = rw k at j
-
-  pub faulty-again : (a : Formed) (number index : ℕ) → JudgesStmt nums directory ends scope depth at a
-      → a ≡ Faulty number index → JudgesStmt nums directory ends scope depth at (Faulty number index)
-  faulty-again a number index j k = rw k at j
-
   block_of : (s : Stmt) → StandsStmt nums ends depth at s → get_or nums at 0 ≡ 3 → BlockView nums ends depth at s
   unfolding StmtView
   block_of s h k = rw k at (stmt-view h)
@@ -355,26 +355,18 @@ module _ (nums directory ends : List ℕ) (scope : coded.Scope) (depth at : ℕ)
         counted = some_block.count.holds.is;
       }
 
-  module _ (k : get_or nums at 0 ≡ 3) (a : Formed)
-      (j : JudgesStmts nums directory ends scope (depth - 1) (at + 2) (get_or nums (at + 1) 0) a) where
-    block-is : (Γ : Scope) (s : Stmt) → StandsScope nums directory ends scope Γ → StandsStmt nums ends depth at s
-        → told_stmt a ≡ (judge_stmt Γ s >>= λ _. ok (returns_on s))
-    unfolding judge_stmt returns_on
-    block-is Γ s z h =
+  pub block-told : get_or nums at 0 ≡ 3 → (r : Formed)
+      → JudgesStmts nums directory ends scope (depth - 1) (at + 2) (get_or nums (at + 1) 0) r
+      → JudgesStmt nums directory ends scope depth at r
+  unfolding judge_stmt returns_on
+  block-told k r j = record {
+    judged = λ Γ s z h.
         let v : BlockView nums ends depth at s = block_of s h k in
         j.judged Γ v.members z v.stand v.count.holds.is
-        ∙ sym (ap (λ x. judge_stmt Γ x >>= λ _. ok (returns_on x)) v.same)
-
-    pub block-fine : (b : Bool) → a ≡ Fine b → JudgesStmt nums directory ends scope depth at (Fine b)
-    block-fine b e = record { judged = λ Γ s z h. rw e at (block-is Γ s z h) }
-
-    pub block-fault : (number index : ℕ) → a ≡ Faulty number index
-        → JudgesStmt nums directory ends scope depth at (Faulty number index)
-    block-fault number index e = record { judged = λ Γ s z h. rw e at (block-is Γ s z h) }
+        ∙ sym (ap (λ x. judge_stmt Γ x >>= λ _. ok (returns_on x)) v.same);
+  }
 
 pub ruleset stating = (
-  formed-again,
-  faulty-again,
   stmt-inside,
   stmt-next,
   stmt-second,
@@ -383,6 +375,5 @@ pub ruleset stating = (
   single-asks,
   members-inside,
   members-ask,
-  block-fine,
-  block-fault,
+  block-told,
 )

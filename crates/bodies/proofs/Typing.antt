@@ -7,24 +7,24 @@ use native.Mathlib.Omega.{arith}
 use lib.ListN.{length, get_or}
 use lib.Dec.{ltb, leb, eqb}
 use borrow.Author.Tests.{ne_eqb, le-ltb, le-leb, lt-leb, leb-true, ltb-true}
+use Rattle.std.specs.Prelude.{Ok}
+use Rattle.rules.specs.declared.Reason.TheVariants as reason
 use Rattle.rules.specs.Words.{fits_width, slice_fits, slice_width, join_fits}
 use Rattle.rules.specs.Syntax.{Ty, bool, bits, Arithmetic, plus, minus, times, and, or, xor, Order, less, less_or_equal, Shift, shift_left, shift_right, Equality, equal, unequal, Logic, both, either}
 use Rattle.rules.specs.Syntax.{Operator, arithmetic, order, shift, equality, logic}
 use Rattle.rules.specs.Form.{Res, ok, fault, ◌>>=◌, need, same_ty, fits, width_at, need_ty, judge_operator}
 use Rattle.program.specs.Codes.{ty_of, operator_number}
 use Rattle.program.proofs.Members.{same-types, bits_of}
-use Rattle.bodies.specs.declared.Typed.{Typed}
-use Rattle.bodies.specs.declared.Typed.TheVariants as typed
-use Rattle.bodies.specs.Claims.{told_ty, TyMost}
+use Rattle.bodies.specs.Claims.{Typed, refused, told_ty, TyMost}
 use Rattle.bodies.specs.Leaves.{Tells, checked_ty, MostIf, IsWidth, bool_ty, bits_ty, not_ty, complement_ty, cast_ty, slice_ty, SliceMost, AsksOne, OneTyped, join_ty, OperatorTyped, TwoTyped}
 
 -- a rule that holds, and one that does not
 module _ (at t : ℕ) (holds : Bool) where
-  pub checked-holds : MostIf holds t → holds ≡ true → Tells (typed.Ty t) (checked_ty at holds (ty_of t))
+  pub checked-holds : MostIf holds t → holds ≡ true → Tells (Ok t) (checked_ty at holds (ty_of t))
   unfolding checked_ty told_ty TyMost ◌>>=◌ need
   checked-holds m e = record { judged = rw e; most = m.most e }
 
-  pub checked-not : holds ≡ false → Tells (typed.Fault 7 at) (checked_ty at holds (ty_of t))
+  pub checked-not : holds ≡ false → Tells (refused reason.Type at) (checked_ty at holds (ty_of t))
   unfolding checked_ty told_ty TyMost ◌>>=◌ need
   checked-not e = record { judged = rw e; most = tt }
 
@@ -86,7 +86,7 @@ module _ (at high low t : ℕ) where
       let w : high - low + 1 ≡ suc high - low = omega (arith, h) in
       retold k (rw (slice_is at high low t, le-leb low high h, bits_of (high - low + 1) (omega arith), w))
 
-  pub slice-not : high < low → Tells (typed.Fault 7 at) (slice_ty at high low (ty_of t))
+  pub slice-not : high < low → Tells (refused reason.Type at) (slice_ty at high low (ty_of t))
   unfolding checked_ty told_ty TyMost need ◌>>=◌
   slice-not h = record { judged = rw (slice_is at high low t, lt-leb low high h); most = tt }
 

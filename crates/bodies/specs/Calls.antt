@@ -1,7 +1,10 @@
 -- What the judgement of a call and of its arguments asks and promises.
 use Rattle.program.specs.declared.Scope as coded
-use Rattle.std.specs.Prelude.{Bool, true, false, ◌&&◌, ◌||◌, ◌≡◌, List, [], ◌∷◌, ℕ, suc, ◌+◌, ◌-◌, ◌≤◌, ◌<◌, ltb, eqb, length}
+use Rattle.std.specs.Prelude.{Bool, true, false, ◌&&◌, ◌||◌, ◌≡◌, List, [], ◌∷◌, ℕ, suc, ◌+◌, ◌-◌, ◌≤◌, ◌<◌, ltb, eqb, length, Result, Ok, Err, Some, None}
+use Rattle.std.specs.Prelude.{Option as Optional}
 use Rattle.std.proofs.Math.Option.{Option}
+use Rattle.rules.specs.declared.Fault.{Fault}
+use Rattle.rules.specs.Answers.{number_of}
 use Rattle.rules.specs.Numbers.{most_bytes}
 use Rattle.rules.specs.Words.{widest}
 use Rattle.rules.specs.Syntax.{Ty, Parameter, Args}
@@ -11,11 +14,17 @@ use Rattle.program.specs.Codes.{ty_of, direction_number, arg_count}
 use Rattle.program.specs.Stands.{Holds, HoldsWithin, StandsArgs, StandsParameters}
 use Rattle.program.specs.Scopes.{StandsScope}
 use Rattle.program.specs.Looks.{returns_of}
-use Rattle.bodies.specs.declared.Called.{Called}
-use Rattle.bodies.specs.declared.Called.TheVariants.{Returns, Uncalled}
-use Rattle.bodies.specs.declared.Passed.{Passed}
-use Rattle.bodies.specs.declared.Passed.TheVariants.{Agree, Unpassed}
+use Rattle.bodies.specs.declared.Callee.{Callee}
+use Rattle.bodies.specs.declared.Agreed.{Agreed}
+use Rattle.bodies.specs.declared.Parameter as coded_parameter
 use Rattle.bodies.specs.declared.Wanted.{Wanted}
+
+-- what a call calls, and whether its arguments agree; or the first fault
+abbrev pub Called : Type 0
+Called = Result Callee Fault
+
+abbrev pub Passed : Type 0
+Passed = Result Agreed Fault
 
 -- whether arguments agree with parameters, in number and type, and in place
 pub record Agreement : Type 0 where
@@ -26,8 +35,8 @@ unfoldable pub agreement : List Parameter → List Given → Agreement
 agreement ps xs = record { types = types_agree ps xs; places = places_agree ps xs }
 
 unfoldable pub told_passed : Passed → Res Agreement
-told_passed (Agree types places) = ok (record { types = types; places = places })
-told_passed (Unpassed number index) = fault number index
+told_passed (Ok a) = ok (record { types = a.types; places = a.places })
+told_passed (Err f) = fault (number_of f.reason) f.index
 
 -- so many arguments for the parameters that are left
 pub record AsksArgs (nums directory ends : List ℕ) (scope : coded.Scope) (depth at count parameters left : ℕ) : Type 0 where
@@ -54,35 +63,37 @@ pub record AsksWanted (nums : List ℕ) (parameters left : ℕ) : Type 0 where
   pub stand : StandsParameters nums parameters wanted
   pub left_is : left ≡ length wanted
 
-pub record NextWanted (nums : List ℕ) (w : Wanted) (ps : List Parameter) : Type 0 where
+pub record NextWanted (nums : List ℕ) (p : coded_parameter.Parameter) (next left : ℕ) (ps : List Parameter) : Type 0 where
   pub parameter : Parameter
   pub others : List Parameter
   pub same : ps ≡ parameter ∷ others
-  pub direction_is : w.direction ≡ direction_number parameter.direction
-  pub ty_is : ty_of w.ty ≡ parameter.ty
-  pub others_stand : StandsParameters nums w.next others
-  pub left_is : w.left ≡ length others
+  pub direction_is : p.direction ≡ direction_number parameter.direction
+  pub ty_is : ty_of p.ty ≡ parameter.ty
+  pub others_stand : StandsParameters nums next others
+  pub left_is : left ≡ length others
 
-pub record NoneWanted (w : Wanted) (ps : List Parameter) : Type 0 where
+pub record NoneWanted (left : ℕ) (ps : List Parameter) : Type 0 where
   pub same : ps ≡ []
-  pub left_is : w.left ≡ 0
+  pub left_is : left ≡ 0
 
-unfoldable pub WantedIf : Bool → List ℕ → Wanted → List Parameter → Type 0
-WantedIf true nums w ps = NextWanted nums w ps
-WantedIf false nums w ps = NoneWanted w ps
+unfoldable pub WantedIf : List ℕ → Optional coded_parameter.Parameter → ℕ → ℕ → List Parameter → Type 0
+WantedIf nums (Some p) next left ps = NextWanted nums p next left ps
+WantedIf nums None next left ps = NoneWanted left ps
 
 pub record IsWanted (nums : List ℕ) (parameters left : ℕ) (w : Wanted) : Type 0 where
   pub told : (ps : List Parameter) → StandsParameters nums parameters ps → left ≡ length ps
-      → WantedIf w.present nums w ps
+      → WantedIf nums w.parameter w.next w.left ps
 
 -- an argument against its parameter, and those behind it
-unfoldable pub weighed : Bool → Wanted → ℕ → Bool → Bool → Bool → Passed
-weighed true w t writable types places =
-    Agree (eqb w.ty t && types) ((ltb w.direction 2 || writable) && places)
-weighed false w t writable types places = Agree false true
+unfoldable pub weighed : Optional coded_parameter.Parameter → ℕ → Bool → Agreed → Agreed
+weighed (Some p) t writable behind = record {
+  types = eqb p.ty t && behind.types;
+  places = (ltb p.direction 2 || writable) && behind.places;
+}
+weighed None t writable behind = record { types = false; places = true }
 
-pub record Weighs (w : Wanted) (t : ℕ) (writable types places : Bool) (r : Passed) : Type 0 where
-  pub told : r ≡ weighed w.present w t writable types places
+pub record Weighs (w : Wanted) (t : ℕ) (writable : Bool) (behind r : Agreed) : Type 0 where
+  pub told : r ≡ weighed w.parameter t writable behind
 
 -- a call: what stands behind its tag, and what the callable returns
 pub record StandsCall (nums ends : List ℕ) (depth at callable : ℕ) (arguments : Args) : Type 0 where
@@ -99,12 +110,12 @@ judge_call Γ at f xs = do
   ok c.returns
 
 unfoldable pub told_call : Called → Res (Option Ty)
-told_call (Returns kind returns) = ok (returns_of kind returns)
-told_call (Uncalled number index) = fault number index
+told_call (Ok c) = ok (returns_of c.kind c.returns)
+told_call (Err f) = fault (number_of f.reason) f.index
 
 unfoldable pub CalledMost : Called → Type 0
-CalledMost (Returns kind returns) = returns ≤ widest
-CalledMost (Uncalled number index) = Unit
+CalledMost (Ok c) = c.returns ≤ widest
+CalledMost (Err f) = Unit
 
 pub record AsksCall (nums directory ends : List ℕ) (scope : coded.Scope) (depth at : ℕ) : Type 0 where
   pub scope_of : Scope

@@ -1,31 +1,41 @@
 -- What the passes over expressions and statements ask and promise. An `Asks` says that some scope and some tree stand
 -- there; a `Judges` says of all scopes and trees that stand there that the answer is the rules'.
 use Rattle.program.specs.declared.Scope as coded
-use Rattle.std.specs.Prelude.{Bool, ◌≡◌, List, ℕ, ◌≤◌}
+use Rattle.std.specs.Prelude.{Bool, ◌≡◌, List, ℕ, ◌≤◌, Result, Ok, Err}
+use Rattle.rules.specs.declared.Reason.{Reason}
+use Rattle.rules.specs.declared.Fault.{Fault}
+use Rattle.rules.specs.Answers.{number_of}
 use Rattle.rules.specs.Words.{widest}
 use Rattle.rules.specs.Syntax.{Ty, Expr, Stmt}
 use Rattle.rules.specs.Form.{Res, ok, fault, ◌>>=◌, Scope, judge_expr, judge_stmt, returns_on}
 use Rattle.program.specs.Codes.{ty_of}
 use Rattle.program.specs.Stands.{StandsExpr, StandsStmt}
 use Rattle.program.specs.Scopes.{StandsScope}
-use Rattle.bodies.specs.declared.Typed.{Typed}
-use Rattle.bodies.specs.declared.Typed.TheVariants as typed
-use Rattle.bodies.specs.declared.Formed.{Formed}
-use Rattle.bodies.specs.declared.Formed.TheVariants.{Fine, Faulty}
+
+-- a type, and whether a statement returns a value; or the first fault
+abbrev pub Typed : Type 0
+Typed = Result ℕ Fault
+
+abbrev pub Formed : Type 0
+Formed = Result Bool Fault
+
+-- what is refused, and where
+abbrev pub refused : {A : Type 0} → Reason → ℕ → Result A Fault
+refused reason index = Err (record { reason = reason; index = index })
 
 -- the answers in the rules' words
 unfoldable pub told_ty : Typed → Res Ty
-told_ty (typed.Ty t) = ok (ty_of t)
-told_ty (typed.Fault number index) = fault number index
+told_ty (Ok t) = ok (ty_of t)
+told_ty (Err f) = fault (number_of f.reason) f.index
 
 unfoldable pub told_stmt : Formed → Res Bool
-told_stmt (Fine returns) = ok returns
-told_stmt (Faulty number index) = fault number index
+told_stmt (Ok returns) = ok returns
+told_stmt (Err f) = fault (number_of f.reason) f.index
 
 -- a type that is told is one of a value
 unfoldable pub TyMost : Typed → Type 0
-TyMost (typed.Ty t) = t ≤ widest
-TyMost (typed.Fault number index) = Unit
+TyMost (Ok t) = t ≤ widest
+TyMost (Err f) = Unit
 
 -- an expression
 pub record AsksExpr (nums directory ends : List ℕ) (scope : coded.Scope) (depth at : ℕ) : Type 0 where

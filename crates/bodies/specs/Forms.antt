@@ -8,8 +8,7 @@ use Rattle.program.specs.Codes.{ty_of, member_count}
 use Rattle.program.specs.Stands.{StandsStmt, StandsStmts}
 use Rattle.program.specs.Scopes.{body_numbered, StandsScope}
 use Rattle.program.specs.Looks.{returns_of}
-use Rattle.bodies.specs.declared.Formed.{Formed}
-use Rattle.bodies.specs.Claims.{told_stmt, AsksStmt}
+use Rattle.bodies.specs.Claims.{Formed, told_stmt, AsksStmt}
 
 -- an answer is the rules'
 pub record Forms (r : Formed) (is : Res Bool) : Type 0 where

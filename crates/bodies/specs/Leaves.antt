@@ -1,6 +1,7 @@
 -- What the functions below the passes ask and promise: literals, operators, places and names.
 use Rattle.program.specs.declared.Scope as coded
-use Rattle.std.specs.Prelude.{Bool, true, false, ◌||◌, ◌≡◌, List, ℕ, ◌+◌, ◌≤◌, ◌<◌, eqb, length, get_or}
+use Rattle.std.specs.Prelude.{Bool, true, false, ◌||◌, ◌≡◌, List, ℕ, ◌+◌, ◌≤◌, ◌<◌, eqb, length, get_or, Some, None}
+use Rattle.std.specs.Prelude.{Option as Optional}
 use Rattle.std.proofs.Math.Option.{Option, none, some}
 use Rattle.rules.specs.Numbers.{most_bytes}
 use Rattle.rules.specs.Words.{widest, slice_fits, slice_width, join_fits}
@@ -11,10 +12,9 @@ use Rattle.program.specs.Codes.{ty_of, operator_number}
 use Rattle.program.specs.Stands.{Holds, StandsExpr, StandsWidths, StandsProgram}
 use Rattle.program.specs.Looks.{returns_of}
 use Rattle.program.specs.Scopes.{body_numbered, StandsScope}
-use Rattle.bodies.specs.declared.Typed.{Typed}
 use Rattle.bodies.specs.declared.Found.{Found}
-use Rattle.bodies.specs.declared.Found.TheVariants.{Variable, Header, Nothing}
-use Rattle.bodies.specs.Claims.{told_ty, TyMost, AsksExpr, JudgesExpr}
+use Rattle.bodies.specs.declared.Found.TheVariants.{Variable, Header}
+use Rattle.bodies.specs.Claims.{Typed, told_ty, TyMost, AsksExpr, JudgesExpr}
 
 -- an answer is the rules'
 pub record Tells (r : Typed) (is : Res Ty) : Type 0 where
@@ -179,15 +179,15 @@ pub record HeaderFound (nums : List ℕ) (at : ℕ) (s : Option Shape) : Type 0 
   pub count : Holds nums at (length widths)
   pub stand : StandsWidths nums (at + 1) widths
 
-unfoldable pub FoundShape : List ℕ → Found → Option Shape → Type 0
-FoundShape nums (Variable t) s = (t ≤ widest) × (s ≡ some (a_variable (ty_of t)))
-FoundShape nums (Header at) s = HeaderFound nums at s
-FoundShape nums Nothing s = s ≡ none
+unfoldable pub FoundShape : List ℕ → Optional Found → Option Shape → Type 0
+FoundShape nums (Some (Variable t)) s = (t ≤ widest) × (s ≡ some (a_variable (ty_of t)))
+FoundShape nums (Some (Header at)) s = HeaderFound nums at s
+FoundShape nums None s = s ≡ none
 
-pub record FindsGlobal (nums directory ends : List ℕ) (g : ℕ) (r : Found) : Type 0 where
+pub record FindsGlobal (nums directory ends : List ℕ) (g : ℕ) (r : Optional Found) : Type 0 where
   pub found : (P : Program) (end : ℕ) → StandsProgram nums directory ends P end → FoundShape nums r (global_at P g)
 
-pub record FindsHeader (nums directory ends : List ℕ) (h : ℕ) (r : Found) : Type 0 where
+pub record FindsHeader (nums directory ends : List ℕ) (h : ℕ) (r : Optional Found) : Type 0 where
   pub found : (P : Program) (end : ℕ) → StandsProgram nums directory ends P end
       → FoundShape nums r (shape_in P (header h))
 

@@ -5,7 +5,7 @@ ghost use Rattle.bodies.specs.Leaves.{TellsIn, value_ty};
 ghost use Rattle.bodies.specs.Calls.{AsksWanted, IsWanted, Weighs, Settles};
 
 use super::types::{both, either};
-use super::{Agreed, Callee, Typed, Wanted};
+use super::{Agreed, Callee, Parameter, Typed, Wanted};
 use program::{STATE, Scope};
 use rules::{Fault, Reason};
 
@@ -25,27 +25,34 @@ pub fn value_type(scope: &Scope, at: usize, kind: u64, returns: u64) -> Typed
 }
 
 // The parameter that comes next, if one is left.
-pub fn wanted_at(nums: &[u64], parameters: usize, left: u64) -> Option<Wanted>
+pub fn wanted_at(nums: &[u64], parameters: usize, left: u64) -> Wanted
     requires { AsksWanted nums.now parameters left }
     ensures { IsWanted nums.now parameters left result }
 {
     if left == 0 {
-        None
+        Wanted {
+            parameter: None,
+            next: parameters,
+            left: 0,
+        }
     } else {
-        Some(Wanted {
+        let parameter = Parameter {
             direction: nums[parameters],
             ty: nums[parameters + 1],
+        };
+        Wanted {
+            parameter: Some(parameter),
             next: parameters + 2,
             left: left - 1,
-        })
+        }
     }
 }
 
 // An argument of a type against its parameter, before those behind it.
-pub fn weigh(wanted: Option<Wanted>, t: u64, writable: bool, behind: Agreed) -> Agreed
+pub fn weigh(wanted: Wanted, t: u64, writable: bool, behind: Agreed) -> Agreed
     ensures { Weighs wanted t writable behind result }
 {
-    match wanted {
+    match wanted.parameter {
         Some(parameter) => {
             let place = either(parameter.direction < 2, writable);
             Agreed {

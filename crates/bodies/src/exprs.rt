@@ -64,18 +64,15 @@ fn judge_args(
         let t = judge_expr(source, scope, depth, at)?;
         let wanted = wanted_at(source.nums, parameters, left);
         let next = source.ends[at] as usize;
-        let behind = match wanted {
-            Some(parameter) => judge_args(
-                source,
-                scope,
-                depth,
-                next,
-                count - 1,
-                parameter.next,
-                parameter.left,
-            )?,
-            None => judge_args(source, scope, depth, next, count - 1, parameters, 0)?,
-        };
+        let behind = judge_args(
+            source,
+            scope,
+            depth,
+            next,
+            count - 1,
+            wanted.next,
+            wanted.left,
+        )?;
         let writable = writable_at(source.nums, scope, at);
         Ok(weigh(wanted, t, writable, behind))
     }
@@ -140,7 +137,6 @@ pub fn judge_expr(source: &Source, scope: &Scope, depth: usize, at: usize) -> Ty
         let Callee { kind, returns } = judge_call(source, scope, depth, at)?;
         value_type(scope, at, kind, returns)
     } else {
-        let t = judge_operands(source, scope, depth, at)?;
-        Ok(t)
+        judge_operands(source, scope, depth, at)
     }
 }

@@ -46,11 +46,17 @@ pub struct Operands {
     pub two: bool,
 }
 
-// The parameter that an argument is for; where those behind it begin, and how many they are.
+// A parameter: its direction and its type.
 #[derive(Clone, Copy)]
-pub struct Wanted {
+pub struct Parameter {
     pub direction: u64,
     pub ty: u64,
+}
+
+// The parameter that an argument is for, if one is left; where those behind it begin, and how many they are.
+#[derive(Clone, Copy)]
+pub struct Wanted {
+    pub parameter: Option<Parameter>,
     pub next: usize,
     pub left: u64,
 }

@@ -126,13 +126,10 @@ pub fn whole_bytes(nums: &[u64], header: usize) -> bool
     requires { AsksWidths nums.now header }
     ensures { IsWhole nums.now header result }
 {
-    let mut next = header + 1;
-    let mut left = nums[header];
+    let first = header + 1;
     let mut bits = 0;
-    while left != 0 {
+    for next in first..first + nums[header] as usize {
         bits += nums[next];
-        next += 1;
-        left -= 1;
     }
     bits % 8 == 0
 }

@@ -18,13 +18,11 @@ fn judge_stmts(source: &Source, scope: &Scope, depth: usize, at: usize, count: u
     ensures { In JudgesStmts source.now scope.now depth at count result }
 {
     let mut next = at;
-    let mut left = count;
     let mut returns = false;
-    while left != 0 {
+    for _ in 0..count {
         let each = judge_stmt(source, scope, depth, next)?;
         returns = either(returns, each);
         next = source.ends[next] as usize;
-        left -= 1;
     }
     Ok(returns)
 }
@@ -62,12 +60,10 @@ pub fn judge_stmt(source: &Source, scope: &Scope, depth: usize, at: usize) -> Fo
 {
     let tag = source.nums[at];
     if tag == 2 {
-        let returns = judge_if(source, scope, depth, at)?;
-        Ok(returns)
+        judge_if(source, scope, depth, at)
     } else if tag == 3 {
         let count = source.nums[at + 1];
-        let returns = judge_stmts(source, scope, depth - 1, at + 2, count)?;
-        Ok(returns)
+        judge_stmts(source, scope, depth - 1, at + 2, count)
     } else {
         judge_single(source, scope, depth, at)
     }

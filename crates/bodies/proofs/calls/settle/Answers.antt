@@ -3,11 +3,11 @@ use Rattle.bodies.proofs.Calling.{settling}
 use borrow.Author.Rules.{rules}
 use Rattle.bodies.proofs.calls.settle.Goals as goal
 
-pub returns-then-places : goal.returns-then-places
-returns-then-places c = search (settling, rules)
+pub returns-then-agreed-2 : goal.returns-then-agreed-2
+returns-then-agreed-2 c = search (settling, rules)
 
-pub returns-else-places : goal.returns-else-places
-returns-else-places c = search (settling, rules)
+pub returns-else-agreed-2 : goal.returns-else-agreed-2
+returns-else-agreed-2 c = search (settling, rules)
 
-pub returns-else-types : goal.returns-else-types
-returns-else-types c = search (settling, rules)
+pub returns-else-agreed : goal.returns-else-agreed
+returns-else-agreed c = search (settling, rules)

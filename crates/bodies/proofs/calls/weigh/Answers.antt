@@ -3,8 +3,8 @@ use Rattle.bodies.proofs.Calling.{weighing}
 use borrow.Author.Rules.{rules}
 use Rattle.bodies.proofs.calls.weigh.Goals as goal
 
-pub returns-then-present : goal.returns-then-present
-returns-then-present c = search (weighing, rules)
+pub returns-in-Some : goal.returns-in-Some
+returns-in-Some c = search (weighing, rules)
 
-pub returns-else-present : goal.returns-else-present
-returns-else-present c = search (weighing, rules)
+pub returns-in-None : goal.returns-in-None
+returns-in-None c = search (weighing, rules)

@@ -15,5 +15,5 @@ returns-then-ty-le-WIDEST c = search (globals, rules)
 pub returns-else-ty-le-WIDEST : goal.returns-else-ty-le-WIDEST
 returns-else-ty-le-WIDEST c = search (globals, rules)
 
-pub returns-else-g-directory : goal.returns-else-g-directory
-returns-else-g-directory c = search (globals, rules)
+pub returns-else-g-source : goal.returns-else-g-source
+returns-else-g-source c = search (globals, rules)

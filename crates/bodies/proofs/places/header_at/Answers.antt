@@ -6,8 +6,8 @@ use Rattle.bodies.proofs.places.header_at.Goals as goal
 pub header_of-requires : goal.header_of-requires
 header_of-requires c = search (globals, rules)
 
-pub returns-then-h-directory : goal.returns-then-h-directory
-returns-then-h-directory c = search (globals, rules)
+pub returns-then-h-source : goal.returns-then-h-source
+returns-then-h-source c = search (globals, rules)
 
-pub returns-else-h-directory : goal.returns-else-h-directory
-returns-else-h-directory c = search (globals, rules)
+pub returns-else-h-source : goal.returns-else-h-source
+returns-else-h-source c = search (globals, rules)

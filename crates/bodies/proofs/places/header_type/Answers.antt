@@ -3,11 +3,11 @@ use Rattle.bodies.proofs.Plain.{shapes}
 use borrow.Author.Rules.{rules}
 use Rattle.bodies.proofs.places.header_type.Goals as goal
 
-pub returns-in-Variable : goal.returns-in-Variable
-returns-in-Variable c = search (shapes, rules)
+pub returns-in-Some-Variable : goal.returns-in-Some-Variable
+returns-in-Some-Variable c = search (shapes, rules)
 
-pub returns-in-Header : goal.returns-in-Header
-returns-in-Header c = search (shapes, rules)
+pub returns-in-Some-Header : goal.returns-in-Some-Header
+returns-in-Some-Header c = search (shapes, rules)
 
-pub returns-in-Nothing : goal.returns-in-Nothing
-returns-in-Nothing c = search (shapes, rules)
+pub returns-in-None : goal.returns-in-None
+returns-in-None c = search (shapes, rules)

@@ -3,14 +3,14 @@ use Rattle.bodies.proofs.Plain.{leaves}
 use borrow.Author.Rules.{rules}
 use Rattle.bodies.proofs.places.judge_leaf.Goals as goal
 
-pub bounds-nums-at-in-0 : goal.bounds-nums-at-in-0
-bounds-nums-at-in-0 c = search (leaves, rules)
+pub bounds-source-at-in-0 : goal.bounds-source-at-in-0
+bounds-source-at-in-0 c = search (leaves, rules)
 
-pub bounds-nums-at-in-1 : goal.bounds-nums-at-in-1
-bounds-nums-at-in-1 c = search (leaves, rules)
+pub bounds-source-at-in-1 : goal.bounds-source-at-in-1
+bounds-source-at-in-1 c = search (leaves, rules)
 
-pub bounds-nums-at-in-1-2 : goal.bounds-nums-at-in-1-2
-bounds-nums-at-in-1-2 c = search (leaves, rules)
+pub bounds-source-at-in-1-2 : goal.bounds-source-at-in-1-2
+bounds-source-at-in-1-2 c = search (leaves, rules)
 
 pub bits_type-requires : goal.bits_type-requires
 bits_type-requires c = search (leaves, rules)

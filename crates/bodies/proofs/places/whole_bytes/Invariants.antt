@@ -2,8 +2,5 @@
 use Rattle.bodies.proofs.Extracting.{Adding}
 use Rattle.bodies.proofs.places.whole_bytes.Given as goal
 
-abbrev pub invariant-loop-left : goal.invariant-loop-left
-invariant-loop-left l = Adding l.nums l.header l.next l.left l.bits
-
-abbrev pub decreases-loop-left : goal.decreases-loop-left
-decreases-loop-left l = l.left
+abbrev pub invariant-loop-next : goal.invariant-loop-next
+invariant-loop-next l = Adding l.nums l.header l.next l.bits

@@ -3,8 +3,8 @@ use Rattle.bodies.proofs.Forming.{marking}
 use borrow.Author.Rules.{rules}
 use Rattle.bodies.proofs.singles.judge_apply.Goals as goal
 
-pub returns-then-nums-at : goal.returns-then-nums-at
-returns-then-nums-at c = search (marking, rules)
+pub returns-then-source-at : goal.returns-then-source-at
+returns-then-source-at c = search (marking, rules)
 
-pub returns-else-nums-at : goal.returns-else-nums-at
-returns-else-nums-at c = search (marking, rules)
+pub returns-else-source-at : goal.returns-else-source-at
+returns-else-source-at c = search (marking, rules)

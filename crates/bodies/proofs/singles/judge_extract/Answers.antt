@@ -6,11 +6,11 @@ use Rattle.bodies.proofs.singles.judge_extract.Goals as goal
 pub whole_bytes-whole-requires : goal.whole_bytes-whole-requires
 whole_bytes-whole-requires c = search (extracting, rules)
 
-pub returns-in-Variable : goal.returns-in-Variable
-returns-in-Variable c = search (extracting, rules)
+pub returns-in-Some-Variable : goal.returns-in-Some-Variable
+returns-in-Some-Variable c = search (extracting, rules)
 
-pub returns-in-Header : goal.returns-in-Header
-returns-in-Header c = search (extracting, rules)
+pub returns-in-Some-Header : goal.returns-in-Some-Header
+returns-in-Some-Header c = search (extracting, rules)
 
-pub returns-in-Nothing : goal.returns-in-Nothing
-returns-in-Nothing c = search (extracting, rules)
+pub returns-in-None : goal.returns-in-None
+returns-in-None c = search (extracting, rules)

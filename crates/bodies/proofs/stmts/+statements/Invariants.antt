@@ -1,5 +1,6 @@
 -- The cycle of statements. What carries it: the steps of Stating; the depth falls, and the members of a block are a
--- loop over what is left of them.
+-- loop over them.
+use Rattle.program.specs.In.{In}
 use Rattle.bodies.proofs.Judging.{rank}
 use Rattle.bodies.proofs.Stating.{Pending}
 use Rattle.bodies.proofs.stmts.+statements.Given as goal
@@ -16,8 +17,6 @@ decreases-judge_stmt l = rank l.depth 2
 abbrev pub decreases-judge_stmts : goal.decreases-judge_stmts
 decreases-judge_stmts l = rank l.depth 3
 
-abbrev pub invariant-judge_stmts-loop-left : goal.invariant-judge_stmts-loop-left
-invariant-judge_stmts-loop-left l = Pending l.nums l.directory l.ends l.scope l.depth l.at l.count l.next l.left l.returns
-
-abbrev pub decreases-judge_stmts-loop-left : goal.decreases-judge_stmts-loop-left
-decreases-judge_stmts-loop-left l = l.left
+abbrev pub invariant-judge_stmts-loop : goal.invariant-judge_stmts-loop
+invariant-judge_stmts-loop l =
+    In Pending l.source l.scope l.depth l.at l.count l.counter l.next l.returns
