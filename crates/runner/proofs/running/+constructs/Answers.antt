@@ -5,7 +5,7 @@ use lib.ListN.{length}
 use native.Mathlib.Omega.{arith}
 use borrow.Author.Rules.{rules}
 use Rattle.runner.proofs.Exprs.{one_runs, two_runs, expr_runs, two-fall, two-on, two-right, two-runs, two-stops}
-use Rattle.runner.proofs.Args.{arg_runs, args_runs, args-fall, args-keep, args-rest}
+use Rattle.runner.proofs.Args.{arg_runs, args_runs, args-fall, args-rest}
 use Rattle.runner.proofs.Calls.{call_runs, call-args, call-args-fall, call-body, call-falls, call-finish, call-lent, call-own-low, call-runs}
 use Rattle.runner.proofs.Bodies.{body_runs}
 use Rattle.runner.proofs.Values.{value_runs, call_stmt_runs}
