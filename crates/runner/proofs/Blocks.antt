@@ -2,7 +2,7 @@
 use Rattle.program.specs.declared.Scope as coded
 use mathlib.Core.Path.{◌≡◌, refl, ◌∙◌, sym, ap}
 use mathlib.Core.List.{List, [], ◌++◌}
-use Prim.Native.Nat.{ℕ, ◌+◌, ◌-◌, ◌*◌, ◌<◌}
+use Prim.Native.Nat.{ℕ, ◌+◌, ◌-◌, ◌*◌, ◌≤◌, ◌<◌}
 use native.Mathlib.Omega.{arith}
 use lib.ListN.{length, get_or, length-append}
 use Rattle.rules.specs.Syntax.{Stmt, Stmts, no_stmts, stmt}
@@ -13,7 +13,7 @@ use Rattle.program.specs.Codes.{member_count}
 use Rattle.program.specs.Stands.{StandsStmt, StandsStmts}
 use Rattle.program.proofs.Views.{stmt-begins, BlockView, StmtView, stmt-view, MemberView, member-view, no-members}
 use Rattle.steps.specs.declared.Ended.{Ended}
-use Rattle.steps.specs.declared.Ended.TheVariants.{Onward, Returned, ReturnedValue, Exited, Rejected}
+use Rattle.steps.specs.declared.Ended.TheVariants.{Onward}
 use Rattle.steps.specs.Outcomes.{Goes, counter_of, Ran, Ends, ends-onward, ends-returned, ends-value, ends-exited, ends-rejected, Counts}
 use Rattle.steps.proofs.Going.{Begun, then-goes, then_is, more-none, more-more}
 use Rattle.runner.specs.Runs.{stmt_in, stmts_in, Stage}
@@ -94,15 +94,15 @@ pub record Rest (nums directory ends : List ℕ) (scope : coded.Scope) (slots₀
   pub same : length frame ≡ length frame₀
 
 pub record Blocking (nums directory ends : List ℕ) (scope : coded.Scope) (slots₀ slots frame₀ frame : List ℕ)
-    (depth at count next left : ℕ) : Type 0 where
+    (depth at count next past : ℕ) : Type 0 where
   pub kept : length frame ≡ length frame₀
   pub blocking : (Γ : Scope) (used : ℕ) (es : List Entry) (s : State) (ss : Stmts)
       → Stage nums directory ends scope slots₀ frame₀ Γ used es s
       → StandsStmts nums ends depth at ss → count ≡ member_count ss → Goes (counter_of slots₀) (stmts_in Γ used es ss s)
-      → Rest nums directory ends scope slots₀ slots frame₀ frame depth next left Γ used es s ss
+      → Rest nums directory ends scope slots₀ slots frame₀ frame depth next (count - past) Γ used es s ss
 
 pub block-begins : (nums directory ends : List ℕ) (scope : coded.Scope) (slots frame : List ℕ) (depth at count : ℕ)
-    → Blocking nums directory ends scope slots slots frame frame depth at count at count
+    → Blocking nums directory ends scope slots slots frame frame depth at count at 0
 block-begins nums directory ends scope slots frame depth at count = record {
   kept = refl;
   blocking = λ Γ used es s ss st w n g. record {
@@ -111,7 +111,7 @@ block-begins nums directory ends scope slots frame depth at count = record {
     seen = [];
     is = sym (more-none (stmts_in Γ used es ss s));
     stand = w;
-    counts = n;
+    counts = omega (arith, n);
     stage = st;
     going = g;
     counted = omega arith;
@@ -136,23 +136,14 @@ onward-is ended ending (ends-value v) e = let z : ◌≡◌ {A = ℕ} 0 1 = cc i
 onward-is ended ending ends-exited e = let z : ◌≡◌ {A = ℕ} 0 1 = cc in absurd (omega arith)
 onward-is ended ending ends-rejected e = let z : ◌≡◌ {A = ℕ} 0 1 = cc in absurd (omega arith)
 
-pub data Stops : Ended → Type 0 where
-  stops-returned : Stops Returned
-  stops-value : {ty number : ℕ} → Stops (ReturnedValue ty number)
-  stops-exited : Stops Exited
-  stops-rejected : {error : ℕ} → Stops (Rejected error)
-
-stops-is : (ended r : Ended) (ending : Ending) (m : M State Ending) (s : State) → Ends ended ending → ended ≡ r
-    → Stops r → and_then_run ending m s ≡ done ending s []
+stops-is : (ended : Ended) (ending : Ending) (m : M State Ending) (s : State) → Ends ended ending
+    → (ended ≡ Onward → ⊥) → and_then_run ending m s ≡ done ending s []
 unfolding and_then_run pure
-stops-is ended r ending m s ends-onward e stops-returned = let z : ◌≡◌ {A = ℕ} 0 1 = cc in absurd (omega arith)
-stops-is ended r ending m s ends-onward e stops-value = let z : ◌≡◌ {A = ℕ} 0 1 = cc in absurd (omega arith)
-stops-is ended r ending m s ends-onward e stops-exited = let z : ◌≡◌ {A = ℕ} 0 1 = cc in absurd (omega arith)
-stops-is ended r ending m s ends-onward e stops-rejected = let z : ◌≡◌ {A = ℕ} 0 1 = cc in absurd (omega arith)
-stops-is ended r ending m s ends-returned e w = refl
-stops-is ended r ending m s (ends-value v) e w = refl
-stops-is ended r ending m s ends-exited e w = refl
-stops-is ended r ending m s ends-rejected e w = refl
+stops-is ended ending m s ends-onward n = absurd (n refl)
+stops-is ended ending m s ends-returned n = refl
+stops-is ended ending m s (ends-value v) n = refl
+stops-is ended ending m s ends-exited n = refl
+stops-is ended ending m s ends-rejected n = refl
 
 -- at any stage
 module _ {nums directory ends : List ℕ} {scope : coded.Scope} {slots₀ slots frame₀ frame : List ℕ} {depth next left : ℕ}
@@ -199,12 +190,12 @@ module _ {nums directory ends : List ℕ} {scope : coded.Scope} {slots₀ slots 
           same = omega (arith, b.same, h.same);
         }
 
-    stops-ran : (r : Ended) → ended ≡ r → Stops r
-        → Ran nums directory ends scope slots₀ slots₁ frame₀ frame₁ Γ (stmts_in Γ used es ss s) (Ends r)
+    stops-ran : (ended ≡ Onward → ⊥)
+        → Ran nums directory ends scope slots₀ slots₁ frame₀ frame₁ Γ (stmts_in Γ used es ss s) (Ends ended)
     unfolding more
-    stops-ran r e w =
+    stops-ran n =
         let same : then_rest Γ used es v.others h.answer h.state ≡ done h.answer h.state []
-        = stops-is ended r h.answer (stmts_in Γ used es v.others) h.state h.answers e w in
+        = stops-is ended h.answer (stmts_in Γ used es v.others) h.state h.answers n in
         record {
           answer = h.answer;
           state = h.state;
@@ -219,23 +210,23 @@ module _ {nums directory ends : List ℕ} {scope : coded.Scope} {slots₀ slots 
             length-append h.seen [],
           );
           same = omega (arith, b.same, h.same);
-          answers = rw e at h.answers;
+          answers = h.answers;
         }
 
 -- the loop
 module _ (nums directory ends : List ℕ) (scope : coded.Scope) (slots₀ slots frame₀ frame : List ℕ)
-    (depth at count next left : ℕ)
-    (g : Blocking nums directory ends scope slots₀ slots frame₀ frame depth at count next left)
+    (depth at count next past : ℕ)
+    (g : Blocking nums directory ends scope slots₀ slots frame₀ frame depth at count next past)
   where
-    module _ (m : left ≡ 0 → ⊥) where
+    module _ (l : past < count) where
       view : {Γ : Scope} {used : ℕ} {es : List Entry} {s : State} {ss : Stmts}
-          → (b : Rest nums directory ends scope slots₀ slots frame₀ frame depth next left Γ used es s
-          ss) → MemberView nums ends depth next left b.rest
-      view b = member-view left b.rest b.stand b.counts m
+          → (b : Rest nums directory ends scope slots₀ slots frame₀ frame depth next (count - past) Γ used es
+          s ss) → MemberView nums ends depth next (count - past) b.rest
+      view b = member-view (count - past) b.rest b.stand b.counts (λ e. absurd (omega (arith, e)))
 
       module _ (a : AsksStmts nums directory ends scope slots₀ frame₀ depth at count) where
-        here : Rest nums directory ends scope slots₀ slots frame₀ frame depth next left
-            a.scope_of a.used a.entry_list a.state a.stmts
+        here : Rest nums directory ends scope slots₀ slots frame₀ frame depth next
+            (count - past) a.scope_of a.used a.entry_list a.state a.stmts
         here = g.blocking a.scope_of a.used a.entry_list a.state a.stmts a.stage a.stand a.counts
             a.going
 
@@ -259,8 +250,8 @@ module _ (nums directory ends : List ℕ) (scope : coded.Scope) (slots₀ slots 
       member-ran : {slots₁ frame₁ : List ℕ} {ended : Ended}
           → RunsStmt nums directory ends scope slots slots₁ frame frame₁ depth next ended
           → {Γ : Scope} {used : ℕ} {es : List Entry} {s : State} {ss : Stmts}
-          → (b : Rest nums directory ends scope slots₀ slots frame₀ frame depth next left Γ used es s
-          ss)
+          → (b : Rest nums directory ends scope slots₀ slots frame₀ frame depth next (count - past) Γ used es
+          s ss)
           → Ran nums directory ends scope slots slots₁ frame frame₁ Γ
           (stmt_in Γ used es (view b).first b.state) (Ends ended)
       member-ran r {Γ} {used} {es} b = r.runs Γ used es b.state (view b).first b.stage (view b).first_stands
@@ -270,22 +261,24 @@ module _ (nums directory ends : List ℕ) (scope : coded.Scope) (slots₀ slots 
           → RunsStmt nums directory ends scope slots slots₁ frame frame₁ depth next ended
           → length frame₁ ≡ length frame → ended ≡ Onward → next₁ ≡ get_or ends next 0
           → Blocking nums directory ends scope slots₀ slots₁ frame₀ frame₁ depth at count next₁
-          (left - 1)
-      block-again slots₁ frame₁ ended next₁ r l e n = rw n (record {
-        kept = l ∙ g.kept;
-        blocking = λ Γ used es s ss st w k d.
-            let b = g.blocking Γ used es s ss st w k d in
-            rest-again b (view b) (member-ran r b) e;
-      })
+          (past + 1)
+      block-again slots₁ frame₁ ended next₁ r q e n =
+          let fewer : count - (past + 1) ≡ count - past - 1 = omega arith in
+          rw n (record {
+            kept = q ∙ g.kept;
+            blocking = λ Γ used es s ss st w k d.
+                let b = g.blocking Γ used es s ss st w k d in
+                rw fewer (rest-again b (view b) (member-ran r b) e);
+          })
 
-      pub block-stops : (slots₁ frame₁ : List ℕ) (ended r : Ended)
+      pub block-stops : (slots₁ frame₁ : List ℕ) (ended : Ended)
           → RunsStmt nums directory ends scope slots slots₁ frame frame₁ depth next ended
-          → ended ≡ r → Stops r
-          → RunsStmts nums directory ends scope slots₀ slots₁ frame₀ frame₁ depth at count r
-      block-stops slots₁ frame₁ ended r q e w = record {
+          → (ended ≡ Onward → ⊥)
+          → RunsStmts nums directory ends scope slots₀ slots₁ frame₀ frame₁ depth at count ended
+      block-stops slots₁ frame₁ ended q n = record {
         runs = λ Γ used es s ss st v k d.
             let b = g.blocking Γ used es s ss st v k d in
-            stops-ran b (view b) (member-ran q b) r e w;
+            stops-ran b (view b) (member-ran q b) n;
       }
 
     none_left : (Γ : Scope) (used : ℕ) (es : List Entry) (s : State) (ss : Stmts) → ss ≡ no_stmts
@@ -293,13 +286,13 @@ module _ (nums directory ends : List ℕ) (scope : coded.Scope) (slots₀ slots 
     unfolding stmts_in run_stmts pure
     none_left Γ used es s ss e = rw e refl
 
-    pub block-ends : left ≡ 0
+    pub block-ends : count ≤ past
         → RunsStmts nums directory ends scope slots₀ slots frame₀ frame depth at count Onward
     unfolding more
     block-ends e = record {
       runs = λ Γ used es s ss st v k d.
           let b = g.blocking Γ used es s ss st v k d in
-          let none = none_left Γ used es b.state b.rest (no-members b.rest (sym b.counts ∙ e)) in
+          let none = none_left Γ used es b.state b.rest (no-members b.rest (omega (arith, b.counts))) in
           record {
             answer = onward;
             state = b.state;
@@ -325,8 +318,4 @@ pub ruleset member_runs = (
   block-stops,
   block-ends,
   member-fall,
-  stops-returned,
-  stops-value,
-  stops-exited,
-  stops-rejected,
 )

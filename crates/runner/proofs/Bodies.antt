@@ -1,4 +1,5 @@
 -- The body of a callable: its frame is made, its statement runs, and its parameters' numbers are left.
+use Rattle.program.specs.declared.Scope as coded
 use mathlib.Core.Bool.{true, false≢true}
 use mathlib.Core.Option.{Option, none, some}
 use mathlib.Core.Path.{◌≡◌, refl, ◌∙◌, sym, ap}
@@ -113,7 +114,7 @@ module _ {nums directory ends slots frame : List ℕ} {f : ℕ} {P : Program} {c
   module _ {kind returns parameters count locals local_count body : ℕ} (head : FoundHead nums kind returns parameters count c)
       (framed : FoundFrame nums ends locals local_count body c) {frame₁ : List ℕ}
       (z : Clears frame frame₁ count (count + local_count)) where
-    abbrev scope : List ℕ
+    abbrev scope : coded.Scope
     scope = callable_scope f parameters count locals local_count kind returns
 
     cleared : Clears frame frame₁ (length ns) (length ns + length c.locals)
@@ -177,7 +178,7 @@ module _ (nums directory ends slots frame : List ℕ) (f : ℕ) where
   module _ (kind returns parameters count locals local_count body : ℕ)
       (head : Finds callables_of (FoundHead nums kind returns parameters count) nums directory ends f)
       (framed : Finds callables_of (FoundFrame nums ends locals local_count body) nums directory ends f) where
-    abbrev scoped : List ℕ
+    abbrev scoped : coded.Scope
     scoped = callable_scope f parameters count locals local_count kind returns
 
     head_at : {P : Program} {c : Callable} {used : ℕ} {es : List Entry} {ns : List ℕ} {cells : List Cell}

@@ -16,14 +16,14 @@ use Rattle.program.specs.Looks.{Has, Finds, states_of, FoundState}
 use Rattle.program.proofs.Found.{member-in}
 use Rattle.program.proofs.Views.{stmt-begins}
 use Rattle.steps.specs.declared.Ended.{Ended}
-use Rattle.steps.specs.declared.Ended.TheVariants.{Onward}
+use Rattle.steps.specs.declared.Ended.TheVariants.{Onward, Returned, ReturnedValue, Exited, Rejected}
 use Rattle.steps.specs.Outcomes.{Goes, counter_of, Ran, Ends, ends-onward, ends-returned, ends-value, ends-exited, ends-rejected, AsksCount, Counts}
 use Rattle.steps.proofs.Going.{Begun, then-goes, counter-ticked, ran-here, ran_then}
 use Rattle.runner.specs.Runs.{stmt_in, Stage}
 use Rattle.runner.specs.Claims.{AsksStmt, RunsStmt}
 use Rattle.runner.specs.Parsing.{state_in, transition_in, TellsOn, AsksState, RunsState, AsksTransition, RunsTransition}
 use Rattle.runner.proofs.Stages.{store-count, count-asks, stage-counted, going-counted, ran-counted, stage-ran, going-rest}
-use Rattle.runner.proofs.Blocks.{onward-is, Stops, stops-returned, stops-value, stops-exited, stops-rejected}
+use Rattle.runner.proofs.Blocks.{onward-is}
 use Rattle.runner.proofs.States.{AtState, then_leave, state-found, entered-is, left, left-counted}
 
 -- an ending that does not go on stays as it is
@@ -42,6 +42,12 @@ onward-goes ending m s e = rw e refl
 
 pub on-told : (ended : Ended) → ended ≡ Onward → TellsOn ended true
 on-told ended e = record { on = λ _. e; over = λ q. absurd (false≢true (sym q)) }
+
+pub data Stops : Ended → Type 0 where
+  stops-returned : Stops Returned
+  stops-value : {ty number : ℕ} → Stops (ReturnedValue ty number)
+  stops-exited : Stops Exited
+  stops-rejected : {error : ℕ} → Stops (Rejected error)
 
 pub over-told : (ended r : Ended) → ended ≡ r → Stops r → TellsOn ended false
 over-told ended r e w = record { on = λ q. absurd (false≢true q); over = λ _ q. stops-onward r w (sym e ∙ q) }

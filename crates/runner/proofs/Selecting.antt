@@ -1,6 +1,7 @@
 -- A select: its expression runs, and the first equal value leads on.
 use Rattle.program.specs.declared.Scope as coded
 use mathlib.Core.Bool.{Bool, true, false}
+use Rattle.std.specs.Prelude.{Some, None}
 use mathlib.Core.Path.{◌≡◌, refl, ◌∙◌, sym, ap, subst}
 use mathlib.Core.List.{List, [], ◌∷◌}
 use Prim.Native.Nat.{ℕ, zero, suc, ◌+◌, ◌*◌, ◌≤◌, ◌<◌}
@@ -23,7 +24,7 @@ use Rattle.steps.specs.Outcomes.{Goes, counter_of, Ran, Gave, Ends, ends-rejecte
 use Rattle.steps.proofs.Going.{Begun, then-goes, some-then-goes, some-then-is, must-then-goes, must-then-is, ran-here, ran_then}
 use Rattle.runner.specs.Runs.{expr_in, Stage}
 use Rattle.runner.specs.Claims.{AsksExpr, RunsExpr}
-use Rattle.runner.specs.Parsing.{state_in, later_in, transition_in, AsksState, RunsState, RunsTransition, AsksSelect, AsksEqual, FirstEqual}
+use Rattle.runner.specs.Parsing.{state_in, later_in, transition_in, AsksState, RunsState, RunsTransition, AsksSelect, AsksEqual, FirstEqual, TellsEqual, equal_at, none_equal}
 use Rattle.runner.proofs.Stages.{stage-ran, going-rest}
 use Rattle.runner.proofs.Keying.{worked-number}
 use Rattle.runner.proofs.States.{later-is, left, left-on}
@@ -62,17 +63,29 @@ module _ (nums : List ℕ) (at count number i : ℕ) (r : Unequal nums at count 
             go true e = x (rw (eqb-true j i e) at q)
             go false e = r.before j (omega (arith, l, eqb-false j i e)) q
 
-    pub equal-found : number ≡ get_or nums (at + 2 * i) 0 → FirstEqual nums at count number i
-    equal-found q = record { most = omega arith; before = r.before; is = λ _. q }
+    pub equal-found : number ≡ get_or nums (at + 2 * i) 0 → TellsEqual nums at count number (Some i)
+    equal-found q = equal_at h (record { most = omega arith; before = r.before; is = λ _. q })
 
-  pub equal-none : count ≤ i → FirstEqual nums at count number count
-  equal-none h = record {
+  pub equal-none : count ≤ i → TellsEqual nums at count number None
+  equal-none h = none_equal (record {
     most = omega arith;
     before = λ j l. r.before j (omega arith);
     is = λ l. absurd (omega arith);
-  }
+  })
 
 pub ruleset equals = (equal-start, equal-more, equal-found, equal-none)
+
+-- what the cases tell
+found_within : {nums : List ℕ} {at count number r : ℕ} → TellsEqual nums at count number (Some r) → r < count
+found_within (equal_at l f) = l
+
+found_first : {nums : List ℕ} {at count number r : ℕ} → TellsEqual nums at count number (Some r)
+    → FirstEqual nums at count number r
+found_first (equal_at l f) = f
+
+found_none : {nums : List ℕ} {at count number : ℕ} → TellsEqual nums at count number None
+    → FirstEqual nums at count number count
+found_none (none_equal f) = f
 
 -- the first equal value of some pairs
 pairs-inside : (nums : List ℕ) (at : ℕ) (ps : List Pair) → StandsPairs nums at ps → (i : ℕ) → i < length ps
@@ -247,16 +260,19 @@ module _ (nums directory ends : List ℕ) (scope : coded.Scope) (slots frame : L
       pub few : length nums ≤ most_bytes
       pub inside : pairs + 2 + 2 * r < length nums
 
-    pub later-room : (r : ℕ) → r < get_or nums pairs 0 → StateRoom r
-    later-room r l = record {
-      few = a.asks.stage.scene.scopes.program.numbers;
-      inside = omega (
-        arith,
-        e,
-        pairs-inside nums (get_or ends (at + 1) 0 + 1) this.pairs this.stand r
-            (omega (arith, rw e at l, this.count.holds.is)),
-      );
-    }
+    pub later-room : (count number r : ℕ) → count ≡ get_or nums pairs 0
+        → TellsEqual nums (pairs + 1) count number (Some r) → StateRoom r
+    later-room count number r q f =
+        let l : r < get_or nums pairs 0 = omega (arith, q, found_within f) in
+        record {
+          few = a.asks.stage.scene.scopes.program.numbers;
+          inside = omega (
+            arith,
+            e,
+            pairs-inside nums (get_or ends (at + 1) 0 + 1) this.pairs this.stand r
+                (omega (arith, rw e at l, this.count.holds.is)),
+          );
+        }
 
     module _ (slots₁ frame₁ : List ℕ) (y : values.Value)
         (k : RunsExpr nums directory ends scope slots slots₁ frame frame₁ 32 (at + 1) y) where
@@ -276,45 +292,52 @@ module _ (nums directory ends : List ℕ) (scope : coded.Scope) (slots frame : L
       pub chosen-fall : (t : ℕ) → left slots 1 ≡ t → left slots₁ 0 < t
       chosen-fall t q = left-on slots slots₁ 1 0 t q (omega (arith, h.counted)) (omega arith)
 
-      module _ (count r : ℕ) (q : count ≡ get_or nums pairs 0) (f : FirstEqual nums (pairs + 1) count y.number r) where
-        there : FirstEqual nums (get_or ends (at + 1) 0 + 1) (get_or nums (get_or ends (at + 1) 0) 0) y.number r
-        there = rw (q, e) at f
+      module _ (count : ℕ) (q : count ≡ get_or nums pairs 0) where
+        module _ (r : ℕ) (f : TellsEqual nums (pairs + 1) count y.number (Some r)) where
+          there : FirstEqual nums (get_or ends (at + 1) 0 + 1) (get_or nums (get_or ends (at + 1) 0) 0) y.number r
+          there = rw (q, e) at (found_first f)
 
-        pub chosen-asks : (later : ℕ) → r < count → later ≡ get_or nums (pairs + 2 + 2 * r) 0
-            → AsksState nums directory ends scope slots₁ frame₁ later
-        chosen-asks later l d = rw (d, e) (record {
-          program = a.asks.program;
-          used = a.asks.used;
-          entry_list = a.asks.entry_list;
-          state = h.state;
-          stage = stage-ran a.asks.stage h;
-          going = rw (pair_is a.asks.program a.asks.from this a.asks.stage a.asks.going h there
-              (rw (q, e) at l)) at (chosen a.asks.program a.asks.from this a.asks.stage a.asks.going h
-              ).going;
-        })
+          within : r < get_or nums (get_or ends (at + 1) 0) 0
+          within = rw (q, e) at (found_within f)
 
-        pub chosen-runs : (slots₂ frame₂ : List ℕ) (later : ℕ) (z : Ended) → r < count
-            → later ≡ get_or nums (pairs + 2 + 2 * r) 0
-            → RunsState nums directory ends scope slots₁ slots₂ frame₁ frame₂ later z
-            → RunsTransition nums directory ends scope slots slots₂ frame frame₂ at z
-        chosen-runs slots₂ frame₂ later z l d x = record {
-          runs = λ P used es s n T st w g.
-              let v = select-is a T w in
-              let o = value-ran P n v st g in
-              let same = pair_is P n v st g o there (rw (q, e) at l) in
-              select-ran P n v st g o (rw same ((rw (d, e) at x).runs P used es o.state (stage-ran st o)
-              (rw same at (chosen P n v st g o).going)));
-        }
+          pub chosen-asks : (later : ℕ) → later ≡ get_or nums (pairs + 2 + 2 * r) 0
+              → AsksState nums directory ends scope slots₁ frame₁ later
+          chosen-asks later d = rw (d, e) (record {
+            program = a.asks.program;
+            used = a.asks.used;
+            entry_list = a.asks.entry_list;
+            state = h.state;
+            stage = stage-ran a.asks.stage h;
+            going = rw (pair_is a.asks.program a.asks.from this a.asks.stage a.asks.going h there within) at
+                (chosen a.asks.program a.asks.from this a.asks.stage a.asks.going h).going;
+          })
 
-        pub unmatched-runs : count ≤ r
+          pub chosen-runs : (slots₂ frame₂ : List ℕ) (later : ℕ) (z : Ended)
+              → later ≡ get_or nums (pairs + 2 + 2 * r) 0
+              → RunsState nums directory ends scope slots₁ slots₂ frame₁ frame₂ later z
+              → RunsTransition nums directory ends scope slots slots₂ frame frame₂ at z
+          chosen-runs slots₂ frame₂ later z d x = record {
+            runs = λ P used es s n T st w g.
+                let v = select-is a T w in
+                let o = value-ran P n v st g in
+                let same = pair_is P n v st g o there within in
+                select-ran P n v st g o (rw same ((rw (d, e) at x).runs P used es o.state (stage-ran st o)
+                (rw same at (chosen P n v st g o).going)));
+          }
+
+        pub unmatched-runs : TellsEqual nums (pairs + 1) count y.number None
             → RunsTransition nums directory ends scope slots slots₁ frame frame₁ at (Rejected no_match)
-        unmatched-runs l = record {
-          runs = λ P used es s n T st w g.
-              let v = select-is a T w in
-              let o = value-ran P n v st g in
-              select-ran P n v st g o (ran-here o.state (rejected no_match) o.scene
-              (none_is P n v st g o there (rw (q, e) at l)) ends-rejected);
-        }
+        unmatched-runs f =
+            let there : FirstEqual nums (get_or ends (at + 1) 0 + 1) (get_or nums (get_or ends (at + 1) 0) 0) y.number
+                (get_or nums (get_or ends (at + 1) 0) 0)
+            = rw (q, e) at (found_none f) in
+            record {
+              runs = λ P used es s n T st w g.
+                  let v = select-is a T w in
+                  let o = value-ran P n v st g in
+                  select-ran P n v st g o (ran-here o.state (rejected no_match) o.scene
+                  (none_is P n v st g o there (omega arith)) ends-rejected);
+            }
 
 pub ruleset select_runs = (
   select-inside,

@@ -107,27 +107,28 @@ module _ (nums directory ends slots frame : List ℕ) (store size : ℕ) where
       few = a.stage.scene.scopes.program.numbers;
     }
 
-    pub parser-asks : (get_or directory states_slot 0 ≡ 0 → ⊥)
-        → AsksState nums directory ends (state_slots directory) placed frame 0
-    parser-asks q = record {
+    pub parser-asks : (found : coded.Scope) → (get_or directory states_slot 0 ≡ 0 → ⊥) → found ≡ state_slots directory
+        → AsksState nums directory ends found placed frame 0
+    parser-asks found q e = rw e (record {
       program = a.program;
       used = a.used;
       entry_list = a.entry_list;
       state = a.state;
       stage = first-stage a.program a.stage a.unread a.going q;
       going = first_goes a.program a.stage a.unread a.going q;
-    }
+    })
 
   pub no-parser : get_or directory states_slot 0 ≡ 0
       → RunsParser nums directory ends slots slots frame frame store size Onward
   no-parser q = record { runs = λ scope P used es s st u g. none-ran P st q }
 
-  pub parser-runs : (slots₁ frame₁ : List ℕ) (r : Ended) → (get_or directory states_slot 0 ≡ 0 → ⊥)
-      → RunsState nums directory ends (state_slots directory) placed slots₁ frame frame₁ 0 r
+  pub parser-runs : (found : coded.Scope) (slots₁ frame₁ : List ℕ) (r : Ended)
+      → (get_or directory states_slot 0 ≡ 0 → ⊥) → found ≡ state_slots directory
+      → RunsState nums directory ends found placed slots₁ frame frame₁ 0 r
       → RunsParser nums directory ends slots slots₁ frame frame₁ store size r
-  parser-runs slots₁ frame₁ r q k = record {
+  parser-runs found slots₁ frame₁ r q e k = record {
     runs = λ scope P used es s st u g. parser-ran P st u g q
-        (k.runs P used es s (first-stage P st u g q) (first_goes P st u g q));
+        ((rw e at k).runs P used es s (first-stage P st u g q) (first_goes P st u g q));
   }
 
 pub ruleset parser_runs = (parser-directory, parser-asks, no-parser, parser-runs)

@@ -6,7 +6,6 @@ use mathlib.Core.Path.{◌≡◌, refl, ◌∙◌}
 use mathlib.Core.List.{List}
 use Prim.Native.Nat.{ℕ, ◌+◌, ◌*◌, ◌<◌}
 use native.Mathlib.Omega.{arith}
-use lib.ListN.{get_or}
 use Rattle.rules.specs.Syntax.{Ty, Value, Expr, call_expr, Args, Stmt, call_stmt, Callable}
 use Rattle.rules.specs.Form.{callable_below, Body, in_function, in_action, in_apply, in_state, may_call, is_state, Scope}
 use Rattle.rules.specs.Lists.{Entry}

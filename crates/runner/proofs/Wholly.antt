@@ -1,4 +1,5 @@
 -- The whole run: the store is copied, the parser runs and, where it goes on, the apply body; the ending is the signal.
+use Rattle.program.specs.declared.Scope as coded
 use mathlib.Core.Bool.{Bool, true, false}
 use mathlib.Core.Path.{◌≡◌, refl, ◌∙◌, sym, ap}
 use mathlib.Core.List.{List, []}
@@ -221,13 +222,13 @@ module _ (nums directory ends slots frame : List ℕ) (store size : ℕ) where
         going = (begun a.ready a.going c).first;
       }
 
-      pub run-stmt-asks : (slots₂ frame₂ : List ℕ) (parsed : Ended) (b : Bool)
+      pub run-stmt-asks : (slots₂ frame₂ : List ℕ) (parsed : Ended) (b : Bool) (found : coded.Scope)
           → RunsParser nums directory ends (set slots₁ counter_slot 0) slots₂ frame frame₂ store size parsed
-          → TellsOn parsed b → b ≡ true
-          → AsksStmt nums directory ends (apply_slots directory) slots₂ frame₂ 32 (get_or directory 68 0)
-      run-stmt-asks slots₂ frame₂ parsed b q o y =
+          → TellsOn parsed b → b ≡ true → found ≡ apply_slots directory
+          → AsksStmt nums directory ends found slots₂ frame₂ 32 (get_or directory 68 0)
+      run-stmt-asks slots₂ frame₂ parsed b found q o y e =
           let h = parser-ran c q a.ready a.going in
-          record {
+          rw e record {
             scope_of = apply_scope a.program;
             used = length (slots_of a.cells);
             entry_list = a.entry_list;
@@ -242,15 +243,15 @@ module _ (nums directory ends slots frame : List ℕ) (store size : ℕ) where
   module _ (slots₁ slots₂ frame₂ : List ℕ) (parsed : Ended) (r : Signal) (c : Copies nums slots slots₁ store size)
       (q : RunsParser nums directory ends (set slots₁ counter_slot 0) slots₂ frame frame₂ store size parsed)
       (b : Bool) (o : TellsOn parsed b) where
-    pub run-runs : (slots₃ frame₃ : List ℕ) (ended : Ended) → b ≡ true
-        → RunsStmt nums directory ends (apply_slots directory) slots₂ slots₃ frame₂ frame₃ 32 (get_or directory 68 0) ended
+    pub run-runs : (found : coded.Scope) (slots₃ frame₃ : List ℕ) (ended : Ended) → b ≡ true → found ≡ apply_slots directory
+        → RunsStmt nums directory ends found slots₂ slots₃ frame₂ frame₃ 32 (get_or directory 68 0) ended
         → TellsSignal ended r
         → RunsWhole nums directory ends slots slots₃ frame store size r
-    run-runs slots₃ frame₃ ended y k t = record {
+    run-runs found slots₃ frame₃ ended y d k t = record {
       runs = λ P es cells packet w g.
           let e : parsed ≡ Onward = o.on y in
           let h = parser-ran c q w g in
-          whole-ran w g c (body-ran w g c h e (k.runs (apply_scope P) (length (slots_of cells)) es h.state P.body
+          whole-ran w g c (body-ran w g c h e ((rw d at k).runs (apply_scope P) (length (slots_of cells)) es h.state P.body
           (stage-ran (first-stage w g c) h) w.stands.body (body-goes w g c h e))) t;
     }
 

@@ -1,7 +1,7 @@
 -- The parser: what its states and their transitions do by the rules, and what the functions that run them ask and
 -- promise.
 use Rattle.program.specs.declared.Scope as coded
-use Rattle.std.specs.Prelude.{Bool, true, false, ◌≡◌, List, [], ℕ, suc, ◌+◌, ◌*◌, ◌≤◌, ◌<◌, length, get_or, drop}
+use Rattle.std.specs.Prelude.{Bool, true, false, ◌≡◌, List, [], ℕ, suc, ◌+◌, ◌*◌, ◌≤◌, ◌<◌, length, get_or, drop, Option, Some, None}
 use Rattle.rules.specs.Numbers.{most_bytes}
 use Rattle.rules.specs.Syntax.{Transition, Program}
 use Rattle.rules.specs.Reading.{most_pairs}
@@ -84,6 +84,11 @@ pub record FirstEqual (nums : List ℕ) (at count number r : ℕ) : Type 0 where
   pub most : r ≤ count
   pub before : (i : ℕ) → i < r → number ≡ get_or nums (at + 2 * i) 0 → ⊥
   pub is : r < count → number ≡ get_or nums (at + 2 * r) 0
+
+-- the cases of the answer
+pub data TellsEqual (nums : List ℕ) (at count number : ℕ) : Option ℕ → Type 0 where
+  equal_at : {i : ℕ} → i < count → FirstEqual nums at count number i → TellsEqual nums at count number (Some i)
+  none_equal : FirstEqual nums at count number count → TellsEqual nums at count number None
 
 -- the parser, from where the apply body would run: behind a store of so many numbers stand the packet's count and its
 -- bytes

@@ -1,6 +1,6 @@
 // The parser: from state 0 on, each state leads to a later one, until one accepts or rejects. A state entered is a
 // step, and so its work ends.
-ghost use Rattle.runner.specs.Parsing.{TellsOn, AsksState, RunsState, AsksTransition, RunsTransition, AsksSelect, AsksEqual, FirstEqual, AsksParser, RunsParser};
+ghost use Rattle.runner.specs.Parsing.{TellsOn, AsksState, RunsState, AsksTransition, RunsTransition, AsksSelect, AsksEqual, TellsEqual, AsksParser, RunsParser};
 ghost use Rattle.program.specs.In.{In};
 
 use super::running::{run_expr, run_stmt};
@@ -120,27 +120,22 @@ fn run_select(
     let a = run_expr(source, scope, DEEPEST, at + 1, slots, frame);
     let pairs = source.ends[at + 1] as usize;
     let count = source.nums[pairs] as usize;
-    let found = first_equal(source.nums, pairs + 1, count, a.number);
-    if found < count {
-        let later = source.nums[pairs + 2 + 2 * found] as usize;
-        run_state(source, scope, later, slots, frame)
-    } else {
-        Ended::Rejected(NO_MATCH)
-    }
+    let Some(found) = first_equal(source.nums, pairs + 1, count, a.number) else {
+        return Ended::Rejected(NO_MATCH);
+    };
+    let later = source.nums[pairs + 2 + 2 * found] as usize;
+    run_state(source, scope, later, slots, frame)
 }
 
-// Which of so many pairs of a value and a state is the first of this value, or their count where none is.
-fn first_equal(nums: &[u64], at: usize, count: usize, number: u64) -> usize
+// Which of so many pairs of a value and a state is the first of this value.
+fn first_equal(nums: &[u64], at: usize, count: usize, number: u64) -> Option<usize>
     requires { AsksEqual nums.now at count }
-    ensures { FirstEqual nums.now at count number result }
+    ensures { TellsEqual nums.now at count number result }
 {
-    let mut i = 0;
-    while i < count {
+    for i in 0..count {
         if number == nums[at + 2 * i] {
-            return i;
-        } else {
-            i += 1;
+            return Some(i);
         }
     }
-    count
+    None
 }

@@ -370,19 +370,12 @@ fn run_stmts(
     ensures { In RunsStmts source.now scope.now slots.old slots.new frame.old frame.new depth at count result }
 {
     let mut next = at;
-    let mut left = count;
-    while left != 0 {
+    for _ in 0..count {
         let ended = run_stmt(source, scope, depth, next, slots, frame);
-        match ended {
-            Ended::Onward => {
-                next = source.ends[next] as usize;
-                left -= 1;
-            }
-            Ended::Returned => return Ended::Returned,
-            Ended::ReturnedValue { ty, number } => return Ended::ReturnedValue { ty, number },
-            Ended::Exited => return Ended::Exited,
-            Ended::Rejected(error) => return Ended::Rejected(error),
-        }
+        let Ended::Onward = ended else {
+            return ended;
+        };
+        next = source.ends[next] as usize;
     }
     Ended::Onward
 }

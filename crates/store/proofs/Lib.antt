@@ -9,7 +9,6 @@ pub mod Stored
 pub mod Naming
 pub mod Changing
 pub mod Marking
-pub mod Clearing
 pub mod Writing
 pub mod Filling
 pub mod Sizes

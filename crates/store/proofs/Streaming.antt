@@ -116,35 +116,38 @@ pub count-start : (nums : List ℕ) (at count : ℕ) → AsksWidths nums at coun
 unfolding bits_in
 count-start nums at count a = record { asks = a; up = omega arith; most = omega arith; is = refl }
 
-pub record CountRoom (nums : List ℕ) (at count bits i : ℕ) : Type 0 where
-  pub few : length nums ≤ most_bytes
-  pub inside : at + i < length nums
-  pub low : count ≤ 16
-  pub wide : get_or nums (at + i) 0 ≤ widest
-  pub most : bits ≤ i * widest
+-- the part of the numbers that has the widths
+abbrev part_of : List ℕ → ℕ → ℕ → List ℕ
+part_of nums at count = take (at + count - at) (drop at nums)
+
+part_is : (nums : List ℕ) (at count : ℕ) → part_of nums at count ≡ widths_at nums at count
+unfolding widths_at
+part_is nums at count =
+    let e : at + count - at ≡ count = omega arith in
+    rw e refl
 
 module _ (nums : List ℕ) (at count bits i : ℕ) (r : Counting nums at count bits i) where
-  module _ (h : i < count) where
-    pub count_room : CountRoom nums at count bits i
-    count_room = record {
-      few = r.asks.few;
-      inside = omega (arith, r.asks.inside);
-      low = r.asks.most;
-      wide = r.asks.wide i h;
-      most = r.most;
-    }
+  long : length (part_of nums at count) ≡ count
+  long = rw (part_is nums at count) (widths-length nums at count r.asks)
 
-    pub count-more : Counting nums at count (bits + get_or nums (at + i) 0) (i + 1)
-    count-more = record {
+  module _ (h : i < length (part_of nums at count)) where
+    low : i < count
+    low = omega (arith, h, long)
+
+    width : get_or (part_of nums at count) i 0 ≡ get_or nums (at + i) 0
+    width = rw (part_is nums at count) (width_is nums at count r.asks i low)
+
+    pub count-more : Counting nums at count (bits + get_or (part_of nums at count) i 0) (i + 1)
+    count-more = rw width (record {
       asks = r.asks;
-      up = omega arith;
-      most = omega (arith, r.most, r.asks.wide i h);
-      is = rw (width-next nums at count r.asks i h, ← r.is);
-    }
+      up = omega (arith, low);
+      most = omega (arith, r.most, r.asks.wide i low);
+      is = rw (width-next nums at count r.asks i low, ← r.is);
+    })
 
-  pub count-done : count ≤ i → CountsBits nums at count bits
+  pub count-done : length (part_of nums at count) ≤ i → CountsBits nums at count bits
   count-done h =
-      let e : i ≡ count = omega (arith, r.up) in
+      let e : i ≡ count = omega (arith, r.up, long, h) in
       record { is = r.is ∙ all-widths nums at count r.asks i e }
 
 pub ruleset countings = (count-start, count-more, count-done)

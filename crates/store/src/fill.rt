@@ -6,11 +6,7 @@ pub fn clear(from: usize, to: usize, slots: &mut [u64])
     requires { AsksClear slots.old from to }
     ensures { Clears slots.old slots.new from to }
 {
-    let mut at = from;
-    while at < to {
-        slots[at] = 0;
-        at += 1;
-    }
+    slots[from..to].fill(0);
 }
 
 // So many numbers from an index on are put into the first slots.
@@ -18,9 +14,7 @@ pub fn copy(nums: &[u64], from: usize, count: usize, slots: &mut [u64])
     requires { AsksCopy nums.now slots.old from count }
     ensures { Copies nums.now slots.old slots.new from count }
 {
-    let mut at = 0;
-    while at < count {
+    for at in 0..count {
         slots[at] = nums[from + at];
-        at += 1;
     }
 }

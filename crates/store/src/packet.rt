@@ -16,12 +16,10 @@ fn read_bits(nums: &[u64], from: usize, first: usize, width: usize) -> u64
     ensures { ReadsBits nums.now from first width result }
 {
     let mut number = 0;
-    let mut at = 0;
-    while at < width {
+    for at in 0..width {
         let bit = first + at;
         let byte = nums[from + bit / 8];
         number = number * 2 + (byte >> (7 - bit % 8)) % 2;
-        at += 1;
     }
     number
 }
@@ -32,10 +30,8 @@ fn count_bits(nums: &[u64], at: usize, count: usize) -> usize
     ensures { CountsBits nums.now at count result }
 {
     let mut bits = 0;
-    let mut i = 0;
-    while i < count {
-        bits += nums[at + i] as usize;
-        i += 1;
+    for &width in &nums[at..at + count] {
+        bits += width as usize;
     }
     bits
 }
@@ -54,12 +50,10 @@ fn fill_fields(
     ensures { FillsFields nums.now slots.old slots.new at count from slot }
 {
     let mut first = 0;
-    let mut i = 0;
-    while i < count {
+    for i in 0..count {
         let width = nums[at + i] as usize;
         slots[slot + i] = read_bits(nums, from, first, width);
         first += width;
-        i += 1;
     }
 }
 

@@ -10,7 +10,7 @@ pub run_parser-parsed-requires : goal.run_parser-parsed-requires
 run_parser-parsed-requires c = search (whole_runs, rules)
 
 pub run_stmt-ended-requires : goal.run_stmt-ended-requires
-run_stmt-ended-requires c = run-stmt-asks _ _ _ _ _ _ _ c.requires _ c.copy.ensures _ _ _ _ c.run_parser-parsed.ensures c.goes_on.ensures c.if-goes_on.true
+run_stmt-ended-requires c = run-stmt-asks _ _ _ _ _ _ _ c.requires _ c.copy.ensures _ _ _ _ _ c.run_parser-parsed.ensures c.goes_on.ensures c.if-goes_on.true c.without_frame-scope.ensures
 
 pub returns-then-goes_on : goal.returns-then-goes_on
 returns-then-goes_on c = search (whole_runs, rules)

@@ -5,7 +5,7 @@ use lib.ListN.{length}
 use native.Mathlib.Omega.{arith}
 use borrow.Author.Rules.{rules}
 use Rattle.runner.proofs.Exprs.{one_runs, two_runs, expr_runs, two-fall, two-on, two-right, two-runs, two-stops}
-use Rattle.runner.proofs.Args.{arg_runs, args_runs, args-fall, args-keep, args-rest}
+use Rattle.runner.proofs.Args.{arg_runs, args_runs, args-fall, args-rest}
 use Rattle.runner.proofs.Calls.{call_runs, call-args, call-args-fall, call-body, call-falls, call-finish, call-lent, call-own-low, call-runs}
 use Rattle.runner.proofs.Bodies.{body_runs}
 use Rattle.runner.proofs.Values.{value_runs, call_stmt_runs}
@@ -18,29 +18,20 @@ use Rattle.runner.proofs.Actions.{action_runs, action-body, action-falls}
 use Rattle.runner.proofs.Tabling.{table_runs, action-fall, default-action, default-runs, entry-action, table-look}
 use Rattle.runner.proofs.running.+constructs.Goals as goal
 
-pub run_action-offset_bounds-nums-at : goal.run_action-offset_bounds-nums-at
-run_action-offset_bounds-nums-at t c = search (action_runs, rules)
-
-pub run_action-bounds-nums-at : goal.run_action-bounds-nums-at
-run_action-bounds-nums-at t c = search (action_runs, rules)
-
 pub run_action-overflow_add-f : goal.run_action-overflow_add-f
 run_action-overflow_add-f t c = search (action_runs, rules)
 
 pub run_action-overflow_add-f-2 : goal.run_action-overflow_add-f-2
 run_action-overflow_add-f-2 t c = search (action_runs, rules)
 
-pub run_action-offset_bounds-nums-actions : goal.run_action-offset_bounds-nums-actions
-run_action-offset_bounds-nums-actions t c = search (action_runs, rules)
+pub run_action-offset_bounds-source-actions : goal.run_action-offset_bounds-source-actions
+run_action-offset_bounds-source-actions t c = search (action_runs, rules)
 
-pub run_action-bounds-nums-actions : goal.run_action-bounds-nums-actions
-run_action-bounds-nums-actions t c = search (action_runs, rules)
+pub run_action-bounds-source-actions : goal.run_action-bounds-source-actions
+run_action-bounds-source-actions t c = search (action_runs, rules)
 
 pub run_action-head_of-head-requires : goal.run_action-head_of-head-requires
 run_action-head_of-head-requires t c = search (action_runs, rules)
-
-pub run_action-overflow_add-at : goal.run_action-overflow_add-at
-run_action-overflow_add-at t c = search (action_runs, rules)
 
 pub run_action-copy-requires : goal.run_action-copy-requires
 run_action-copy-requires t c = search (action_runs, rules)
@@ -48,23 +39,11 @@ run_action-copy-requires t c = search (action_runs, rules)
 pub run_action-run_body-ended-requires : goal.run_action-run_body-ended-requires
 run_action-run_body-ended-requires t c = (action-falls _ _ _ _ _ _ _ _ c.requires _ c.decreases, action-body _ _ _ _ _ _ _ _ _ _ _ _ c.head_of-head.ensures c.requires _ c.copy.ensures)
 
-pub run_action-after_call-requires : goal.run_action-after_call-requires
-run_action-after_call-requires t c = search (action_runs, rules)
-
 pub run_action-returns : goal.run_action-returns
 run_action-returns t c = search (action_runs, rules)
 
 pub run_apply-count_step-requires : goal.run_apply-count_step-requires
 run_apply-count_step-requires t c = search (apply_runs, tagged_runs, rules)
-
-pub run_apply-overflow_add-t : goal.run_apply-overflow_add-t
-run_apply-overflow_add-t t c = search (apply_runs, tagged_runs, rules)
-
-pub run_apply-offset_bounds-nums-at : goal.run_apply-offset_bounds-nums-at
-run_apply-offset_bounds-nums-at t c = search (apply_runs, tagged_runs, rules)
-
-pub run_apply-bounds-nums-at : goal.run_apply-bounds-nums-at
-run_apply-bounds-nums-at t c = search (apply_runs, tagged_runs, rules)
 
 pub run_apply-run_table-requires : goal.run_apply-run_table-requires
 run_apply-run_table-requires t c = search (apply_runs, tagged_runs, rules)
@@ -72,47 +51,32 @@ run_apply-run_table-requires t c = search (apply_runs, tagged_runs, rules)
 pub run_apply-returns : goal.run_apply-returns
 run_apply-returns t c = search (apply_runs, tagged_runs, rules)
 
-pub run_arg-offset_bounds-nums-param : goal.run_arg-offset_bounds-nums-param
-run_arg-offset_bounds-nums-param t c = search (arg_runs, rules)
-
-pub run_arg-bounds-nums-param : goal.run_arg-bounds-nums-param
-run_arg-bounds-nums-param t c = search (arg_runs, rules)
-
 pub run_arg-count_step-requires : goal.run_arg-count_step-requires
 run_arg-count_step-requires t c = search (arg_runs, rules)
 
 pub run_arg-run_expr-a-requires : goal.run_arg-run_expr-a-requires
 run_arg-run_expr-a-requires t c = search (arg_runs, rules)
 
-pub run_arg-returns-then-nums-param-eq-OUT : goal.run_arg-returns-then-nums-param-eq-OUT
-run_arg-returns-then-nums-param-eq-OUT t c = search (arg_runs, rules)
+pub run_arg-returns-then-source-param-eq-OUT : goal.run_arg-returns-then-source-param-eq-OUT
+run_arg-returns-then-source-param-eq-OUT t c = search (arg_runs, rules)
 
-pub run_arg-returns-else-nums-param-eq-OUT : goal.run_arg-returns-else-nums-param-eq-OUT
-run_arg-returns-else-nums-param-eq-OUT t c = search (arg_runs, rules)
+pub run_arg-returns-else-source-param-eq-OUT : goal.run_arg-returns-else-source-param-eq-OUT
+run_arg-returns-else-source-param-eq-OUT t c = search (arg_runs, rules)
 
 pub run_args-run_arg-number-requires : goal.run_args-run_arg-number-requires
 run_args-run_arg-number-requires t c = search (args_runs, rules)
 
-pub run_args-offset_bounds-ends-at : goal.run_args-offset_bounds-ends-at
-run_args-offset_bounds-ends-at t c = search (args_runs, rules)
+pub run_args-offset_bounds-source-at : goal.run_args-offset_bounds-source-at
+run_args-offset_bounds-source-at t c = search (args_runs, rules)
 
-pub run_args-bounds-ends-at : goal.run_args-bounds-ends-at
-run_args-bounds-ends-at t c = search (args_runs, rules)
+pub run_args-bounds-source-at : goal.run_args-bounds-source-at
+run_args-bounds-source-at t c = search (args_runs, rules)
 
 pub run_args-overflow_add-param : goal.run_args-overflow_add-param
 run_args-overflow_add-param t c = search (args_runs, rules)
 
-pub run_args-overflow_sub-count : goal.run_args-overflow_sub-count
-run_args-overflow_sub-count t c = search (args_runs, rules)
-
-pub run_args-overflow_add-slot : goal.run_args-overflow_add-slot
-run_args-overflow_add-slot t c = search (args_runs, rules)
-
 pub run_args-run_args-requires : goal.run_args-run_args-requires
 run_args-run_args-requires t c = (args-fall _ _ _ _ _ _ _ _ _ _ _ c.requires c.if-count-ne0.true _ c.decreases, args-rest _ _ _ _ _ _ _ _ _ _ _ c.requires c.if-count-ne0.true _ _ _ _ c.run_arg-number.ensures refl)
-
-pub run_args-keep-requires : goal.run_args-keep-requires
-run_args-keep-requires t c = args-keep _ _ _ _ _ _ _ _ _ _ _ c.requires c.if-count-ne0.true _ _ _ _ _ _ c.run_arg-number.ensures refl c.run_args.ensures
 
 pub run_args-returns-then-count-ne0 : goal.run_args-returns-then-count-ne0
 run_args-returns-then-count-ne0 t c = search (args_runs, rules)
@@ -123,23 +87,8 @@ run_args-returns-else-count-ne0 t c = search (args_runs, rules)
 pub run_assign-count_step-requires : goal.run_assign-count_step-requires
 run_assign-count_step-requires t c = search (assign_runs, tagged_runs, rules)
 
-pub run_assign-overflow_add-value : goal.run_assign-overflow_add-value
-run_assign-overflow_add-value t c = search (assign_runs, tagged_runs, rules)
-
-pub run_assign-offset_bounds-ends-at : goal.run_assign-offset_bounds-ends-at
-run_assign-offset_bounds-ends-at t c = search (assign_runs, tagged_runs, rules)
-
-pub run_assign-bounds-ends-at : goal.run_assign-bounds-ends-at
-run_assign-bounds-ends-at t c = search (assign_runs, tagged_runs, rules)
-
-pub run_assign-overflow_sub-depth : goal.run_assign-overflow_sub-depth
-run_assign-overflow_sub-depth t c = search (assign_runs, tagged_runs, rules)
-
 pub run_assign-run_expr-a-requires : goal.run_assign-run_expr-a-requires
 run_assign-run_expr-a-requires t c = search (assign_runs, tagged_runs, rules)
-
-pub run_assign-overflow_add-at : goal.run_assign-overflow_add-at
-run_assign-overflow_add-at t c = search (assign_runs, tagged_runs, rules)
 
 pub run_assign-write_place-requires : goal.run_assign-write_place-requires
 run_assign-write_place-requires t c = assign-write _ _ _ _ _ _ _ _ c.requires _ c.count_step.ensures _ refl _ _ _ c.run_expr-a.ensures
@@ -149,24 +98,6 @@ run_assign-returns t c = search (assign_runs, tagged_runs, rules)
 
 pub run_block-count_step-requires : goal.run_block-count_step-requires
 run_block-count_step-requires t c = search (block_runs, tagged_runs, rules)
-
-pub run_block-overflow_add-count : goal.run_block-overflow_add-count
-run_block-overflow_add-count t c = search (block_runs, tagged_runs, rules)
-
-pub run_block-offset_bounds-nums-at : goal.run_block-offset_bounds-nums-at
-run_block-offset_bounds-nums-at t c = search (block_runs, tagged_runs, rules)
-
-pub run_block-bounds-nums-at : goal.run_block-bounds-nums-at
-run_block-bounds-nums-at t c = search (block_runs, tagged_runs, rules)
-
-pub run_block-overflow_sub-depth : goal.run_block-overflow_sub-depth
-run_block-overflow_sub-depth t c = search (block_runs, tagged_runs, rules)
-
-pub run_block-overflow_add-at : goal.run_block-overflow_add-at
-run_block-overflow_add-at t c = search (block_runs, tagged_runs, rules)
-
-pub run_block-run_stmts-requires : goal.run_block-run_stmts-requires
-run_block-run_stmts-requires t c = search (block_runs, tagged_runs, rules)
 
 pub run_block-returns : goal.run_block-returns
 run_block-returns t c = search (block_runs, tagged_runs, rules)
@@ -189,26 +120,8 @@ run_body-run_stmt-requires t c = search (body_runs, rules)
 pub run_body-returns : goal.run_body-returns
 run_body-returns t c = search (body_runs, rules)
 
-pub run_call-overflow_add-f : goal.run_call-overflow_add-f
-run_call-overflow_add-f t c = search (call_runs, rules)
-
-pub run_call-offset_bounds-nums-at : goal.run_call-offset_bounds-nums-at
-run_call-offset_bounds-nums-at t c = search (call_runs, rules)
-
-pub run_call-bounds-nums-at : goal.run_call-bounds-nums-at
-run_call-bounds-nums-at t c = search (call_runs, rules)
-
 pub run_call-head_of-head-requires : goal.run_call-head_of-head-requires
 run_call-head_of-head-requires t c = search (call_runs, rules)
-
-pub run_call-own_slots-own-requires : goal.run_call-own_slots-own-requires
-run_call-own_slots-own-requires t c = search (call_runs, rules)
-
-pub run_call-overflow_sub-depth : goal.run_call-overflow_sub-depth
-run_call-overflow_sub-depth t c = search (call_runs, rules)
-
-pub run_call-overflow_add-at : goal.run_call-overflow_add-at
-run_call-overflow_add-at t c = search (call_runs, rules)
 
 pub run_call-run_args-requires : goal.run_call-run_args-requires
 run_call-run_args-requires t c = (call-args-fall _ _ _ _ _ _ _ _ _ _ _ _ _ c.head_of-head.ensures c.own_slots-own.ensures c.requires _ c.decreases, call-args _ _ _ _ _ _ _ _ _ _ _ _ _ c.head_of-head.ensures c.own_slots-own.ensures c.requires)
@@ -221,9 +134,6 @@ run_call-slice_bounds-run_body-count t c = search (call_runs, rules)
 
 pub run_call-slice_bounds-run_body-start : goal.run_call-slice_bounds-run_body-start
 run_call-slice_bounds-run_body-start t c = call-lent _ _ _ _ _ _ _ _ _ _ _ _ _ c.head_of-head.ensures c.own_slots-own.ensures c.requires _ _ c.run_args.ensures
-
-pub run_call-slice_bounds-run_body-end : goal.run_call-slice_bounds-run_body-end
-run_call-slice_bounds-run_body-end t c = search (call_runs, rules)
 
 pub run_call-run_body-ended-requires : goal.run_call-run_body-ended-requires
 run_call-run_body-ended-requires t c = (call-falls _ _ _ _ _ _ _ _ c.requires _ c.decreases, call-body _ _ _ _ _ _ _ _ _ _ _ _ _ c.head_of-head.ensures c.own_slots-own.ensures c.requires _ _ c.run_args.ensures _ refl)
@@ -240,17 +150,8 @@ run_call_stmt-count_step-requires t c = search (call_stmt_runs, tagged_runs, rul
 pub run_call_stmt-run_call-ended-requires : goal.run_call_stmt-run_call-ended-requires
 run_call_stmt-run_call-ended-requires t c = search (call_stmt_runs, tagged_runs, rules)
 
-pub run_call_stmt-after_call-requires : goal.run_call_stmt-after_call-requires
-run_call_stmt-after_call-requires t c = search (call_stmt_runs, tagged_runs, rules)
-
 pub run_call_stmt-returns : goal.run_call_stmt-returns
 run_call_stmt-returns t c = search (call_stmt_runs, tagged_runs, rules)
-
-pub run_expr-offset_bounds-nums-at : goal.run_expr-offset_bounds-nums-at
-run_expr-offset_bounds-nums-at t c = search (expr_runs, rules)
-
-pub run_expr-bounds-nums-at : goal.run_expr-bounds-nums-at
-run_expr-bounds-nums-at t c = search (expr_runs, rules)
 
 pub run_expr-run_one-requires : goal.run_expr-run_one-requires
 run_expr-run_one-requires t c = search (expr_runs, rules)
@@ -276,56 +177,20 @@ run_expr-run_value-requires t c = search (expr_runs, rules)
 pub run_expr-run_leaf-requires : goal.run_expr-run_leaf-requires
 run_expr-run_leaf-requires t c = search (expr_runs, rules)
 
-pub run_expr-returns-in-7 : goal.run_expr-returns-in-7
-run_expr-returns-in-7 t c = search (expr_runs, rules)
-
-pub run_expr-returns-in-8 : goal.run_expr-returns-in-8
-run_expr-returns-in-8 t c = search (expr_runs, rules)
-
-pub run_expr-returns-in-9 : goal.run_expr-returns-in-9
-run_expr-returns-in-9 t c = search (expr_runs, rules)
-
-pub run_expr-returns-in-10 : goal.run_expr-returns-in-10
-run_expr-returns-in-10 t c = search (expr_runs, rules)
-
-pub run_expr-returns-in-11 : goal.run_expr-returns-in-11
-run_expr-returns-in-11 t c = search (expr_runs, rules)
-
-pub run_expr-returns-in-12 : goal.run_expr-returns-in-12
-run_expr-returns-in-12 t c = search (expr_runs, rules)
-
-pub run_expr-returns-in-13 : goal.run_expr-returns-in-13
-run_expr-returns-in-13 t c = search (expr_runs, rules)
-
-pub run_expr-returns-in_default : goal.run_expr-returns-in_default
-run_expr-returns-in_default t c = search (expr_runs, rules)
-
 pub run_if-count_step-requires : goal.run_if-count_step-requires
 run_if-count_step-requires t c = search (if_runs, tagged_runs, rules)
-
-pub run_if-overflow_sub-inner : goal.run_if-overflow_sub-inner
-run_if-overflow_sub-inner t c = search (if_runs, tagged_runs, rules)
-
-pub run_if-overflow_add-at : goal.run_if-overflow_add-at
-run_if-overflow_add-at t c = search (if_runs, tagged_runs, rules)
 
 pub run_if-run_expr-c-requires : goal.run_if-run_expr-c-requires
 run_if-run_expr-c-requires t c = search (if_runs, tagged_runs, rules)
 
-pub run_if-overflow_add-first : goal.run_if-overflow_add-first
-run_if-overflow_add-first t c = search (if_runs, tagged_runs, rules)
+pub run_if-bounds-source-at : goal.run_if-bounds-source-at
+run_if-bounds-source-at t c = search (if_runs, tagged_runs, rules)
 
-pub run_if-offset_bounds-ends-at : goal.run_if-offset_bounds-ends-at
-run_if-offset_bounds-ends-at t c = search (if_runs, tagged_runs, rules)
+pub run_if-offset_bounds-source-first : goal.run_if-offset_bounds-source-first
+run_if-offset_bounds-source-first t c = omega (arith, if-low _ _ _ _ _ _ _ _ c.requires _ refl)
 
-pub run_if-bounds-ends-at : goal.run_if-bounds-ends-at
-run_if-bounds-ends-at t c = search (if_runs, tagged_runs, rules)
-
-pub run_if-offset_bounds-ends-first : goal.run_if-offset_bounds-ends-first
-run_if-offset_bounds-ends-first t c = omega (arith, if-low _ _ _ _ _ _ _ _ c.requires _ refl)
-
-pub run_if-bounds-ends-first : goal.run_if-bounds-ends-first
-run_if-bounds-ends-first t c = search (if_runs, tagged_runs, rules)
+pub run_if-bounds-source-first : goal.run_if-bounds-source-first
+run_if-bounds-source-first t c = search (if_runs, tagged_runs, rules)
 
 pub run_if-run_stmt-requires : goal.run_if-run_stmt-requires
 run_if-run_stmt-requires t c = (branch-fall _ _ _ _ _ _ _ _ _ c.requires _ c.decreases, if-second _ _ _ _ _ _ _ _ c.requires _ c.count_step.ensures _ _ _ c.run_expr-c.ensures _ _ c.if-c-eq0.true refl refl)
@@ -345,26 +210,14 @@ run_keys-overflow_add-key t c = search (keys_runs, rules)
 pub run_keys-run_expr-a-requires : goal.run_keys-run_expr-a-requires
 run_keys-run_expr-a-requires t c = search (keys_runs, rules)
 
-pub run_keys-offset_bounds-ends-key : goal.run_keys-offset_bounds-ends-key
-run_keys-offset_bounds-ends-key t c = search (keys_runs, rules)
+pub run_keys-offset_bounds-source-key : goal.run_keys-offset_bounds-source-key
+run_keys-offset_bounds-source-key t c = search (keys_runs, rules)
 
-pub run_keys-bounds-ends-key : goal.run_keys-bounds-ends-key
-run_keys-bounds-ends-key t c = search (keys_runs, rules)
-
-pub run_keys-overflow_add-j : goal.run_keys-overflow_add-j
-run_keys-overflow_add-j t c = search (keys_runs, rules)
-
-pub run_keys-overflow_sub-count : goal.run_keys-overflow_sub-count
-run_keys-overflow_sub-count t c = search (keys_runs, rules)
+pub run_keys-bounds-source-key : goal.run_keys-bounds-source-key
+run_keys-bounds-source-key t c = search (keys_runs, rules)
 
 pub run_keys-run_keys-requires : goal.run_keys-run_keys-requires
 run_keys-run_keys-requires t c = (keys-fall _ _ _ _ _ _ _ _ _ _ c.requires c.if-count-ne0.true _ c.decreases, keys-rest _ _ _ _ _ _ _ _ _ _ c.requires c.if-count-ne0.true _ _ _ _ c.run_expr-a.ensures refl)
-
-pub run_keys-offset_bounds-keys-j : goal.run_keys-offset_bounds-keys-j
-run_keys-offset_bounds-keys-j t c = omega (arith, c.requires.keyed.inside)
-
-pub run_keys-bounds-keys-j : goal.run_keys-bounds-keys-j
-run_keys-bounds-keys-j t c = omega (arith, c.requires.keyed.inside, c.if-count-ne0.true)
 
 pub run_keys-returns-then-count-ne0 : goal.run_keys-returns-then-count-ne0
 run_keys-returns-then-count-ne0 t c = keys-runs _ _ _ _ _ _ _ _ _ _ _ _ _ _ _ _ _ c.if-count-ne0.true c.run_expr-a.ensures refl c.run_keys.ensures
@@ -393,23 +246,11 @@ run_one-returns t c = search (one_runs, rules)
 pub run_return-count_step-requires : goal.run_return-count_step-requires
 run_return-count_step-requires t c = search (return_runs, tagged_runs, rules)
 
-pub run_return-overflow_sub-depth : goal.run_return-overflow_sub-depth
-run_return-overflow_sub-depth t c = search (return_runs, tagged_runs, rules)
-
-pub run_return-overflow_add-at : goal.run_return-overflow_add-at
-run_return-overflow_add-at t c = search (return_runs, tagged_runs, rules)
-
 pub run_return-run_expr-a-requires : goal.run_return-run_expr-a-requires
 run_return-run_expr-a-requires t c = search (return_runs, tagged_runs, rules)
 
 pub run_return-returns : goal.run_return-returns
 run_return-returns t c = search (return_runs, tagged_runs, rules)
-
-pub run_stmt-offset_bounds-nums-at : goal.run_stmt-offset_bounds-nums-at
-run_stmt-offset_bounds-nums-at t c = search (stmt_runs, rules)
-
-pub run_stmt-bounds-nums-at : goal.run_stmt-bounds-nums-at
-run_stmt-bounds-nums-at t c = search (stmt_runs, rules)
 
 pub run_stmt-run_assign-requires : goal.run_stmt-run_assign-requires
 run_stmt-run_assign-requires t c = search (stmt_runs, rules)
@@ -435,80 +276,17 @@ run_stmt-run_verify-requires t c = search (stmt_runs, rules)
 pub run_stmt-run_single-requires : goal.run_stmt-run_single-requires
 run_stmt-run_single-requires t c = search (stmt_runs, rules)
 
-pub run_stmt-returns-in-1 : goal.run_stmt-returns-in-1
-run_stmt-returns-in-1 t c = search (stmt_runs, rules)
-
-pub run_stmt-returns-in-2 : goal.run_stmt-returns-in-2
-run_stmt-returns-in-2 t c = search (stmt_runs, rules)
-
-pub run_stmt-returns-in-3 : goal.run_stmt-returns-in-3
-run_stmt-returns-in-3 t c = search (stmt_runs, rules)
-
-pub run_stmt-returns-in-4 : goal.run_stmt-returns-in-4
-run_stmt-returns-in-4 t c = search (stmt_runs, rules)
-
-pub run_stmt-returns-in-5 : goal.run_stmt-returns-in-5
-run_stmt-returns-in-5 t c = search (stmt_runs, rules)
-
-pub run_stmt-returns-in-6 : goal.run_stmt-returns-in-6
-run_stmt-returns-in-6 t c = search (stmt_runs, rules)
-
-pub run_stmt-returns-in-12 : goal.run_stmt-returns-in-12
-run_stmt-returns-in-12 t c = search (stmt_runs, rules)
-
-pub run_stmt-returns-in_default : goal.run_stmt-returns-in_default
-run_stmt-returns-in_default t c = search (stmt_runs, rules)
-
-pub run_stmts-loop-left-init : goal.run_stmts-loop-left-init
-run_stmts-loop-left-init t c = search (member_runs, rules)
-
-pub run_stmts-run_stmt-ended-requires : goal.run_stmts-run_stmt-ended-requires
-run_stmts-run_stmt-ended-requires t c = search (member_runs, rules)
-
-pub run_stmts-offset_bounds-ends-next : goal.run_stmts-offset_bounds-ends-next
-run_stmts-offset_bounds-ends-next t c =
-    let inside : c.loop-left.next < length c.args.ends.now
-    = member-inside _ _ _ _ _ _ _ _ _ _ _ _ _ c.loop-left.invariant c.loop-left-test.true c.requires in
-    search rules
-
-pub run_stmts-bounds-ends-next : goal.run_stmts-bounds-ends-next
-run_stmts-bounds-ends-next t c = member-inside _ _ _ _ _ _ _ _ _ _ _ _ _ c.loop-left.invariant c.loop-left-test.true c.requires
-
-pub run_stmts-overflow_sub-left : goal.run_stmts-overflow_sub-left
-run_stmts-overflow_sub-left t c = search (member_runs, rules)
-
-pub run_stmts-loop-left-smaller : goal.run_stmts-loop-left-smaller
-run_stmts-loop-left-smaller t c = search (member_runs, rules)
-
-pub run_stmts-loop-left-preserved : goal.run_stmts-loop-left-preserved
-run_stmts-loop-left-preserved t c = search (member_runs, rules)
-
-pub run_stmts-returns-in-Returned : goal.run_stmts-returns-in-Returned
-run_stmts-returns-in-Returned t c = search (member_runs, rules)
-
-pub run_stmts-returns-in-ReturnedValue : goal.run_stmts-returns-in-ReturnedValue
-run_stmts-returns-in-ReturnedValue t c = search (member_runs, rules)
-
-pub run_stmts-returns-in-Exited : goal.run_stmts-returns-in-Exited
-run_stmts-returns-in-Exited t c = search (member_runs, rules)
-
-pub run_stmts-returns-in-Rejected : goal.run_stmts-returns-in-Rejected
-run_stmts-returns-in-Rejected t c = search (member_runs, rules)
-
-pub run_stmts-returns : goal.run_stmts-returns
-run_stmts-returns t c = search (member_runs, rules)
-
 pub run_table-table_of-parts-requires : goal.run_table-table_of-parts-requires
 run_table-table_of-parts-requires t c = search (table_runs, rules)
 
 pub run_table-overflow_add-table : goal.run_table-overflow_add-table
 run_table-overflow_add-table t c = search (table_runs, rules)
 
-pub run_table-offset_bounds-nums-table : goal.run_table-offset_bounds-nums-table
-run_table-offset_bounds-nums-table t c = search (table_runs, rules)
+pub run_table-offset_bounds-source-table : goal.run_table-offset_bounds-source-table
+run_table-offset_bounds-source-table t c = search (table_runs, rules)
 
-pub run_table-bounds-nums-table : goal.run_table-bounds-nums-table
-run_table-bounds-nums-table t c = search (table_runs, rules)
+pub run_table-bounds-source-table : goal.run_table-bounds-source-table
+run_table-bounds-source-table t c = search (table_runs, rules)
 
 pub run_table-run_keys-requires : goal.run_table-run_keys-requires
 run_table-run_keys-requires t c = search (table_runs, rules)
@@ -540,14 +318,11 @@ run_two-overflow_sub-depth t c = search (two_runs, rules)
 pub run_two-run_expr-a-requires : goal.run_two-run_expr-a-requires
 run_two-run_expr-a-requires t c = search (two_runs, rules)
 
-pub run_two-stops_early-requires : goal.run_two-stops_early-requires
-run_two-stops_early-requires t c = search (two_runs, rules)
+pub run_two-offset_bounds-source-first : goal.run_two-offset_bounds-source-first
+run_two-offset_bounds-source-first t c = search (two_runs, rules)
 
-pub run_two-offset_bounds-ends-first : goal.run_two-offset_bounds-ends-first
-run_two-offset_bounds-ends-first t c = search (two_runs, rules)
-
-pub run_two-bounds-ends-first : goal.run_two-bounds-ends-first
-run_two-bounds-ends-first t c = search (two_runs, rules)
+pub run_two-bounds-source-first : goal.run_two-bounds-source-first
+run_two-bounds-source-first t c = search (two_runs, rules)
 
 pub run_two-overflow_sub-depth-else-stops_early : goal.run_two-overflow_sub-depth-else-stops_early
 run_two-overflow_sub-depth-else-stops_early t c = search (two_runs, rules)
@@ -570,41 +345,47 @@ run_value-count_step-requires t c = search (value_runs, rules)
 pub run_value-run_call-ended-requires : goal.run_value-run_call-ended-requires
 run_value-run_call-ended-requires t c = search (value_runs, rules)
 
-pub run_value-returned-requires : goal.run_value-returned-requires
-run_value-returned-requires t c = search (value_runs, rules)
-
 pub run_value-returns : goal.run_value-returns
 run_value-returns t c = search (value_runs, rules)
 
 pub run_verify-count_step-requires : goal.run_verify-count_step-requires
 run_verify-count_step-requires t c = search (verify_runs, tagged_runs, rules)
 
-pub run_verify-overflow_sub-depth : goal.run_verify-overflow_sub-depth
-run_verify-overflow_sub-depth t c = search (verify_runs, tagged_runs, rules)
-
-pub run_verify-overflow_add-at : goal.run_verify-overflow_add-at
-run_verify-overflow_add-at t c = search (verify_runs, tagged_runs, rules)
-
 pub run_verify-run_expr-a-requires : goal.run_verify-run_expr-a-requires
 run_verify-run_expr-a-requires t c = search (verify_runs, tagged_runs, rules)
 
-pub run_verify-overflow_add-error : goal.run_verify-overflow_add-error
-run_verify-overflow_add-error t c = search (verify_runs, tagged_runs, rules)
-
-pub run_verify-offset_bounds-ends-at : goal.run_verify-offset_bounds-ends-at
-run_verify-offset_bounds-ends-at t c = search (verify_runs, tagged_runs, rules)
-
-pub run_verify-bounds-ends-at : goal.run_verify-bounds-ends-at
-run_verify-bounds-ends-at t c = search (verify_runs, tagged_runs, rules)
-
-pub run_verify-offset_bounds-nums-error : goal.run_verify-offset_bounds-nums-error
-run_verify-offset_bounds-nums-error t c = search (verify_runs, tagged_runs, rules)
-
-pub run_verify-bounds-nums-error : goal.run_verify-bounds-nums-error
-run_verify-bounds-nums-error t c = search (verify_runs, tagged_runs, rules)
+pub run_verify-bounds-source-at : goal.run_verify-bounds-source-at
+run_verify-bounds-source-at t c = search (verify_runs, tagged_runs, rules)
 
 pub run_verify-returns-then-a-eq0 : goal.run_verify-returns-then-a-eq0
 run_verify-returns-then-a-eq0 t c = search (verify_runs, tagged_runs, rules)
 
 pub run_verify-returns-else-a-eq0 : goal.run_verify-returns-else-a-eq0
 run_verify-returns-else-a-eq0 t c = search (verify_runs, tagged_runs, rules)
+
+pub run_block-run_stmts-requires : goal.run_block-run_stmts-requires
+run_block-run_stmts-requires t c = search (block_runs, tagged_runs, rules)
+
+pub run_stmts-loop-init : goal.run_stmts-loop-init
+run_stmts-loop-init t c = search (member_runs, rules)
+
+pub run_stmts-run_stmt-ended-requires : goal.run_stmts-run_stmt-ended-requires
+run_stmts-run_stmt-ended-requires t c = search (member_runs, rules)
+
+pub run_stmts-returns-in_default : goal.run_stmts-returns-in_default
+run_stmts-returns-in_default t c = search (member_runs, rules)
+
+pub run_stmts-offset_bounds-source-next : goal.run_stmts-offset_bounds-source-next
+run_stmts-offset_bounds-source-next t c =
+    let inside : c.loop.next < length c.args.source.now.ends.now
+    = member-inside _ _ _ _ _ _ _ _ _ _ _ _ _ c.loop.invariant c.loop-test.true c.requires in
+    search rules
+
+pub run_stmts-bounds-source-next : goal.run_stmts-bounds-source-next
+run_stmts-bounds-source-next t c = member-inside _ _ _ _ _ _ _ _ _ _ _ _ _ c.loop.invariant c.loop-test.true c.requires
+
+pub run_stmts-loop-preserved : goal.run_stmts-loop-preserved
+run_stmts-loop-preserved t c = search (member_runs, rules)
+
+pub run_stmts-returns : goal.run_stmts-returns
+run_stmts-returns t c = search (member_runs, rules)

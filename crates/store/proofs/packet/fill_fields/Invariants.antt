@@ -1,10 +1,6 @@
 -- What carries it: the fields so far.
-use Prim.Native.Nat.{◌-◌}
 use Rattle.store.proofs.Streaming.{FieldsSoFar}
 use Rattle.store.proofs.packet.fill_fields.Given as goal
 
 abbrev pub invariant-loop-i : goal.invariant-loop-i
 invariant-loop-i l = FieldsSoFar l.nums l.initial.slots l.slots l.at l.count l.from l.slot l.first l.i
-
-abbrev pub decreases-loop-i : goal.decreases-loop-i
-decreases-loop-i l = l.count - l.i
