@@ -5,15 +5,12 @@ use Prim.Native.Nat.{ℕ, zero, suc, ◌+◌, ◌-◌, ◌<◌, ◌≤◌}
 use native.Mathlib.Numerals.{sub-one}
 use native.Mathlib.Omega.{arith}
 use native.Mathlib.Nat.{sub-zero}
-use Rattle.rules.specs.Reading.{read_header, read_global, read_callable, read_table, read_state}
 use Rattle.std.specs.Prelude.{Result, Ok, Err}
 use Rattle.rules.specs.Answers.{number_of}
 use Rattle.rules.specs.declared.Fault as rules
-use Rattle.shape.specs.Scans.{told, scan_of, Scan, Past, Fault}
+use Rattle.shape.specs.Scans.{told, Scan, Past, Fault}
 use Rattle.shape.specs.Leads.{on_scan, value_of, on_value, Value, Of, Unread}
 use Rattle.shape.specs.Parts.{repeat_scan, list_scan, Tells, Repeats, Lists}
-use Rattle.shape.specs.Ends.{lay_callable, lay_table, lay_state}
-use Rattle.shape.proofs.Lays.{lays-scan}
 use Rattle.shape.proofs.Laws.{seq-past, seq-fault}
 
 -- lists of items

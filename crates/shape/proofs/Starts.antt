@@ -9,8 +9,11 @@ use Rattle.rules.specs.Syntax.{Stmt, HeaderTy, Global}
 use Rattle.rules.specs.Reading.{Got, got, bad, Reader, and_then, ◌>>=◌, pure, between, repeat, list_of, deepest, most_headers, most_globals, most_callables, most_tables, most_states}
 use Rattle.rules.specs.Reading.{read_stmt, read_header, read_global, read_callable, read_table, read_state}
 use Rattle.rules.proofs.Readers.{Kept, Keeps, keeps-between, keeps-list, keeps-header, keeps-global, keeps-callable, keeps-table, keeps-state, Given, Starts, starts-header, starts-global, starts-callable, starts-table, starts-state}
-use Rattle.shape.specs.Scans.{forget, scan_of, Scan, Past, Fault}
-use Rattle.shape.specs.Leads.{valued, value_of, Value, Of}
+use Rattle.std.proofs.Common.{MutBor}
+use Rattle.std.specs.Prelude.{Result}
+use Rattle.rules.specs.declared.Fault as rules
+use Rattle.shape.specs.Scans.{told, forget, scan_of, Scan, Past, Fault}
+use Rattle.shape.specs.Leads.{valued, value_of}
 use Rattle.shape.specs.Parts.{list_scan}
 use Rattle.shape.specs.Directory.{headers_slot, globals_slot, callables_slot, tables_slot, body_slot, end_slot, states_slot}
 use Rattle.shape.specs.Directory.{stmt_at, listed, declared, defined, stated}
@@ -168,8 +171,7 @@ pub starts-states : (version : ℕ) → Starts state_at (read_state version)
 unfolding state_at
 starts-states version = starts-state version
 
--- what a part's reader scans and lays
-pub tells-part : {A : Type 0} {read : Reader A} {lay : A → ℕ → List ℕ → List ℕ} {nums : List ℕ} {at : ℕ}
+tells-part : {A : Type 0} {read : Reader A} {lay : A → ℕ → List ℕ → List ℕ} {nums : List ℕ} {at : ℕ}
     {found filled : List ℕ} {r : Scan} → Lays read lay nums at found filled r → LaysPart (scan_of read nums) (laid_by read lay nums) at found filled r
 unfolding scan_of forget Laid laid_by laid_got ends_after
 tells-part {A} {read} {lay} {nums} {at} {found} {filled} {r} w =
@@ -179,10 +181,21 @@ tells-part {A} {read} {lay} {nums} {at} {found} {filled} {r} w =
     go (got a left next) l = l
     go (bad fault index) l = tt
 
-pub tells-scan : {A : Type 0} (read : Reader A) (nums : List ℕ) (at : ℕ) (found filled : List ℕ) (r : Scan)
-    → r ≡ scan_of read nums at → filled ≡ found
-    → LaysPart (scan_of read nums) (laid_by read no_ends nums) at found filled r
-tells-scan read nums at found filled r e q = rw q (tells-part (lays-scan found e))
+-- what is called for each part, where it tells what a reader does
+pub reads-parts : {A : Type 0} {post : Called} (read : Reader A) (lay : A → ℕ → List ℕ → List ℕ) (nums : List ℕ)
+    → ((at : ℕ) (ends ends' : MutBor (List ℕ)) (r : Result ℕ rules.Fault) → post at ends r ends'
+    → Lays read lay nums at ends.now ends'.now (told r))
+    → TellsPart post (scan_of read nums) (laid_by read lay nums)
+reads-parts read lay nums h = record { tells = λ at ends ends' r p. tells-part (h at ends ends' r p) }
+
+pub scans-parts : {A : Type 0} {post : Called} (read : Reader A) (nums : List ℕ)
+    → ((at : ℕ) (ends ends' : MutBor (List ℕ)) (r : Result ℕ rules.Fault) → post at ends r ends'
+    → (told r ≡ scan_of read nums at) × (ends'.now ≡ ends.now))
+    → TellsPart post (scan_of read nums) (laid_by read no_ends nums)
+scans-parts read nums h =
+    reads-parts read no_ends nums λ at ends ends' r p.
+    let e : (told r ≡ scan_of read nums at) × (ends'.now ≡ ends.now) = h at ends ends' r p in
+    rw e.1 (lays-scan ends.now e.0)
 
 module _ (version : ℕ) (nums : List ℕ) (at : ℕ) (found filled : List ℕ) (slots slots₂ : List ℕ) (r : Scan) where
   header-ends : WalkedList (scan_of (read_header version) nums) 0 most_headers nums at headers_slot slots slots₂ r
@@ -234,21 +247,21 @@ module _ (version : ℕ) (nums : List ℕ) (at : ℕ) (found filled : List ℕ) 
   }
 
 -- the header types and globals, the callables and tables, by what is called for each
-module _ (version : ℕ) (nums : List ℕ) (at : ℕ) (found mid ends ends₂ : List ℕ) (a : Scan) where
-  module _ (header : Called) (w : WalksList header 0 most_headers nums at headers_slot found mid ends ends₂ a)
+module _ (version : ℕ) (nums : List ℕ) (at : ℕ) {found mid ends ends₂ : List ℕ} {a : Scan} where
+  module _ {header : Called} (w : WalksList header 0 most_headers nums at headers_slot found mid ends ends₂ a)
       (t : TellsPart header (scan_of (read_header version) nums) (laid_by (read_header version) no_ends nums)) where
-    pub declared-fault : (f i : ℕ) → a ≡ Fault f i
+    pub declared-fault : {f i : ℕ} → a ≡ Fault f i
         → Lays (read_declared version) lay_declared nums at found mid (Fault f i)
     unfolding read_declared
-    declared-fault f i p = lays-fault _ lay_declared found (headers-lay version nums at found mid a (w.walked _ _ t)) p
+    declared-fault p = lays-fault _ lay_declared found (headers-lay version nums at found mid a (w.walked _ _ t)) p
 
-    pub declared-no-ends : (f i : ℕ) → a ≡ Fault f i
+    pub declared-no-ends : {f i : ℕ} → a ≡ Fault f i
         → Lays (read_declared version) no_ends nums at ends ends₂ (Fault f i)
     unfolding read_declared
-    declared-no-ends f i p =
+    declared-no-ends p =
         lays-fault _ no_ends ends (header-ends version nums at ends ends₂ found mid a (w.walked _ _ t) (w.laid _ _ t)) p
 
-    module _ (global : Called) (n : ℕ) (filled ends₃ : List ℕ) (r : Scan) (p : a ≡ Past n)
+    module _ {global : Called} {n : ℕ} {filled ends₃ : List ℕ} {r : Scan} (p : a ≡ Past n)
         (v : WalksList global 0 most_globals nums n globals_slot mid filled ends₂ ends₃ r)
         (u : TellsPart global (scan_of (read_global version) nums) (laid_by (read_global version) no_ends nums)) where
       pub declared-past : Lays (read_declared version) lay_declared nums at found filled r
@@ -267,23 +280,23 @@ module _ (version : ℕ) (nums : List ℕ) (at : ℕ) (found mid ends ends₂ : 
           (header-ends version nums at ends ends₂ found mid a (w.walked _ _ t) (w.laid _ _ t)) p
           (global-ends version nums n ends₂ ends₃ mid filled r (v.walked _ _ u) (v.laid _ _ u))
 
-  module _ (callable : Called) (w : WalksList callable 0 most_callables nums at callables_slot found mid ends ends₂ a)
+  module _ {callable : Called} (w : WalksList callable 0 most_callables nums at callables_slot found mid ends ends₂ a)
       (t : TellsPart callable (scan_of (read_callable version) nums) (laid_by (read_callable version) lay_callable nums))
     where
-      pub defined-fault : (f i : ℕ) → a ≡ Fault f i
+      pub defined-fault : {f i : ℕ} → a ≡ Fault f i
           → Lays (read_defined version) lay_defined nums at found mid (Fault f i)
       unfolding read_defined
-      defined-fault f i p =
+      defined-fault p =
           lays-fault _ lay_defined found (callables-lay version nums at found mid a (w.walked _ _ t)) p
 
-      pub defined-no-ends : (f i : ℕ) → a ≡ Fault f i
+      pub defined-no-ends : {f i : ℕ} → a ≡ Fault f i
           → Lays (read_defined version) ends_defined nums at ends ends₂ (Fault f i)
       unfolding read_defined
-      defined-no-ends f i p =
+      defined-no-ends p =
           lays-fault _ ends_defined ends
           (callable-ends version nums at ends ends₂ found mid a (w.walked _ _ t) (w.laid _ _ t)) p
 
-      module _ (table : Called) (n : ℕ) (filled ends₃ : List ℕ) (r : Scan) (p : a ≡ Past n)
+      module _ {table : Called} {n : ℕ} {filled ends₃ : List ℕ} {r : Scan} (p : a ≡ Past n)
           (v : WalksList table 0 most_tables nums n tables_slot mid filled ends₂ ends₃ r)
           (u : TellsPart table (scan_of (read_table version) nums) (laid_by (read_table version) lay_table nums)) where
         pub defined-past : Lays (read_defined version) lay_defined nums at found filled r

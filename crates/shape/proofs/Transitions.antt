@@ -197,7 +197,7 @@ unfolding read_states
 states-read version b e = rw (read_states, ← e)
 
 module _ (version : ℕ) (nums : List ℕ) (at : ℕ) (b : Bool) (e : b ≡ has_parser version) where
-  module _ (q : b ≡ true) (state : Called) (found filled ends ends₂ : List ℕ) (r : Scan)
+  module _ (q : b ≡ true) {state : Called} {found filled ends ends₂ : List ℕ} {r : Scan}
       (w : WalksList state 1 most_states nums at states_slot found filled ends ends₂ r)
       (t : TellsPart state (scan_of (read_state version) nums) (laid_by (read_state version) lay_state nums)) where
     pub states-past : Lays (read_states version) lay_states nums at found filled r

@@ -6,14 +6,14 @@ use native.Mathlib.Omega.{arith}
 use native.Mathlib.Numerals.{add-one, sub-one}
 use lib.ListN.{drop, set}
 use Rattle.std.proofs.Common.{MutBor}
-use Rattle.std.specs.Prelude.{Result, Ok, Err}
+use Rattle.std.specs.Prelude.{Ok, Err}
 use Rattle.rules.specs.Answers.{number_of}
 use Rattle.rules.specs.declared.Fault as rules
 use Rattle.rules.specs.Reading.{got, Reader}
 use Rattle.shape.specs.Scans.{told, forget, scan_of, Scan, Past, Fault}
-use Rattle.shape.specs.Leads.{value_of, Value, Of, Unread}
+use Rattle.shape.specs.Leads.{value_of, Of, Unread}
 use Rattle.shape.specs.Directory.{slot_count}
-use Rattle.shape.specs.Walks.{starts_after, starts, Walked, laid_list, WalkedList, LaysPart, ends_after, parts_ends, list_ends, Called, TellsPart, Walks, WalksList}
+use Rattle.shape.specs.Walks.{starts_after, starts, Walked, laid_list, LaysPart, ends_after, parts_ends, list_ends, Called, Walks, WalksList}
 use Rattle.shape.proofs.Laws.{AtMost, value-most}
 use Rattle.shape.proofs.Listings.{items-none, items-past, items-fault, list_of, list-fault}
 
@@ -107,23 +107,17 @@ pub record Walking (post : Called) (count at slot : ℕ) (found ends : List ℕ)
       → Walks post (slot + count - entry) next entry now last now_ends last_ends r
       → Walks post count at slot found last ends last_ends r
 
-pub walking-first : (post : Called) (count at slot : ℕ) (found ends : List ℕ)
-    → Walking post count at slot found ends slot at found ends
-walking-first post count at slot found ends =
-    let e : slot + count - slot ≡ count = omega arith in
-    record { rest = λ last last_ends r w. rw e at w }
-
-module _ (post : Called) (count at slot : ℕ) (found ends : List ℕ) (entry next : ℕ) (now : List ℕ) where
-  pub walking-none : (now_ends : List ℕ) → Walking post count at slot found ends entry next now now_ends
+module _ {post : Called} {count at slot : ℕ} {found ends : List ℕ} {entry next : ℕ} {now : List ℕ} where
+  pub walking-none : {now_ends : List ℕ} → Walking post count at slot found ends entry next now now_ends
       → slot + count ≤ entry → Walks post count at slot found now ends now_ends (Past next)
-  walking-none now_ends w h =
+  walking-none {now_ends} w h =
       w.rest now now_ends (Past next) (walks-none post (slot + count - entry) next entry now now_ends (omega arith))
 
-  module _ (lent lent' : MutBor (List ℕ)) (w : Walking post count at slot found ends entry next now lent.now)
+  module _ {lent lent' : MutBor (List ℕ)} (w : Walking post count at slot found ends entry next now lent.now)
       (h : entry < slot + count) where
-    pub walking-past : (n : ℕ) → post next lent (Ok n) lent'
+    pub walking-past : {n : ℕ} → post next lent (Ok n) lent'
         → Walking post count at slot found ends (entry + 1) n (set now entry next) lent'.now
-    walking-past n p = record {
+    walking-past {n} p = record {
       rest = λ last last_ends r u.
           let e : slot + count - (entry + 1) ≡ slot + count - entry - 1 = omega arith in
           w.rest last last_ends r
@@ -131,13 +125,11 @@ module _ (post : Called) (count at slot : ℕ) (found ends : List ℕ) (entry ne
           (rw e at u));
     }
 
-    pub walking-fault : (f : rules.Fault) → post next lent (Err f) lent'
+    pub walking-fault : {f : rules.Fault} → post next lent (Err f) lent'
         → Walks post count at slot found (set now entry next) ends lent'.now (told (Err f))
-    walking-fault f p =
+    walking-fault {f} p =
         w.rest (set now entry next) lent'.now (told (Err f))
         (walks-fault post (slot + count - entry) next entry now lent lent' (λ z. omega arith) f p)
-
-pub ruleset walks = (walking-first, walking-none, walking-past, walking-fault)
 
 -- a list of parts
 module _ (post : Called) (least most : ℕ) (nums : List ℕ) (at slot : ℕ) (found ends : List ℕ) where

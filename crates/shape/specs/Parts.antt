@@ -5,9 +5,9 @@ use Rattle.std.proofs.Math.ListN.{get_elem?}
 use Rattle.rules.specs.Syntax.{Ty, Parameter, Key, Numeral, Pair, Expr}
 use Rattle.rules.specs.Reading.{most_parameters, most_locals, most_keys, most_actions, most_arguments, most_pairs, deepest}
 use Rattle.rules.specs.Reading.{Reader, ◌>>=◌, pure, here, stands_for, list_of, callable_kinds, type_of}
-use Rattle.rules.specs.Reading.{read_expr, read_header, read_global, read_parameter, read_returns, read_callable, read_numeral, read_key, read_table, read_pair, read_state}
+use Rattle.rules.specs.Reading.{read_expr, read_parameter, read_returns, read_numeral, read_key, read_pair}
 use Rattle.rules.specs.declared.Fault as rules
-use Rattle.shape.specs.Scans.{told, scan_of, Scan, Past}
+use Rattle.shape.specs.Scans.{told, Scan, Past}
 use Rattle.shape.specs.Ends.{lay_expr, first_at, lay_all, key_at, lay_key, numeral_at, pair_at}
 use Rattle.shape.specs.Leads.{on_scan, value_of, on_value}
 

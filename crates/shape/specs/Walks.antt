@@ -6,7 +6,7 @@ use Rattle.std.proofs.lemmas.List.Edits.{sets}
 use Rattle.rules.specs.Syntax.{HeaderTy, Global, Callable, Table, ParserState}
 use Rattle.rules.specs.Syntax.{Stmt}
 use Rattle.rules.specs.Reading.{Got, got, bad, Reader, ◌>>=◌, pure, list_of, deepest, most_headers, most_globals, most_callables, most_tables}
-use Rattle.rules.specs.Reading.{read_stmt, read_header, read_global, read_callable, read_table, read_state, read_states}
+use Rattle.rules.specs.Reading.{read_stmt, read_header, read_global, read_callable, read_table, read_states}
 use Rattle.rules.specs.declared.Fault as rules
 use Rattle.shape.specs.Scans.{told, scan_of, Scan, Past, Fault}
 use Rattle.shape.specs.Leads.{value_of, Value, Of, Unread}
