@@ -171,8 +171,10 @@ pub starts-states : (version : ℕ) → Starts state_at (read_state version)
 unfolding state_at
 starts-states version = starts-state version
 
+-- what a reader scans and lays at an index
 tells-part : {A : Type 0} {read : Reader A} {lay : A → ℕ → List ℕ → List ℕ} {nums : List ℕ} {at : ℕ}
-    {found filled : List ℕ} {r : Scan} → Lays read lay nums at found filled r → LaysPart (scan_of read nums) (laid_by read lay nums) at found filled r
+    {found filled : List ℕ} {r : Scan}
+    → Lays read lay nums at found filled r → LaysPart (scan_of read nums) (laid_by read lay nums) at found filled r
 unfolding scan_of forget Laid laid_by laid_got ends_after
 tells-part {A} {read} {lay} {nums} {at} {found} {filled} {r} w =
     record { scan = w.scan; laid = rw w.scan (go (read (drop at nums) at) w.laid) }
@@ -199,51 +201,56 @@ scans-parts read nums h =
 
 module _ (version : ℕ) (nums : List ℕ) (at : ℕ) (found filled : List ℕ) (slots slots₂ : List ℕ) (r : Scan) where
   header-ends : WalkedList (scan_of (read_header version) nums) 0 most_headers nums at headers_slot slots slots₂ r
-      → list_ends (scan_of (read_header version) nums) (laid_by (read_header version) no_ends nums) (value_of 0 most_headers nums at) found
-      filled
+      → list_ends (scan_of (read_header version) nums) (laid_by (read_header version) no_ends nums)
+      (value_of 0 most_headers nums at) found filled
       → Lays (list_of 0 most_headers (read_header version)) no_ends nums at found filled r
   header-ends w l = lays-like (lay-nothing (λ (h : HeaderTy). h.at)) (record {
     scan = w.scan ∙ sym (list-scans _ nums 0 most_headers at (keeps-header version));
-    laid = list-ends-lay nums (keeps-header version) (λ h. h.at) (starts-header version) no_ends 0 most_headers at found filled l;
+    laid = list-ends-lay nums (keeps-header version) (λ h. h.at) (starts-header version)
+        no_ends 0 most_headers at found filled l;
   })
 
   global-ends : WalkedList (scan_of (read_global version) nums) 0 most_globals nums at globals_slot slots slots₂ r
-      → list_ends (scan_of (read_global version) nums) (laid_by (read_global version) no_ends nums) (value_of 0 most_globals nums at) found
-      filled
+      → list_ends (scan_of (read_global version) nums) (laid_by (read_global version) no_ends nums)
+      (value_of 0 most_globals nums at) found filled
       → Lays (list_of 0 most_globals (read_global version)) no_ends nums at found filled r
   global-ends w l = lays-like (lay-nothing (λ (g : Global). g.at)) (record {
     scan = w.scan ∙ sym (list-scans _ nums 0 most_globals at (keeps-global version));
-    laid = list-ends-lay nums (keeps-global version) (λ g. g.at) (starts-global version) no_ends 0 most_globals at found filled l;
+    laid = list-ends-lay nums (keeps-global version) (λ g. g.at) (starts-global version)
+        no_ends 0 most_globals at found filled l;
   })
 
   callable-ends : WalkedList (scan_of (read_callable version) nums) 0 most_callables nums at callables_slot slots slots₂ r
-      → list_ends (scan_of (read_callable version) nums) (laid_by (read_callable version) lay_callable nums) (value_of 0 most_callables nums at) found
-      filled
+      → list_ends (scan_of (read_callable version) nums) (laid_by (read_callable version) lay_callable nums)
+      (value_of 0 most_callables nums at) found filled
       → Lays (list_of 0 most_callables (read_callable version)) (lay_all callable_at lay_callable) nums at found filled r
   unfolding callable_at
   callable-ends w l = record {
     scan = w.scan ∙ sym (list-scans _ nums 0 most_callables at (keeps-callable version));
-    laid = list-ends-lay nums (keeps-callable version) callable_at (starts-callable version) lay_callable 0 most_callables at found filled l;
+    laid = list-ends-lay nums (keeps-callable version) callable_at (starts-callable version)
+        lay_callable 0 most_callables at found filled l;
   }
 
   table-ends : WalkedList (scan_of (read_table version) nums) 0 most_tables nums at tables_slot slots slots₂ r
-      → list_ends (scan_of (read_table version) nums) (laid_by (read_table version) lay_table nums) (value_of 0 most_tables nums at) found
-      filled
+      → list_ends (scan_of (read_table version) nums) (laid_by (read_table version) lay_table nums)
+      (value_of 0 most_tables nums at) found filled
       → Lays (list_of 0 most_tables (read_table version)) (lay_all table_at lay_table) nums at found filled r
   unfolding table_at
   table-ends w l = record {
     scan = w.scan ∙ sym (list-scans _ nums 0 most_tables at (keeps-table version));
-    laid = list-ends-lay nums (keeps-table version) table_at (starts-table version) lay_table 0 most_tables at found filled l;
+    laid = list-ends-lay nums (keeps-table version) table_at (starts-table version)
+        lay_table 0 most_tables at found filled l;
   }
 
   pub state-ends : WalkedList (scan_of (read_state version) nums) 1 most_states nums at states_slot slots slots₂ r
-      → list_ends (scan_of (read_state version) nums) (laid_by (read_state version) lay_state nums) (value_of 1 most_states nums at) found
-      filled
+      → list_ends (scan_of (read_state version) nums) (laid_by (read_state version) lay_state nums)
+      (value_of 1 most_states nums at) found filled
       → Lays (list_of 1 most_states (read_state version)) (lay_all state_at lay_state) nums at found filled r
   unfolding state_at
   state-ends w l = record {
     scan = w.scan ∙ sym (list-scans _ nums 1 most_states at (keeps-state version));
-    laid = list-ends-lay nums (keeps-state version) state_at (starts-state version) lay_state 1 most_states at found filled l;
+    laid = list-ends-lay nums (keeps-state version) state_at (starts-state version)
+        lay_state 1 most_states at found filled l;
   }
 
 -- the header types and globals, the callables and tables, by what is called for each
