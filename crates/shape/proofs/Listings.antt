@@ -1,59 +1,17 @@
--- Parts by their kind, and lists of items.
+-- Lists of items.
 use mathlib.Core.Path.{◌≡◌, refl, ◌∙◌}
 use mathlib.Core.List.{List}
 use Prim.Native.Nat.{ℕ, zero, suc, ◌+◌, ◌-◌, ◌<◌, ◌≤◌}
 use native.Mathlib.Numerals.{sub-one}
 use native.Mathlib.Omega.{arith}
 use native.Mathlib.Nat.{sub-zero}
-use Rattle.rules.specs.Reading.{read_header, read_global, read_callable, read_table, read_state}
 use Rattle.std.specs.Prelude.{Result, Ok, Err}
 use Rattle.rules.specs.Answers.{number_of}
 use Rattle.rules.specs.declared.Fault as rules
-use Rattle.shape.specs.Scans.{told, scan_of, Scan, Past, Fault}
+use Rattle.shape.specs.Scans.{told, Scan, Past, Fault}
 use Rattle.shape.specs.Leads.{on_scan, value_of, on_value, Value, Of, Unread}
-use Rattle.shape.specs.Parts.{repeat_scan, list_scan, Tells, Repeats, Lists, part_scan}
-use Rattle.shape.specs.Ends.{lay_callable, lay_table, lay_state}
-use Rattle.shape.specs.Walks.{Lays, part_ends, LaysPart}
-use Rattle.shape.proofs.Lays.{lays-scan}
-use Rattle.shape.specs.declared.program.Part.{Part}
-use Rattle.shape.specs.declared.program.Part.TheVariants.{HeaderPart, GlobalPart, CallablePart, TablePart, StatePart}
+use Rattle.shape.specs.Parts.{repeat_scan, list_scan, Tells, Repeats, Lists}
 use Rattle.shape.proofs.Laws.{seq-past, seq-fault}
-
--- parts by their kind
-module _ (version : ℕ) (nums : List ℕ) (at : ℕ) (r : Scan) (part : Part) (found : List ℕ) where
-  pub header-part : part ≡ HeaderPart → r ≡ scan_of (read_header version) nums at
-      → LaysPart version part nums at found found r
-  unfolding part_scan part_ends
-  header-part e q = record { scan = rw e q; laid = rw e (lays-scan found q).laid }
-
-  pub global-part : part ≡ GlobalPart → r ≡ scan_of (read_global version) nums at
-      → LaysPart version part nums at found found r
-  unfolding part_scan part_ends
-  global-part e q = record { scan = rw e q; laid = rw e (lays-scan found q).laid }
-
-  pub callable-part : (filled : List ℕ) → part ≡ CallablePart
-      → Lays (read_callable version) lay_callable nums at found filled r
-      → LaysPart version part nums at found filled r
-  unfolding part_scan part_ends
-  callable-part filled e w = record { scan = rw e w.scan; laid = rw e w.laid }
-
-  pub table-part : (filled : List ℕ) → part ≡ TablePart → Lays (read_table version) lay_table nums at found filled r
-      → LaysPart version part nums at found filled r
-  unfolding part_scan part_ends
-  table-part filled e w = record { scan = rw e w.scan; laid = rw e w.laid }
-
-  pub state-part : (filled : List ℕ) → part ≡ StatePart → Lays (read_state version) lay_state nums at found filled r
-      → LaysPart version part nums at found filled r
-  unfolding part_scan part_ends
-  state-part filled e w = record { scan = rw e w.scan; laid = rw e w.laid }
-
-pub ruleset kinds = (
-  header-part,
-  global-part,
-  callable-part,
-  table-part,
-  state-part,
-)
 
 -- lists of items
 module _ (one : ℕ → Scan) (count at : ℕ) where

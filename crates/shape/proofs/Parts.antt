@@ -15,9 +15,11 @@ use Rattle.rules.specs.Reading.{Reader, ◌>>=◌, pure, number, within, between
 use Rattle.rules.specs.Reading.{kind_action, kind_function, directions, key_kinds, callable_kinds, bits_of, type_of, or_header, global_type_of}
 use Rattle.rules.specs.Reading.{read_expr, read_stmt, read_header, read_global, read_parameter, read_returns, read_numeral, read_key, read_pair}
 use Rattle.rules.proofs.Readers.{Keeps, keeps_then, keeps-number, keeps-stands, keeps-between, keeps-list, keeps-expr, keeps-parameter, keeps-returns, keeps-numeral, keeps-pair, keeps-pure}
-use Rattle.std.specs.Prelude.{Result}
+use Rattle.std.specs.Prelude.{Result, Ok, Err}
+use Rattle.std.specs.Result.{MatchResult}
+use Rattle.rules.specs.Answers.{number_of}
 use Rattle.rules.specs.declared.Fault as rules
-use Rattle.shape.specs.Scans.{scan_of, Scan, Past, Fault}
+use Rattle.shape.specs.Scans.{told, scan_of, Scan, Past, Fault}
 use Rattle.shape.specs.Leads.{on_scan, value_of, on_value, Value, Of, Unread}
 use Rattle.shape.specs.Parts.{repeat_scan, list_scan, Tells, Lists, read_returning, read_frame, read_default}
 use Rattle.shape.proofs.Listings.{lists-scan}
@@ -234,7 +236,7 @@ module _ (version : ℕ) (nums : List ℕ) (at : ℕ) where
       (λ h. no_value version (get_or nums at 0) (type_of version (get_or nums at 0)) (f h)
       ∙ some-header version (get_or nums at 0) ∙ sym (some-within 128 135 (get_or nums at 0)))
 
-  pub global-past : (n : ℕ) (a : Scan) → a ≡ scan_of (between 0 widest) nums at → a ≡ Past n
+  global-past : (n : ℕ) (a : Scan) → a ≡ scan_of (between 0 widest) nums at → a ≡ Past n
       → Past n ≡ scan_of (read_global version) nums at
   global-past n a e p =
       sym p ∙ e ∙ sym (spans-scan nums at (spans-type version))
@@ -242,7 +244,7 @@ module _ (version : ℕ) (nums : List ℕ) (at : ℕ) where
       (spans-scan nums at (spans-type version) ∙ sym e ∙ p)))
       ∙ sym (scans-global.scan at)
 
-  pub global-else : (f i : ℕ) (a r : Scan) → a ≡ scan_of (between 0 widest) nums at → a ≡ Fault f i
+  global-else : (f i : ℕ) (a r : Scan) → a ≡ scan_of (between 0 widest) nums at → a ≡ Fault f i
       → r ≡ scan_of (between 128 135) nums at
       → r ≡ scan_of (read_global version) nums at
   global-else f i a r e p q =
@@ -250,6 +252,13 @@ module _ (version : ℕ) (nums : List ℕ) (at : ℕ) where
       ∙ sym (global-header (λ h. stands-lacks (type_of version) nums at h f i
       (spans-scan nums at (spans-type version) ∙ sym e ∙ p)))
       ∙ sym (scans-global.scan at)
+
+  -- the one, or else the other
+  pub global-either : (s r : Result ℕ rules.Fault) (P : rules.Fault → Type 0) → told s ≡ scan_of (between 0 widest) nums at
+      → MatchResult s (λ x. r ≡ Ok x) P → ((f : rules.Fault) → P f → told r ≡ scan_of (between 128 135) nums at)
+      → told r ≡ scan_of (read_global version) nums at
+  global-either (Ok n) r P e m t = rw m (global-past n (Past n) e refl)
+  global-either (Err f) r P e m t = global-else (number_of f.reason) f.index (told (Err f)) (told r) e refl (t f m)
 
 -- the steps of the parts' functions: a first thing past and then a second, or the first's fault
 module _ (version : ℕ) (nums : List ℕ) (at : ℕ) (a : Scan) where
@@ -293,8 +302,6 @@ pub ruleset parts = (
   parameter-past,
   parameter-fault,
   header_is,
-  global-past,
-  global-else,
   returning-action,
   returning-function,
   returning-fault,

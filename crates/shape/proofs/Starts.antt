@@ -9,19 +9,20 @@ use Rattle.rules.specs.Syntax.{Stmt, HeaderTy, Global}
 use Rattle.rules.specs.Reading.{Got, got, bad, Reader, and_then, ◌>>=◌, pure, between, repeat, list_of, deepest, most_headers, most_globals, most_callables, most_tables, most_states}
 use Rattle.rules.specs.Reading.{read_stmt, read_header, read_global, read_callable, read_table, read_state}
 use Rattle.rules.proofs.Readers.{Kept, Keeps, keeps-between, keeps-list, keeps-header, keeps-global, keeps-callable, keeps-table, keeps-state, Given, Starts, starts-header, starts-global, starts-callable, starts-table, starts-state}
-use Rattle.shape.specs.Scans.{forget, scan_of, Scan, Past, Fault}
-use Rattle.shape.specs.Leads.{valued, value_of, Value, Of}
-use Rattle.shape.specs.Parts.{list_scan, part_scan}
+use Rattle.std.proofs.Common.{MutBor}
+use Rattle.std.specs.Prelude.{Result}
+use Rattle.rules.specs.declared.Fault as rules
+use Rattle.shape.specs.Scans.{told, forget, scan_of, Scan, Past, Fault}
+use Rattle.shape.specs.Leads.{valued, value_of}
+use Rattle.shape.specs.Parts.{list_scan}
 use Rattle.shape.specs.Directory.{headers_slot, globals_slot, callables_slot, tables_slot, body_slot, end_slot, states_slot}
 use Rattle.shape.specs.Directory.{stmt_at, listed, declared, defined, stated}
 use Rattle.shape.specs.Ends.{first_at, lay_all, callable_at, lay_callable, table_at, lay_table, state_at, lay_state}
-use Rattle.shape.specs.Walks.{starts_after, starts, laid_list, WalkedList, Laid, Lays, no_ends, part_ends, ends_after, parts_ends, list_ends, LaysList, ends_defined}
+use Rattle.shape.specs.Walks.{starts_after, starts, laid_list, WalkedList, Laid, Lays, no_ends, laid_got, laid_by, ends_after, LaysPart, parts_ends, list_ends, Called, TellsPart, WalksList, ends_defined}
 use Rattle.shape.specs.Walks.{read_declared, lay_declared, read_defined, lay_defined, lay_states, lay_body}
-use Rattle.shape.specs.declared.program.Part.{Part}
-use Rattle.shape.specs.declared.program.Part.TheVariants.{HeaderPart, GlobalPart, CallablePart, TablePart, StatePart}
 use Rattle.shape.proofs.Laws.{scans-self}
 use Rattle.shape.proofs.Stmts.{starts-stmt}
-use Rattle.shape.proofs.Lays.{lays-then, lays-fault, lays-like, lays-same, BegunAt, Begins, begins-repeat, begins-list, lays-next}
+use Rattle.shape.proofs.Lays.{lays-then, lays-fault, lays-scan, lays-like, lays-same, BegunAt, Begins, begins-repeat, begins-list, lays-next}
 use Rattle.shape.proofs.Parts.{scans-items}
 use Rattle.shape.proofs.Walking.{scan-got}
 
@@ -79,41 +80,37 @@ list-scans : {A : Type 0} (one : Reader A) (nums : List ℕ) (least most at : �
 list-scans one nums least most at h = (scans-items least most h (scans-self one nums)).scan at
 
 module _ (version : ℕ) (nums : List ℕ) (at : ℕ) (found mid : List ℕ) (a : Scan) where
-  headers-lay : WalkedList (part_scan version HeaderPart nums) 0 most_headers nums at headers_slot found mid a
+  headers-lay : WalkedList (scan_of (read_header version) nums) 0 most_headers nums at headers_slot found mid a
       → Lays (list_of 0 most_headers (read_header version)) (λ xs next slots. listed slots headers_slot
       (map (λ h. h.at) xs)) nums at found mid a
-  unfolding part_scan
   headers-lay w =
       lays-list nums (keeps-header version) (starts-header version) 0 most_headers at headers_slot found mid a w
       (list-scans _ nums 0 most_headers at (keeps-header version))
 
-  globals-lay : WalkedList (part_scan version GlobalPart nums) 0 most_globals nums at globals_slot found mid a
+  globals-lay : WalkedList (scan_of (read_global version) nums) 0 most_globals nums at globals_slot found mid a
       → Lays (list_of 0 most_globals (read_global version)) (λ xs next slots. listed slots globals_slot
       (map (λ g. g.at) xs)) nums at found mid a
-  unfolding part_scan
   globals-lay w =
       lays-list nums (keeps-global version) (starts-global version) 0 most_globals at globals_slot found mid a w
       (list-scans _ nums 0 most_globals at (keeps-global version))
 
-  callables-lay : WalkedList (part_scan version CallablePart nums) 0 most_callables nums at callables_slot found mid a
+  callables-lay : WalkedList (scan_of (read_callable version) nums) 0 most_callables nums at callables_slot found mid a
       → Lays (list_of 0 most_callables (read_callable version))
       (λ xs next slots. listed slots callables_slot (map (λ c. c.at) xs)) nums at found mid a
-  unfolding part_scan
   callables-lay w =
       lays-list nums (keeps-callable version) (starts-callable version) 0 most_callables at callables_slot found mid a w
       (list-scans _ nums 0 most_callables at (keeps-callable version))
 
-  tables-lay : WalkedList (part_scan version TablePart nums) 0 most_tables nums at tables_slot found mid a
+  tables-lay : WalkedList (scan_of (read_table version) nums) 0 most_tables nums at tables_slot found mid a
       → Lays (list_of 0 most_tables (read_table version)) (λ xs next slots. listed slots tables_slot
       (map (λ t. t.at) xs)) nums at found mid a
-  unfolding part_scan
   tables-lay w =
       lays-list nums (keeps-table version) (starts-table version) 0 most_tables at tables_slot found mid a w
       (list-scans _ nums 0 most_tables at (keeps-table version))
 
-  pub states-lay : WalkedList (part_scan version StatePart nums) 1 most_states nums at states_slot found mid a
+  pub states-lay : WalkedList (scan_of (read_state version) nums) 1 most_states nums at states_slot found mid a
       → Lays (list_of 1 most_states (read_state version)) lay_states nums at found mid a
-  unfolding part_scan lay_states stated
+  unfolding lay_states stated
   states-lay w =
       lays-list nums (keeps-state version) (starts-state version) 1 most_states at states_slot found mid a w
       (list-scans _ nums 1 most_states at (keeps-state version))
@@ -121,47 +118,44 @@ module _ (version : ℕ) (nums : List ℕ) (at : ℕ) (found mid : List ℕ) (a 
 -- and into the ends
 module _ {A : Type 0} {one : Reader A} (nums : List ℕ) (h : Keeps one) (start : A → ℕ) (s : Starts start one)
     (lay : A → ℕ → List ℕ → List ℕ) where
-  abbrev lay_one : ℕ → List ℕ → List ℕ → Type 0
-  lay_one at found filled = Laid (one (drop at nums) at) lay found filled
+  abbrev lay_one : ℕ → List ℕ → List ℕ
+  lay_one = laid_by one lay nums
 
   more-ends : (count at : ℕ) (found filled : List ℕ) (x : Got A) → one (drop at nums) at ≡ x → Kept nums at x
       → ((n : ℕ) (mid : List ℕ) → parts_ends (scan_of one nums) lay_one count n mid filled
       → Laid (repeat count one (drop n nums) n) (lay_all start lay) mid filled)
-      → ends_after (forget x) (λ next. (mid : List ℕ) × Laid x lay found mid
-      × parts_ends (scan_of one nums) lay_one count next mid filled)
+      → ends_after (forget x) (λ next. parts_ends (scan_of one nums) lay_one count next (laid_got x lay found) filled)
       → Laid (and_then x (λ a. repeat count one >>= λ rest. pure (a ∷ rest))) (lay_all start lay) found filled
-  unfolding ends_after forget Laid Kept and_then ◌>>=◌ pure lay_all BegunAt
+  unfolding ends_after laid_got forget Laid Kept and_then ◌>>=◌ pure lay_all BegunAt
   more-ends count at found filled (bad fault index) e k ih l = tt
   more-ends count at found filled (got a left n) e k ih l =
       rw k.rest (go (repeat count one (drop n nums) n) ((begins-repeat count s).begun (drop n nums) n)
-      (ih n l.0 l.2))
+      (ih n (lay a n found) l))
     where
-      go : (y : Got (List A)) → BegunAt (first_at start) n y → Laid y (lay_all start lay) l.0 filled
+      go : (y : Got (List A)) → BegunAt (first_at start) n y → Laid y (lay_all start lay) (lay a n found) filled
           → Laid (and_then y (λ rest. pure (a ∷ rest))) (lay_all start lay) found filled
-      go (got rest u end) b m = m ∙ rw (l.1, b)
+      go (got rest u end) b m = m ∙ rw b
       go (bad fault index) b m = tt
 
   all-ends : (count at : ℕ) (found filled : List ℕ) → parts_ends (scan_of one nums) lay_one count at found filled
       → Laid (repeat count one (drop at nums) at) (lay_all start lay) found filled
-  unfolding parts_ends repeat pure Laid lay_all scan_of ◌>>=◌ and_then
+  unfolding parts_ends repeat pure Laid laid_by lay_all scan_of ◌>>=◌ and_then
   all-ends zero at found filled e = e
   all-ends (suc count) at found filled l =
       more-ends count at found filled (one (drop at nums) at) refl (h.kept nums at)
       (λ n mid m. all-ends count n mid filled m) l
 
-  list-ends-lay : (least most at : ℕ) (found filled : List ℕ) (v : Value) → v ≡ value_of least most nums at
-      → ((n next : ℕ) → v ≡ Of n next → parts_ends (scan_of one nums) lay_one n next found filled)
+  list-ends-lay : (least most at : ℕ) (found filled : List ℕ)
+      → list_ends (scan_of one nums) lay_one (value_of least most nums at) found filled
       → Laid (list_of least most one (drop at nums) at) (lay_all start lay) found filled
-  unfolding list_of value_of valued Laid Kept and_then ◌>>=◌
-  list-ends-lay least most at found filled v q l =
-      go (between least most (drop at nums) at) ((keeps-between least most).kept nums at)
-      (λ n next e. l n next (q ∙ e))
+  unfolding list_of value_of valued list_ends Laid Kept and_then ◌>>=◌
+  list-ends-lay least most at found filled l =
+      go (between least most (drop at nums) at) ((keeps-between least most).kept nums at) l
     where
-      go : (x : Got ℕ) → Kept nums at x
-          → ((n next : ℕ) → valued x ≡ Of n next → parts_ends (scan_of one nums) lay_one n next found filled)
+      go : (x : Got ℕ) → Kept nums at x → list_ends (scan_of one nums) lay_one (valued x) found filled
           → Laid (and_then x (λ n. repeat n one)) (lay_all start lay) found filled
       go (bad fault index) k m = tt
-      go (got n left next) k m = rw k.rest (all-ends n next found filled (m n next refl))
+      go (got n left next) k m = rw k.rest (all-ends n next found filled m)
 
 lay-nothing : {A : Type 0} (start : A → ℕ) (xs : List A) (end : ℕ) (slots : List ℕ)
     → lay_all start no_ends xs end slots ≡ no_ends xs end slots
@@ -177,158 +171,157 @@ pub starts-states : (version : ℕ) → Starts state_at (read_state version)
 unfolding state_at
 starts-states version = starts-state version
 
--- what a list of parts laid, at its count
-list-laid : (version : ℕ) (part : Part) (least most : ℕ) (nums : List ℕ) (at : ℕ) (found filled : List ℕ) (r : Scan)
-    → LaysList version part least most nums at found filled r → (n next : ℕ) → value_of least most nums at ≡ Of n next
-    → parts_ends (part_scan version part nums) (part_ends version part nums) n next found filled
-unfolding list_ends
-list-laid version part least most nums at found filled r w n next e = rw e at w.laid
+-- what a reader scans and lays at an index
+tells-part : {A : Type 0} {read : Reader A} {lay : A → ℕ → List ℕ → List ℕ} {nums : List ℕ} {at : ℕ}
+    {found filled : List ℕ} {r : Scan}
+    → Lays read lay nums at found filled r → LaysPart (scan_of read nums) (laid_by read lay nums) at found filled r
+unfolding scan_of forget Laid laid_by laid_got ends_after
+tells-part {A} {read} {lay} {nums} {at} {found} {filled} {r} w =
+    record { scan = w.scan; laid = rw w.scan (go (read (drop at nums) at) w.laid) }
+  where
+    go : (x : Got A) → Laid x lay found filled → ends_after (forget x) (λ next. filled ≡ laid_got x lay found)
+    go (got a left next) l = l
+    go (bad fault index) l = tt
+
+-- what is called for each part, where it tells what a reader does
+pub reads-parts : {A : Type 0} {post : Called} (read : Reader A) (lay : A → ℕ → List ℕ → List ℕ) (nums : List ℕ)
+    → ((at : ℕ) (ends ends' : MutBor (List ℕ)) (r : Result ℕ rules.Fault) → post at ends r ends'
+    → Lays read lay nums at ends.now ends'.now (told r))
+    → TellsPart post (scan_of read nums) (laid_by read lay nums)
+reads-parts read lay nums h = record { tells = λ at ends ends' r p. tells-part (h at ends ends' r p) }
+
+pub scans-parts : {A : Type 0} {post : Called} (read : Reader A) (nums : List ℕ)
+    → ((at : ℕ) (ends ends' : MutBor (List ℕ)) (r : Result ℕ rules.Fault) → post at ends r ends'
+    → (told r ≡ scan_of read nums at) × (ends'.now ≡ ends.now))
+    → TellsPart post (scan_of read nums) (laid_by read no_ends nums)
+scans-parts read nums h =
+    reads-parts read no_ends nums λ at ends ends' r p.
+    let e : (told r ≡ scan_of read nums at) × (ends'.now ≡ ends.now) = h at ends ends' r p in
+    rw e.1 (lays-scan ends.now e.0)
 
 module _ (version : ℕ) (nums : List ℕ) (at : ℕ) (found filled : List ℕ) (slots slots₂ : List ℕ) (r : Scan) where
-  header-ends : WalkedList (part_scan version HeaderPart nums) 0 most_headers nums at headers_slot slots slots₂ r
-      → LaysList version HeaderPart 0 most_headers nums at found filled r
+  header-ends : WalkedList (scan_of (read_header version) nums) 0 most_headers nums at headers_slot slots slots₂ r
+      → list_ends (scan_of (read_header version) nums) (laid_by (read_header version) no_ends nums)
+      (value_of 0 most_headers nums at) found filled
       → Lays (list_of 0 most_headers (read_header version)) no_ends nums at found filled r
-  unfolding part_scan part_ends
   header-ends w l = lays-like (lay-nothing (λ (h : HeaderTy). h.at)) (record {
     scan = w.scan ∙ sym (list-scans _ nums 0 most_headers at (keeps-header version));
-    laid = list-ends-lay nums (keeps-header version) (λ h. h.at)
-        (starts-header version) no_ends 0 most_headers at found filled _
-        refl (list-laid version HeaderPart 0 most_headers nums at found filled r l);
+    laid = list-ends-lay nums (keeps-header version) (λ h. h.at) (starts-header version)
+        no_ends 0 most_headers at found filled l;
   })
 
-  global-ends : WalkedList (part_scan version GlobalPart nums) 0 most_globals nums at globals_slot slots slots₂ r
-      → LaysList version GlobalPart 0 most_globals nums at found filled r
+  global-ends : WalkedList (scan_of (read_global version) nums) 0 most_globals nums at globals_slot slots slots₂ r
+      → list_ends (scan_of (read_global version) nums) (laid_by (read_global version) no_ends nums)
+      (value_of 0 most_globals nums at) found filled
       → Lays (list_of 0 most_globals (read_global version)) no_ends nums at found filled r
-  unfolding part_scan part_ends
   global-ends w l = lays-like (lay-nothing (λ (g : Global). g.at)) (record {
     scan = w.scan ∙ sym (list-scans _ nums 0 most_globals at (keeps-global version));
-    laid = list-ends-lay nums (keeps-global version) (λ g. g.at)
-        (starts-global version) no_ends 0 most_globals at found filled _
-        refl (list-laid version GlobalPart 0 most_globals nums at found filled r l);
+    laid = list-ends-lay nums (keeps-global version) (λ g. g.at) (starts-global version)
+        no_ends 0 most_globals at found filled l;
   })
 
-  callable-ends : WalkedList (part_scan version CallablePart nums) 0 most_callables nums at callables_slot slots slots₂ r
-      → LaysList version CallablePart 0 most_callables nums at found filled r
+  callable-ends : WalkedList (scan_of (read_callable version) nums) 0 most_callables nums at callables_slot slots slots₂ r
+      → list_ends (scan_of (read_callable version) nums) (laid_by (read_callable version) lay_callable nums)
+      (value_of 0 most_callables nums at) found filled
       → Lays (list_of 0 most_callables (read_callable version)) (lay_all callable_at lay_callable) nums at found filled r
-  unfolding part_scan part_ends callable_at
+  unfolding callable_at
   callable-ends w l = record {
     scan = w.scan ∙ sym (list-scans _ nums 0 most_callables at (keeps-callable version));
-    laid = list-ends-lay nums (keeps-callable version) callable_at
-        (starts-callable version) lay_callable 0 most_callables at found
-        filled _ refl (list-laid version CallablePart 0 most_callables nums at found filled r l);
+    laid = list-ends-lay nums (keeps-callable version) callable_at (starts-callable version)
+        lay_callable 0 most_callables at found filled l;
   }
 
-  table-ends : WalkedList (part_scan version TablePart nums) 0 most_tables nums at tables_slot slots slots₂ r
-      → LaysList version TablePart 0 most_tables nums at found filled r
+  table-ends : WalkedList (scan_of (read_table version) nums) 0 most_tables nums at tables_slot slots slots₂ r
+      → list_ends (scan_of (read_table version) nums) (laid_by (read_table version) lay_table nums)
+      (value_of 0 most_tables nums at) found filled
       → Lays (list_of 0 most_tables (read_table version)) (lay_all table_at lay_table) nums at found filled r
-  unfolding part_scan part_ends table_at
+  unfolding table_at
   table-ends w l = record {
     scan = w.scan ∙ sym (list-scans _ nums 0 most_tables at (keeps-table version));
-    laid = list-ends-lay nums (keeps-table version) table_at
-        (starts-table version) lay_table 0 most_tables at found filled _ refl
-        (list-laid version TablePart 0 most_tables nums at found filled r l);
+    laid = list-ends-lay nums (keeps-table version) table_at (starts-table version)
+        lay_table 0 most_tables at found filled l;
   }
 
-  pub state-ends : WalkedList (part_scan version StatePart nums) 1 most_states nums at states_slot slots slots₂ r
-      → LaysList version StatePart 1 most_states nums at found filled r
+  pub state-ends : WalkedList (scan_of (read_state version) nums) 1 most_states nums at states_slot slots slots₂ r
+      → list_ends (scan_of (read_state version) nums) (laid_by (read_state version) lay_state nums)
+      (value_of 1 most_states nums at) found filled
       → Lays (list_of 1 most_states (read_state version)) (lay_all state_at lay_state) nums at found filled r
-  unfolding part_scan part_ends state_at
+  unfolding state_at
   state-ends w l = record {
     scan = w.scan ∙ sym (list-scans _ nums 1 most_states at (keeps-state version));
-    laid = list-ends-lay nums (keeps-state version) state_at
-        (starts-state version) lay_state 1 most_states at found filled _ refl
-        (list-laid version StatePart 1 most_states nums at found filled r l);
+    laid = list-ends-lay nums (keeps-state version) state_at (starts-state version)
+        lay_state 1 most_states at found filled l;
   }
 
-module _ (version : ℕ) (nums : List ℕ) (at : ℕ) (found mid slots slots₂ : List ℕ) (a : Scan) where
-  pub declared-ends : (n : ℕ) (filled slots₃ : List ℕ) (r : Scan)
-      → WalkedList (part_scan version HeaderPart nums) 0 most_headers nums at headers_slot slots slots₂ a
-      → LaysList version HeaderPart 0 most_headers nums at found mid a → a ≡ Past n
-      → WalkedList (part_scan version GlobalPart nums) 0 most_globals nums n globals_slot slots₂ slots₃ r
-      → LaysList version GlobalPart 0 most_globals nums n mid filled r
-      → Lays (read_declared version) no_ends nums at found filled r
-  unfolding read_declared no_ends
-  declared-ends n filled slots₃ r w l p v m =
-      lays-then (λ hs gs. (hs, gs)) no_ends (λ hs gs m next slots. refl)
-      (keeps-list 0 most_headers (keeps-header version))
-      (header-ends version nums at found mid slots slots₂ a w l) p
-      (global-ends version nums n mid filled slots₂ slots₃ r v m)
+-- the header types and globals, the callables and tables, by what is called for each
+module _ (version : ℕ) (nums : List ℕ) (at : ℕ) {found mid ends ends₂ : List ℕ} {a : Scan} where
+  module _ {header : Called} (w : WalksList header 0 most_headers nums at headers_slot found mid ends ends₂ a)
+      (t : TellsPart header (scan_of (read_header version) nums) (laid_by (read_header version) no_ends nums)) where
+    pub declared-fault : {f i : ℕ} → a ≡ Fault f i
+        → Lays (read_declared version) lay_declared nums at found mid (Fault f i)
+    unfolding read_declared
+    declared-fault p = lays-fault _ lay_declared found (headers-lay version nums at found mid a (w.walked _ _ t)) p
 
-  pub declared-no-ends : (f i : ℕ)
-      → WalkedList (part_scan version HeaderPart nums) 0 most_headers nums at headers_slot slots slots₂ a
-      → LaysList version HeaderPart 0 most_headers nums at found mid a → a ≡ Fault f i
-      → Lays (read_declared version) no_ends nums at found mid (Fault f i)
-  unfolding read_declared
-  declared-no-ends f i w l p = lays-fault _ no_ends found (header-ends version nums at found mid slots slots₂ a w l) p
+    pub declared-no-ends : {f i : ℕ} → a ≡ Fault f i
+        → Lays (read_declared version) no_ends nums at ends ends₂ (Fault f i)
+    unfolding read_declared
+    declared-no-ends p =
+        lays-fault _ no_ends ends (header-ends version nums at ends ends₂ found mid a (w.walked _ _ t) (w.laid _ _ t)) p
 
-  pub defined-ends : (n : ℕ) (filled slots₃ : List ℕ) (r : Scan)
-      → WalkedList (part_scan version CallablePart nums) 0 most_callables nums at callables_slot slots slots₂ a
-      → LaysList version CallablePart 0 most_callables nums at found mid a → a ≡ Past n
-      → WalkedList (part_scan version TablePart nums) 0 most_tables nums n tables_slot slots₂ slots₃ r
-      → LaysList version TablePart 0 most_tables nums n mid filled r
-      → Lays (read_defined version) ends_defined nums at found filled r
-  unfolding read_defined ends_defined
-  defined-ends n filled slots₃ r w l p v m =
-      lays-next (λ cs ts. (cs, ts)) ends_defined (λ ts end. first_at table_at ts end - 1) (λ cs ts next slots. refl)
-      (keeps-list 0 most_callables (keeps-callable version)) (begins-list 0 most_tables (starts-tables version))
-      (callable-ends version nums at found mid slots slots₂ a w l) p
-      (table-ends version nums n mid filled slots₂ slots₃ r v m)
+    module _ {global : Called} {n : ℕ} {filled ends₃ : List ℕ} {r : Scan} (p : a ≡ Past n)
+        (v : WalksList global 0 most_globals nums n globals_slot mid filled ends₂ ends₃ r)
+        (u : TellsPart global (scan_of (read_global version) nums) (laid_by (read_global version) no_ends nums)) where
+      pub declared-past : Lays (read_declared version) lay_declared nums at found filled r
+      unfolding read_declared lay_declared declared
+      declared-past =
+          lays-then (λ hs gs. (hs, gs)) lay_declared (λ hs gs m next slots. refl)
+          (keeps-list 0 most_headers (keeps-header version))
+          (headers-lay version nums at found mid a (w.walked _ _ t)) p
+          (globals-lay version nums n mid filled r (v.walked _ _ u))
 
-  pub defined-no-ends : (f i : ℕ)
-      → WalkedList (part_scan version CallablePart nums) 0 most_callables nums at callables_slot slots slots₂ a
-      → LaysList version CallablePart 0 most_callables nums at found mid a → a ≡ Fault f i
-      → Lays (read_defined version) ends_defined nums at found mid (Fault f i)
-  unfolding read_defined
-  defined-no-ends f i w l p =
-      lays-fault _ ends_defined found (callable-ends version nums at found mid slots slots₂ a w l) p
+      pub declared-ends : Lays (read_declared version) no_ends nums at ends ends₃ r
+      unfolding read_declared no_ends
+      declared-ends =
+          lays-then (λ hs gs. (hs, gs)) no_ends (λ hs gs m next slots. refl)
+          (keeps-list 0 most_headers (keeps-header version))
+          (header-ends version nums at ends ends₂ found mid a (w.walked _ _ t) (w.laid _ _ t)) p
+          (global-ends version nums n ends₂ ends₃ mid filled r (v.walked _ _ u) (v.laid _ _ u))
 
-module _ (version : ℕ) (nums : List ℕ) (at : ℕ) (found mid : List ℕ) (a : Scan) where
-  pub declared-past : (n : ℕ) (filled : List ℕ) (r : Scan)
-      → WalkedList (part_scan version HeaderPart nums) 0 most_headers nums at headers_slot found mid a → a
-      ≡ Past n
-      → WalkedList (part_scan version GlobalPart nums) 0 most_globals nums n globals_slot mid filled r
-      → Lays (read_declared version) lay_declared nums at found filled r
-  unfolding read_declared lay_declared declared
-  declared-past n filled r w p v =
-      lays-then (λ hs gs. (hs, gs)) lay_declared (λ hs gs m next slots. refl)
-      (keeps-list 0 most_headers (keeps-header version))
-      (headers-lay version nums at found mid a w) p (globals-lay version nums n mid filled r v)
+  module _ {callable : Called} (w : WalksList callable 0 most_callables nums at callables_slot found mid ends ends₂ a)
+      (t : TellsPart callable (scan_of (read_callable version) nums) (laid_by (read_callable version) lay_callable nums))
+    where
+      pub defined-fault : {f i : ℕ} → a ≡ Fault f i
+          → Lays (read_defined version) lay_defined nums at found mid (Fault f i)
+      unfolding read_defined
+      defined-fault p =
+          lays-fault _ lay_defined found (callables-lay version nums at found mid a (w.walked _ _ t)) p
 
-  pub declared-fault : (f i : ℕ)
-      → WalkedList (part_scan version HeaderPart nums) 0 most_headers nums at headers_slot found mid a → a
-      ≡ Fault f i
-      → Lays (read_declared version) lay_declared nums at found mid (Fault f i)
-  unfolding read_declared
-  declared-fault f i w p = lays-fault _ lay_declared found (headers-lay version nums at found mid a w) p
+      pub defined-no-ends : {f i : ℕ} → a ≡ Fault f i
+          → Lays (read_defined version) ends_defined nums at ends ends₂ (Fault f i)
+      unfolding read_defined
+      defined-no-ends p =
+          lays-fault _ ends_defined ends
+          (callable-ends version nums at ends ends₂ found mid a (w.walked _ _ t) (w.laid _ _ t)) p
 
-  pub defined-past : (n : ℕ) (filled : List ℕ) (r : Scan)
-      → WalkedList (part_scan version CallablePart nums) 0 most_callables nums at callables_slot found mid a
-      → a ≡ Past n
-      → WalkedList (part_scan version TablePart nums) 0 most_tables nums n tables_slot mid filled r
-      → Lays (read_defined version) lay_defined nums at found filled r
-  unfolding read_defined lay_defined defined
-  defined-past n filled r w p v =
-      lays-then (λ cs ts. (cs, ts)) lay_defined (λ cs ts m next slots. refl)
-      (keeps-list 0 most_callables (keeps-callable version))
-      (callables-lay version nums at found mid a w) p (tables-lay version nums n mid filled r v)
+      module _ {table : Called} {n : ℕ} {filled ends₃ : List ℕ} {r : Scan} (p : a ≡ Past n)
+          (v : WalksList table 0 most_tables nums n tables_slot mid filled ends₂ ends₃ r)
+          (u : TellsPart table (scan_of (read_table version) nums) (laid_by (read_table version) lay_table nums)) where
+        pub defined-past : Lays (read_defined version) lay_defined nums at found filled r
+        unfolding read_defined lay_defined defined
+        defined-past =
+            lays-then (λ cs ts. (cs, ts)) lay_defined (λ cs ts m next slots. refl)
+            (keeps-list 0 most_callables (keeps-callable version))
+            (callables-lay version nums at found mid a (w.walked _ _ t)) p
+            (tables-lay version nums n mid filled r (v.walked _ _ u))
 
-  pub defined-fault : (f i : ℕ)
-      → WalkedList (part_scan version CallablePart nums) 0 most_callables nums at callables_slot found mid a
-      → a ≡ Fault f i
-      → Lays (read_defined version) lay_defined nums at found mid (Fault f i)
-  unfolding read_defined
-  defined-fault f i w p = lays-fault _ lay_defined found (callables-lay version nums at found mid a w) p
-
-pub ruleset declarations = (
-  declared-past,
-  declared-fault,
-  defined-past,
-  defined-fault,
-  declared-ends,
-  declared-no-ends,
-  defined-ends,
-  defined-no-ends,
-)
+        pub defined-ends : Lays (read_defined version) ends_defined nums at ends ends₃ r
+        unfolding read_defined ends_defined
+        defined-ends =
+            lays-next (λ cs ts. (cs, ts)) ends_defined (λ ts end. first_at table_at ts end - 1)
+            (λ cs ts next slots. refl) (keeps-list 0 most_callables (keeps-callable version))
+            (begins-list 0 most_tables (starts-tables version))
+            (callable-ends version nums at ends ends₂ found mid a (w.walked _ _ t) (w.laid _ _ t)) p
+            (table-ends version nums n ends₂ ends₃ mid filled r (v.walked _ _ u) (v.laid _ _ u))
 
 -- the apply body
 module _ (version : ℕ) (nums : List ℕ) (at : ℕ) (found : List ℕ) (a : Scan) (q : a ≡ scan_of

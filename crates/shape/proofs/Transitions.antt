@@ -19,10 +19,9 @@ use Rattle.rules.specs.declared.Fault as rules
 use Rattle.shape.specs.Scans.{forget, scan_of, Scan, Past, Fault}
 use Rattle.shape.specs.Directory.{stmt_at, listed, stated, states_slot}
 use Rattle.shape.specs.Leads.{value_of, Of, Unread}
-use Rattle.shape.specs.Parts.{Tells, Lists, part_scan, read_select, lay_select}
+use Rattle.shape.specs.Parts.{Tells, Lists, read_select, lay_select}
 use Rattle.shape.specs.Ends.{lay_expr, lay_stmt, first_at, lay_all, numeral_at, pair_at, lay_transition, transition_at, state_at, lay_state, states_at}
-use Rattle.shape.specs.Walks.{Laid, Lays, WalkedList, LaysList, no_ends, lay_states, lay_body, read_blocks, lay_blocks, ends_blocks}
-use Rattle.shape.specs.declared.program.Part.TheVariants.{StatePart}
+use Rattle.shape.specs.Walks.{Laid, Lays, no_ends, laid_by, Called, TellsPart, WalksList, lay_states, lay_body, read_blocks, lay_blocks, ends_blocks}
 use Rattle.shape.proofs.Laws.{scan-here, scan-fault, spans-scan, spans-list, between-fault, IsValue, value-inv}
 use Rattle.shape.proofs.Lays.{lays-then, lays-fault, lays-as, lays-none, lays-scan, lays-made, BegunAt, Begins, begins-list, begins-stands, lays-next, pair_then}
 use Rattle.shape.proofs.Parts.{scans-pairs}
@@ -198,18 +197,17 @@ unfolding read_states
 states-read version b e = rw (read_states, ← e)
 
 module _ (version : ℕ) (nums : List ℕ) (at : ℕ) (b : Bool) (e : b ≡ has_parser version) where
-  pub states-past : (found filled : List ℕ) (r : Scan) → b ≡ true
-      → WalkedList (part_scan version StatePart nums) 1 most_states nums at states_slot found filled r
-      → Lays (read_states version) lay_states nums at found filled r
-  states-past found filled r q w =
-      rw (states-read version true (sym q ∙ e)) (states-lay version nums at found filled r w)
+  module _ (q : b ≡ true) {state : Called} {found filled ends ends₂ : List ℕ} {r : Scan}
+      (w : WalksList state 1 most_states nums at states_slot found filled ends ends₂ r)
+      (t : TellsPart state (scan_of (read_state version) nums) (laid_by (read_state version) lay_state nums)) where
+    pub states-past : Lays (read_states version) lay_states nums at found filled r
+    states-past =
+        rw (states-read version true (sym q ∙ e)) (states-lay version nums at found filled r (w.walked _ _ t))
 
-  pub states-ends : (found filled slots slots₂ : List ℕ) (r : Scan) → b ≡ true
-      → WalkedList (part_scan version StatePart nums) 1 most_states nums at states_slot slots slots₂ r
-      → LaysList version StatePart 1 most_states nums at found filled r
-      → Lays (read_states version) (lay_all state_at lay_state) nums at found filled r
-  states-ends found filled slots slots₂ r q w l =
-      rw (states-read version true (sym q ∙ e)) (state-ends version nums at found filled slots slots₂ r w l)
+    pub states-ends : Lays (read_states version) (lay_all state_at lay_state) nums at ends ends₂ r
+    states-ends =
+        rw (states-read version true (sym q ∙ e))
+        (state-ends version nums at ends ends₂ found filled r (w.walked _ _ t) (w.laid _ _ t))
 
   pub states-none : (found : List ℕ) → b ≡ false
       → Lays (read_states version) lay_states nums at found (set found states_slot 0) (Past at)

@@ -5,13 +5,15 @@ use Prim.Native.Nat.{ℕ, zero, suc, ◌+◌, ◌-◌, ◌≤◌, ◌<◌}
 use native.Mathlib.Omega.{arith}
 use native.Mathlib.Numerals.{add-one, sub-one}
 use lib.ListN.{drop, set}
+use Rattle.std.proofs.Common.{MutBor}
+use Rattle.std.specs.Prelude.{Ok, Err}
+use Rattle.rules.specs.Answers.{number_of}
+use Rattle.rules.specs.declared.Fault as rules
 use Rattle.rules.specs.Reading.{got, Reader}
-use Rattle.shape.specs.Scans.{forget, scan_of, Scan, Past, Fault}
-use Rattle.shape.specs.Leads.{value_of, Value, Of, Unread}
-use Rattle.shape.specs.Parts.{part_scan}
+use Rattle.shape.specs.Scans.{told, forget, scan_of, Scan, Past, Fault}
+use Rattle.shape.specs.Leads.{value_of, Of, Unread}
 use Rattle.shape.specs.Directory.{slot_count}
-use Rattle.shape.specs.Walks.{starts_after, starts, Walked, laid_list, WalkedList, part_ends, LaysPart, ends_after, parts_ends, LaysParts, list_ends, LaysList}
-use Rattle.shape.specs.declared.program.Part.{Part}
+use Rattle.shape.specs.Walks.{starts_after, starts, Walked, laid_list, LaysPart, ends_after, parts_ends, list_ends, Called, Walks, WalksList}
 use Rattle.shape.proofs.Laws.{AtMost, value-most}
 use Rattle.shape.proofs.Listings.{items-none, items-past, items-fault, list_of, list-fault}
 
@@ -43,133 +45,116 @@ module _ (one : ℕ → Scan) (count at slot : ℕ) (found : List ℕ) where
   walked-fault f i a x q p = record { scan = items-fault one count at f i a x q p; laid = rw (starts_more x, ← q, p) }
 
 -- and what they lay into the ends
-module _ (version : ℕ) (part : Part) (count : ℕ) (nums : List ℕ) (at : ℕ) (found : List ℕ) where
-  pub ends-none : count ≡ 0 → LaysParts version part count nums at found found (Past at)
+module _ (one : ℕ → Scan) (lay : ℕ → List ℕ → List ℕ) (count at : ℕ) (found : List ℕ) where
+  pub ends-none : count ≡ 0 → parts_ends one lay count at found found
   unfolding parts_ends
-  ends-none e = record { laid = rw e refl }
+  ends-none e = rw e refl
 
-  pub ends-past : (n : ℕ) (mid filled : List ℕ) (a r : Scan) → (count ≡ 0 → ⊥)
-      → LaysPart version part nums at found mid a
-      → a ≡ Past n → LaysParts version part (count - 1) nums n mid filled r
-      → LaysParts version part count nums at found filled r
+  pub ends-past : (n : ℕ) (mid filled : List ℕ) → (count ≡ 0 → ⊥) → LaysPart one lay at found mid (Past n)
+      → parts_ends one lay (count - 1) n mid filled
+      → parts_ends one lay count at found filled
   unfolding parts_ends ends_after
-  ends-past n mid filled a r x w p v = record { laid = go count x v.laid }
+  ends-past n mid filled x w v = go count x v
     where
-      go : (k : ℕ) → (k ≡ 0 → ⊥)
-          → parts_ends (part_scan version part nums) (part_ends version part nums) (k - 1) n mid filled
-          → parts_ends (part_scan version part nums) (part_ends version part nums) k at found filled
+      go : (k : ℕ) → (k ≡ 0 → ⊥) → parts_ends one lay (k - 1) n mid filled → parts_ends one lay k at found filled
       go zero y u = absurd (y refl)
-      go (suc k) y u = rw (← w.scan, p) (mid, w.laid, rw (sub-one (suc k)) at u)
+      go (suc k) y u = rw (← w.scan, ← w.laid) (rw (sub-one (suc k)) at u)
 
-  pub ends-fault : (f i : ℕ) (filled : List ℕ) (a : Scan) → (count ≡ 0 → ⊥)
-      → LaysPart version part nums at found filled a → a ≡ Fault f i
-      → LaysParts version part count nums at found filled (Fault f i)
+  pub ends-fault : (f i : ℕ) (mid filled : List ℕ) → (count ≡ 0 → ⊥) → LaysPart one lay at found mid (Fault f i)
+      → parts_ends one lay count at found filled
   unfolding parts_ends ends_after
-  ends-fault f i filled a x w p = record { laid = go count x }
+  ends-fault f i mid filled x w = go count x
     where
-      go : (k : ℕ) → (k ≡ 0 → ⊥)
-          → parts_ends (part_scan version part nums) (part_ends version part nums) k at found filled
+      go : (k : ℕ) → (k ≡ 0 → ⊥) → parts_ends one lay k at found filled
       go zero y = absurd (y refl)
-      go (suc k) y = rw (← w.scan, p) tt
+      go (suc k) y = rw (← w.scan) tt
 
--- so many parts, each with its slot, up to one's: what the rest walks, all walk
-pub record Walking (one : ℕ → Scan) (count at slot : ℕ) (found : List ℕ) (entry next : ℕ) (now : List ℕ) : Type 0
-  where
-    pub rest : (last : List ℕ) (r : Scan) → Walked one (slot + count - entry) next entry now last r
-        → Walked one count at slot found last r
+-- so many parts by what is called for each
+module _ (post : Called) (count at slot : ℕ) (found : List ℕ) where
+  pub walks-none : (ends : List ℕ) → count ≡ 0 → Walks post count at slot found found ends ends (Past at)
+  walks-none ends e = record {
+    walked = λ one lay t. walked_none one count at slot found e;
+    laid = λ one lay t. ends-none one lay count at ends e;
+  }
 
-pub walking-first : (one : ℕ → Scan) (count at slot : ℕ) (found : List ℕ) → Walking one count at slot found slot at found
-walking-first one count at slot found =
-    let e : slot + count - slot ≡ count = omega arith in
-    record { rest = λ last r w. rw e at w }
-
-module _ (one : ℕ → Scan) (count at slot : ℕ) (found : List ℕ) (entry next : ℕ) (now : List ℕ)
-    (w : Walking one count at slot found entry next now) where
-  pub walking-none : slot + count ≤ entry → Walked one count at slot found now (Past next)
-  walking-none h = w.rest now (Past next) (walked_none one (slot + count - entry) next entry now (omega arith))
-
-  module _ (h : entry < slot + count) where
-    pub walking-past : (n : ℕ) (a : Scan) → a ≡ one next → a ≡ Past n
-        → Walking one count at slot found (entry + 1) n (set now entry next)
-    walking-past n a q p = record {
-      rest = λ last r u.
-          let e : slot + count - (entry + 1) ≡ slot + count - entry - 1 = omega arith in
-          w.rest last r
-          (walked-past one (slot + count - entry) next entry now n a r last (λ z. omega arith) q p (rw e at u));
+  module _ (ends ends' : MutBor (List ℕ)) (x : count ≡ 0 → ⊥) where
+    pub walks-past : (n : ℕ) (filled last : List ℕ) (r : Scan) → post at ends (Ok n) ends'
+        → Walks post (count - 1) n (slot + 1) (set found slot at) filled ends'.now last r
+        → Walks post count at slot found filled ends.now last r
+    walks-past n filled last r p w = record {
+      walked = λ one lay t.
+          walked-past one count at slot found n (Past n) r filled x (t.tells at ends ends' (Ok n) p).scan refl
+          (w.walked one lay t);
+      laid = λ one lay t.
+          ends-past one lay count at ends.now n ends'.now last x (t.tells at ends ends' (Ok n) p) (w.laid one lay t);
     }
 
-    pub walking-fault : (f i : ℕ) (a : Scan) → a ≡ one next → a ≡ Fault f i
-        → Walked one count at slot found (set now entry next) (Fault f i)
-    walking-fault f i a q p = w.rest (set now entry next) (Fault f i)
-        (walked-fault one (slot + count - entry) next entry now f i a (λ z. omega arith) q p)
+    pub walks-fault : (f : rules.Fault) → post at ends (Err f) ends'
+        → Walks post count at slot found (set found slot at) ends.now ends'.now (told (Err f))
+    walks-fault f p = record {
+      walked = λ one lay t.
+          walked-fault one count at slot found (number_of f.reason) f.index (told (Err f)) x
+          (t.tells at ends ends' (Err f) p).scan refl;
+      laid = λ one lay t.
+          ends-fault one lay count at ends.now (number_of f.reason) f.index ends'.now ends'.now x
+          (t.tells at ends ends' (Err f) p);
+    }
 
-pub record Laying (version : ℕ) (part : Part) (count slot : ℕ) (nums : List ℕ) (at : ℕ) (found : List ℕ)
-    (entry next : ℕ) (now : List ℕ) : Type 0 where
-  pub rest : (last : List ℕ) (r : Scan) → LaysParts version part (slot + count - entry) nums next now last r
-      → LaysParts version part count nums at found last r
+-- so many parts, each with its slot, up to one's: what the rest walks, all walk
+pub record Walking (post : Called) (count at slot : ℕ) (found ends : List ℕ) (entry next : ℕ) (now now_ends : List ℕ)
+    : Type 0 where
+  pub rest : (last last_ends : List ℕ) (r : Scan)
+      → Walks post (slot + count - entry) next entry now last now_ends last_ends r
+      → Walks post count at slot found last ends last_ends r
 
-module _ (version : ℕ) (part : Part) (count slot : ℕ) (nums : List ℕ) (at : ℕ) (found : List ℕ) where
-  pub laying-first : Laying version part count slot nums at found slot at found
-  laying-first =
-      let e : slot + count - slot ≡ count = omega arith in
-      record { rest = λ last r w. rw e at w }
+module _ {post : Called} {count at slot : ℕ} {found ends : List ℕ} {entry next : ℕ} {now : List ℕ} where
+  pub walking-none : {now_ends : List ℕ} → Walking post count at slot found ends entry next now now_ends
+      → slot + count ≤ entry → Walks post count at slot found now ends now_ends (Past next)
+  walking-none {now_ends} w h =
+      w.rest now now_ends (Past next) (walks-none post (slot + count - entry) next entry now now_ends (omega arith))
 
-  module _ (entry next : ℕ) (now : List ℕ) (w : Laying version part count slot nums at found entry next now) where
-    pub laying-none : slot + count ≤ entry → LaysParts version part count nums at found now (Past next)
-    laying-none h =
-        w.rest now (Past next) (ends-none version part (slot + count - entry) nums next now (omega arith))
+  module _ {lent lent' : MutBor (List ℕ)} (w : Walking post count at slot found ends entry next now lent.now)
+      (h : entry < slot + count) where
+    pub walking-past : {n : ℕ} → post next lent (Ok n) lent'
+        → Walking post count at slot found ends (entry + 1) n (set now entry next) lent'.now
+    walking-past {n} p = record {
+      rest = λ last last_ends r u.
+          let e : slot + count - (entry + 1) ≡ slot + count - entry - 1 = omega arith in
+          w.rest last last_ends r
+          (walks-past post (slot + count - entry) next entry now lent lent' (λ z. omega arith) n last last_ends r p
+          (rw e at u));
+    }
 
-    module _ (mid : List ℕ) (a : Scan) (h : entry < slot + count) (v : LaysPart version part nums next now mid a) where
-      pub laying-past : (n : ℕ) → a ≡ Past n → Laying version part count slot nums at found (entry + 1) n mid
-      laying-past n p = record {
-        rest = λ last r u.
-            let e : slot + count - (entry + 1) ≡ slot + count - entry - 1 = omega arith in
-            w.rest last r
-            (ends-past version part (slot + count - entry) nums next now n mid last a r (λ z. omega arith) v p
-            (rw e at u));
-      }
-
-      pub laying-fault : (f i : ℕ) → a ≡ Fault f i → LaysParts version part count nums at found mid (Fault f i)
-      laying-fault f i p =
-          w.rest mid (Fault f i)
-          (ends-fault version part (slot + count - entry) nums next now f i mid a (λ z. omega arith) v p)
-
-pub ruleset walks = (
-  walking-first,
-  walking-none,
-  walking-past,
-  walking-fault,
-  laying-first,
-  laying-none,
-  laying-past,
-  laying-fault,
-)
+    pub walking-fault : {f : rules.Fault} → post next lent (Err f) lent'
+        → Walks post count at slot found (set now entry next) ends lent'.now (told (Err f))
+    walking-fault {f} p =
+        w.rest (set now entry next) lent'.now (told (Err f))
+        (walks-fault post (slot + count - entry) next entry now lent lent' (λ z. omega arith) f p)
 
 -- a list of parts
-module _ (one : ℕ → Scan) (least most : ℕ) (nums : List ℕ) (at slot : ℕ) (found : List ℕ) (v : Value)
-    (q : v ≡ value_of least most nums at) where
-  pub list-walked : (n next : ℕ) (r : Scan) (filled : List ℕ) → v ≡ Of n next
-      → Walked one n next (slot + 1) (set found slot n) filled r
-      → WalkedList one least most nums at slot found filled r
-  unfolding laid_list
-  list-walked n next r filled p w = record
-      { scan = list_of one least most nums at v q n next r p w.scan; laid = w.laid ∙ rw (← q, p, add-one slot) }
+module _ (post : Called) (least most : ℕ) (nums : List ℕ) (at slot : ℕ) (found ends : List ℕ) where
+  pub list-walked : (n next : ℕ) (r : Scan) (filled ends' : List ℕ) → Of n next ≡ value_of least most nums at
+      → Walks post n next (slot + 1) (set found slot n) filled ends ends' r
+      → WalksList post least most nums at slot found filled ends ends' r
+  unfolding laid_list list_ends
+  list-walked n next r filled ends' q w = record {
+    walked = λ one lay t. record {
+      scan = list_of one least most nums at (Of n next) q n next r refl (w.walked one lay t).scan;
+      laid = (w.walked one lay t).laid ∙ rw (← q, add-one slot);
+    };
+    laid = λ one lay t. rw (← q) (w.laid one lay t);
+  }
 
-  pub list-unwalked : (f i : ℕ) → v ≡ Unread f i → WalkedList one least most nums at slot found found (Fault f i)
-  unfolding laid_list
-  list-unwalked f i p = record { scan = list-fault one least most nums at v q f i p; laid = rw (← q, p) }
-
-module _ (version : ℕ) (part : Part) (least most : ℕ) (nums : List ℕ) (at : ℕ) (found : List ℕ) (v : Value)
-    (q : v ≡ value_of least most nums at) where
-  pub list-ends : (n next : ℕ) (filled : List ℕ) (r : Scan) → v ≡ Of n next
-      → LaysParts version part n nums next found filled r
-      → LaysList version part least most nums at found filled r
-  unfolding list_ends
-  list-ends n next filled r p w = record { laid = rw (← q, p) w.laid }
-
-  pub list-no-ends : (f i : ℕ) → v ≡ Unread f i → LaysList version part least most nums at found found (Fault f i)
-  unfolding list_ends
-  list-no-ends f i p = record { laid = rw (← q, p) tt }
+  pub list-unwalked : (f i : ℕ) → Unread f i ≡ value_of least most nums at
+      → WalksList post least most nums at slot found found ends ends (Fault f i)
+  unfolding laid_list list_ends
+  list-unwalked f i q = record {
+    walked = λ one lay t. record {
+      scan = list-fault one least most nums at (Unread f i) q f i refl;
+      laid = rw (← q);
+    };
+    laid = λ one lay t. rw (← q) tt;
+  }
 
 pub list-room : (least most : ℕ) (nums : List ℕ) (at slot n next : ℕ) → Of n next ≡ value_of least most nums at
     → slot + most < slot_count
@@ -177,7 +162,7 @@ pub list-room : (least most : ℕ) (nums : List ℕ) (at slot n next : ℕ) → 
 unfolding AtMost
 list-room least most nums at slot n next q h = omega (arith, rw (← q) at (value-most least most nums at))
 
-pub ruleset list_walks = (list-walked, list-unwalked, list-ends, list-no-ends, list-room)
+pub ruleset list_walks = (list-walked, list-unwalked, list-room)
 
 pub scan-got : {A : Type 0} (read : Reader A) (nums : List ℕ) (at n : ℕ) (a : A) (left : List ℕ)
     → read (drop at nums) at ≡ got a left n

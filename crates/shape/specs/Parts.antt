@@ -5,13 +5,11 @@ use Rattle.std.proofs.Math.ListN.{get_elem?}
 use Rattle.rules.specs.Syntax.{Ty, Parameter, Key, Numeral, Pair, Expr}
 use Rattle.rules.specs.Reading.{most_parameters, most_locals, most_keys, most_actions, most_arguments, most_pairs, deepest}
 use Rattle.rules.specs.Reading.{Reader, ◌>>=◌, pure, here, stands_for, list_of, callable_kinds, type_of}
-use Rattle.rules.specs.Reading.{read_expr, read_header, read_global, read_parameter, read_returns, read_callable, read_numeral, read_key, read_table, read_pair, read_state}
+use Rattle.rules.specs.Reading.{read_expr, read_parameter, read_returns, read_numeral, read_key, read_pair}
 use Rattle.rules.specs.declared.Fault as rules
-use Rattle.shape.specs.Scans.{told, scan_of, Scan, Past}
+use Rattle.shape.specs.Scans.{told, Scan, Past}
 use Rattle.shape.specs.Ends.{lay_expr, first_at, lay_all, key_at, lay_key, numeral_at, pair_at}
 use Rattle.shape.specs.Leads.{on_scan, value_of, on_value}
-use Rattle.shape.specs.declared.program.Part.{Part}
-use Rattle.shape.specs.declared.program.Part.TheVariants.{HeaderPart, GlobalPart, CallablePart, TablePart, StatePart}
 
 -- so many of a kind, and a list of them
 unfoldable pub repeat_scan : (ℕ → Scan) → ℕ → ℕ → Scan
@@ -68,11 +66,3 @@ read_select version =
 
 unfoldable pub lay_select : Expr × List Pair → ℕ → List ℕ → List ℕ
 lay_select p end slots = lay_expr p.0 (first_at pair_at p.1 end - 1) slots
-
--- what the directory tells the beginnings of
-unfoldable pub part_scan : ℕ → Part → List ℕ → ℕ → Scan
-part_scan version HeaderPart = scan_of (read_header version)
-part_scan version GlobalPart = scan_of (read_global version)
-part_scan version CallablePart = scan_of (read_callable version)
-part_scan version TablePart = scan_of (read_table version)
-part_scan version StatePart = scan_of (read_state version)

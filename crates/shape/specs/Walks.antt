@@ -1,16 +1,16 @@
 -- How the directory is filled: the parts of a program are scanned one after the other, and where each begins is laid
 -- into the slots. What the functions below the public ones promise one another.
-use Rattle.std.specs.Prelude.{◌≡◌, List, [], ◌∷◌, ℕ, zero, suc, ◌-◌, drop}
+use Rattle.std.proofs.Common.{MutBor}
+use Rattle.std.specs.Prelude.{◌≡◌, Result, List, [], ◌∷◌, ℕ, zero, suc, ◌-◌, drop}
 use Rattle.std.proofs.lemmas.List.Edits.{sets}
 use Rattle.rules.specs.Syntax.{HeaderTy, Global, Callable, Table, ParserState}
 use Rattle.rules.specs.Syntax.{Stmt}
 use Rattle.rules.specs.Reading.{Got, got, bad, Reader, ◌>>=◌, pure, list_of, deepest, most_headers, most_globals, most_callables, most_tables}
-use Rattle.rules.specs.Reading.{read_stmt, read_header, read_global, read_callable, read_table, read_state, read_states}
-use Rattle.shape.specs.Scans.{scan_of, Scan, Past, Fault}
+use Rattle.rules.specs.Reading.{read_stmt, read_header, read_global, read_callable, read_table, read_states}
+use Rattle.rules.specs.declared.Fault as rules
+use Rattle.shape.specs.Scans.{told, scan_of, Scan, Past, Fault}
 use Rattle.shape.specs.Leads.{value_of, Value, Of, Unread}
-use Rattle.shape.specs.Parts.{repeat_scan, list_scan, part_scan}
-use Rattle.shape.specs.declared.program.Part.{Part}
-use Rattle.shape.specs.declared.program.Part.TheVariants.{HeaderPart, GlobalPart, CallablePart, TablePart, StatePart}
+use Rattle.shape.specs.Parts.{repeat_scan, list_scan}
 use Rattle.shape.specs.Directory.{stmt_at, declared, defined, stated, body_slot}
 use Rattle.shape.specs.Ends.{lay_stmt, first_at, lay_all, callable_at, lay_callable, table_at, lay_table, state_at, lay_state}
 
@@ -78,46 +78,58 @@ read_blocks version = read_states version >>= λ states. read_stmt version deepe
 unfoldable pub lay_blocks : List ParserState × Stmt → ℕ → List ℕ → List ℕ
 lay_blocks p end slots = lay_body p.1 end (lay_states p.0 (stmt_at p.1) slots)
 
--- what a part lays into the ends: header types and globals nothing
+-- header types and globals lay nothing into the ends
 unfoldable pub no_ends : {A : Type 0} → A → ℕ → List ℕ → List ℕ
 no_ends a end slots = slots
 
-unfoldable pub part_ends : ℕ → Part → List ℕ → ℕ → List ℕ → List ℕ → Type 0
-part_ends version HeaderPart nums at found filled = Laid (read_header version (drop at nums) at) no_ends found filled
-part_ends version GlobalPart nums at found filled = Laid (read_global version (drop at nums) at) no_ends found filled
-part_ends version CallablePart nums at found filled =
-    Laid (read_callable version (drop at nums) at) lay_callable found filled
-part_ends version TablePart nums at found filled = Laid (read_table version (drop at nums) at) lay_table found filled
-part_ends version StatePart nums at found filled = Laid (read_state version (drop at nums) at) lay_state found filled
+-- the slots that a reader's tree fills where it reads
+unfoldable pub laid_got : {A : Type 0} → Got A → (A → ℕ → List ℕ → List ℕ) → List ℕ → List ℕ
+laid_got (got a left next) lay slots = lay a next slots
+laid_got (bad number index) lay slots = slots
 
-pub record LaysPart (version : ℕ) (part : Part) (nums : List ℕ) (at : ℕ) (found filled : List ℕ)
-    (r : Scan) : Type 0 where
-  pub scan : r ≡ part_scan version part nums at
-  pub laid : part_ends version part nums at found filled
+unfoldable pub laid_by : {A : Type 0} → Reader A → (A → ℕ → List ℕ → List ℕ) → List ℕ → ℕ → List ℕ → List ℕ
+laid_by read lay nums at slots = laid_got (read (drop at nums) at) lay slots
 
--- so many parts, one after the other
+-- a part, with the ends that it lays where it reads
 unfoldable pub ends_after : Scan → (ℕ → Type 0) → Type 0
 ends_after (Past next) k = k next
 ends_after (Fault number index) k = Unit
 
-unfoldable pub parts_ends : (ℕ → Scan) → (ℕ → List ℕ → List ℕ → Type 0) → ℕ → ℕ → List ℕ → List ℕ → Type 0
-parts_ends one laid zero at found filled = filled ≡ found
-parts_ends one laid (suc count) at found filled =
-    ends_after (one at) (λ next. (mid : List ℕ) × laid at found mid × parts_ends one laid count next mid filled)
+pub record LaysPart (one : ℕ → Scan) (lay : ℕ → List ℕ → List ℕ) (at : ℕ) (found filled : List ℕ) (r : Scan) : Type 0
+  where
+    pub scan : r ≡ one at
+    pub laid : ends_after r (λ next. filled ≡ lay at found)
 
-pub record LaysParts (version : ℕ) (part : Part) (count : ℕ) (nums : List ℕ) (at : ℕ) (found filled : List ℕ)
-    (r : Scan) : Type 0 where
-  pub laid : parts_ends (part_scan version part nums) (part_ends version part nums) count at found filled
+-- so many parts, one after the other, and a list of them: its count, then the parts
+unfoldable pub parts_ends : (ℕ → Scan) → (ℕ → List ℕ → List ℕ) → ℕ → ℕ → List ℕ → List ℕ → Type 0
+parts_ends one lay zero at found filled = filled ≡ found
+parts_ends one lay (suc count) at found filled =
+    ends_after (one at) (λ next. parts_ends one lay count next (lay at found) filled)
 
--- a list of parts: its count, then the parts
-unfoldable pub list_ends : ℕ → Part → List ℕ → Value → List ℕ → List ℕ → Type 0
-list_ends version part nums (Of count next) found filled =
-    parts_ends (part_scan version part nums) (part_ends version part nums) count next found filled
-list_ends version part nums (Unread number index) found filled = Unit
+unfoldable pub list_ends : (ℕ → Scan) → (ℕ → List ℕ → List ℕ) → Value → List ℕ → List ℕ → Type 0
+list_ends one lay (Of count next) found filled = parts_ends one lay count next found filled
+list_ends one lay (Unread number index) found filled = Unit
 
-pub record LaysList (version : ℕ) (part : Part) (least most : ℕ) (nums : List ℕ) (at : ℕ) (found filled : List ℕ)
-    (r : Scan) : Type 0 where
-  pub laid : list_ends version part nums (value_of least most nums at) found filled
+-- what is called for each part tells what a scan finds and lays its ends: so many parts, and a list of them
+abbrev pub Called : Type 1
+Called = ℕ → MutBor (List ℕ) → Result ℕ rules.Fault → MutBor (List ℕ) → Type 0
+
+pub record TellsPart (post : Called) (one : ℕ → Scan) (lay : ℕ → List ℕ → List ℕ) : Type 0 where
+  pub tells : (at : ℕ) (ends ends' : MutBor (List ℕ)) (r : Result ℕ rules.Fault) → post at ends r ends'
+      → LaysPart one lay at ends.now ends'.now (told r)
+
+pub record Walks (post : Called) (count at slot : ℕ) (found filled ends ends' : List ℕ) (r : Scan) : Type 0 where
+  pub walked : (one : ℕ → Scan) (lay : ℕ → List ℕ → List ℕ) → TellsPart post one lay
+      → Walked one count at slot found filled r
+  pub laid : (one : ℕ → Scan) (lay : ℕ → List ℕ → List ℕ) → TellsPart post one lay
+      → parts_ends one lay count at ends ends'
+
+pub record WalksList (post : Called) (least most : ℕ) (nums : List ℕ) (at slot : ℕ)
+    (found filled ends ends' : List ℕ) (r : Scan) : Type 0 where
+  pub walked : (one : ℕ → Scan) (lay : ℕ → List ℕ → List ℕ) → TellsPart post one lay
+      → WalkedList one least most nums at slot found filled r
+  pub laid : (one : ℕ → Scan) (lay : ℕ → List ℕ → List ℕ) → TellsPart post one lay
+      → list_ends one lay (value_of least most nums at) ends ends'
 
 -- the callables, which end at the count of the tables, and the tables
 unfoldable pub ends_defined : List Callable × List Table → ℕ → List ℕ → List ℕ

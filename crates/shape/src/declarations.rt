@@ -19,9 +19,10 @@ pub(crate) fn header_at(nums: &[u64], version: u64, at: usize) -> Scanned
 pub(crate) fn global_at(nums: &[u64], version: u64, at: usize) -> Scanned
     ensures { told result ≡ scan_of (read_global version) nums.now at }
 {
-    let value = number_in(nums, 0, WIDEST, at);
-    match value {
-        Ok(next) => Ok(next),
-        Err(_) => number_in(nums, FIRST_HEADER_TYPE, LAST_HEADER_TYPE, at),
-    }
+    number_in(nums, 0, WIDEST, at).or_else(|_| number_in(
+        nums,
+        FIRST_HEADER_TYPE,
+        LAST_HEADER_TYPE,
+        at,
+    ))
 }

@@ -1,9 +1,8 @@
 // A program: its version, its parts one after the other, and where each of them begins.
 ghost use Rattle.std.specs.Prelude.{◌+◌, ◌<◌, ◌≤◌, length};
 ghost use Rattle.rules.specs.Reading.{deepest, read_stmt, read_states, read_after_version, read_program};
-ghost use Rattle.shape.specs.Walks.{Walked, WalkedList, Lays, read_declared, lay_declared, read_defined, lay_defined, lay_states, lay_body, read_blocks, lay_blocks, LaysPart, LaysParts, LaysList, no_ends, ends_defined, ends_blocks};
+ghost use Rattle.shape.specs.Walks.{Lays, read_declared, lay_declared, read_defined, lay_defined, lay_states, lay_body, read_blocks, lay_blocks, Walks, WalksList, no_ends, ends_defined, ends_blocks};
 ghost use Rattle.shape.specs.Directory.{directory_of, slot_count};
-ghost use Rattle.shape.specs.Parts.{part_scan};
 ghost use Rattle.shape.specs.Ends.{most_numbers, lay_stmt, lay_all, state_at, lay_state, ends_of};
 ghost use Rattle.shape.specs.Scans.{told};
 
@@ -19,72 +18,45 @@ use super::states::state_at;
 use super::tables::table_at;
 use super::{BODY, CALLABLES, END, GLOBALS, HEADERS, NUMBERS, SLOTS, STATES, Scanned, TABLES};
 
-// A part of a program that the directory tells the beginning of.
-#[derive(Clone, Copy)]
-enum Part {
-    HeaderPart,
-    GlobalPart,
-    CallablePart,
-    TablePart,
-    StatePart,
-}
-
-// The end of the part at `at`.
-fn part_at(nums: &[u64], version: u64, part: Part, at: usize, ends: &mut [u64; NUMBERS]) -> Scanned
-    requires { length nums.now ≤ most_numbers }
-    ensures { LaysPart version part nums.now at ends.old ends.new (told result) }
-{
-    match part {
-        Part::HeaderPart => header_at(nums, version, at),
-        Part::GlobalPart => global_at(nums, version, at),
-        Part::CallablePart => callable_at(nums, version, at, ends),
-        Part::TablePart => table_at(nums, version, at, ends),
-        Part::StatePart => state_at(nums, version, at, ends),
-    }
-}
-
 // The end of so many parts, one after the other. Where each begins goes into the directory, from `slot` on.
-fn parts_at(
-    nums: &[u64],
-    version: u64,
-    part: Part,
+fn parts_at<F: Fn(usize, &mut [u64; NUMBERS]) -> Scanned>(
     count: u64,
     at: usize,
     slot: usize,
     directory: &mut [u64; SLOTS],
     ends: &mut [u64; NUMBERS],
+    part: F,
 ) -> Scanned
-    requires { (slot + count ≤ slot_count) × (length nums.now ≤ most_numbers) }
-    ensures walked { Walked (part_scan version part nums.now) count at slot directory.old directory.new (told result) }
-    ensures lays_parts { LaysParts version part count nums.now at ends.old ends.new (told result) }
+    requires room { slot + count ≤ slot_count }
+    requires callable { F.IsAlwaysCallable part }
+    ensures { Walks (F.post part) count at slot directory.old directory.new ends.old ends.new (told result) }
 {
     let mut next = at;
     for entry in slot..slot + count as usize {
         directory[entry] = next as u64;
-        next = part_at(nums, version, part, next, ends)?;
+        next = part(next, ends)?;
     }
     Ok(next)
 }
 
 // The end of a list of `least` to `most` parts. Its count and where each begins go into the directory, from `slot` on.
-fn part_list_at(
+fn part_list_at<F: Fn(usize, &mut [u64; NUMBERS]) -> Scanned>(
     nums: &[u64],
-    version: u64,
-    part: Part,
     least: u64,
     most: u64,
     at: usize,
     slot: usize,
     directory: &mut [u64; SLOTS],
     ends: &mut [u64; NUMBERS],
+    part: F,
 ) -> Scanned
-    requires { (slot + most < slot_count) × (length nums.now ≤ most_numbers) }
-    ensures walked_list { WalkedList (part_scan version part nums.now) least most nums.now at slot directory.old directory.new (told result) }
-    ensures lays_list { LaysList version part least most nums.now at ends.old ends.new (told result) }
+    requires room { slot + most < slot_count }
+    requires callable { F.IsAlwaysCallable part }
+    ensures { WalksList (F.post part) least most nums.now at slot directory.old directory.new ends.old ends.new (told result) }
 {
     let Number { value, next } = value_in(nums, least, most, at)?;
     directory[slot] = value;
-    parts_at(nums, version, part, value, next, slot + 1, directory, ends)
+    parts_at(value, next, slot + 1, directory, ends, part)
 }
 
 // The header types and the globals.
@@ -101,25 +73,23 @@ fn declared_at(
 {
     let next = part_list_at(
         nums,
-        version,
-        Part::HeaderPart,
         0,
         MOST_HEADERS,
         at,
         HEADERS,
         directory,
         ends,
+        |at, _| header_at(nums, version, at),
     )?;
     part_list_at(
         nums,
-        version,
-        Part::GlobalPart,
         0,
         MOST_GLOBALS,
         next,
         GLOBALS,
         directory,
         ends,
+        |at, _| global_at(nums, version, at),
     )
 }
 
@@ -137,25 +107,23 @@ fn defined_at(
 {
     let next = part_list_at(
         nums,
-        version,
-        Part::CallablePart,
         0,
         MOST_CALLABLES,
         at,
         CALLABLES,
         directory,
         ends,
+        |at, ends| callable_at(nums, version, at, ends),
     )?;
     part_list_at(
         nums,
-        version,
-        Part::TablePart,
         0,
         MOST_TABLES,
         next,
         TABLES,
         directory,
         ends,
+        |at, ends| table_at(nums, version, at, ends),
     )
 }
 
@@ -174,14 +142,13 @@ fn states_at(
     if has_parser(version) {
         part_list_at(
             nums,
-            version,
-            Part::StatePart,
             1,
             MOST_STATES,
             at,
             STATES,
             directory,
             ends,
+            |at, ends| state_at(nums, version, at, ends),
         )
     } else {
         directory[STATES] = 0;

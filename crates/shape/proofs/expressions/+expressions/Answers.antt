@@ -12,10 +12,10 @@ pub scan_expr-returns-in_err-end : goal.scan_expr-returns-in_err-end
 scan_expr-returns-in_err-end t c = let p = err_from_is_err_and c.from_residual-in_err-end.result c.from_residual-in_err-end.ensures.1 in rw (p.1, p.2) (search (expr_steps, c.in_ok-next.ensures, c.in_err-end.ensures, rules))
 
 pub scan_expr-offset_bounds-ends-at : goal.scan_expr-offset_bounds-ends-at
-scan_expr-offset_bounds-ends-at t c = search (expr_steps, c.in_ok-next.ensures, c.in_ok-end.ensures, rules)
+scan_expr-offset_bounds-ends-at t c = search (expr_steps, c.in_ok-next.ensures, rules)
 
 pub scan_expr-bounds-ends-at : goal.scan_expr-bounds-ends-at
-scan_expr-bounds-ends-at t c = search (expr_steps, c.in_ok-next.ensures, c.in_ok-end.ensures, rules)
+scan_expr-bounds-ends-at t c = search (expr_steps, c.in_ok-next.ensures, rules)
 
 pub scan_expr-returns-then-depth-eq0 : goal.scan_expr-returns-then-depth-eq0
 scan_expr-returns-then-depth-eq0 t c = search (expr_steps, rules)

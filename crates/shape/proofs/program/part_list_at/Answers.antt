@@ -4,17 +4,11 @@ use Rattle.shape.proofs.Walking.{list_walks}
 use borrow.Author.Rules.{rules}
 use Rattle.shape.proofs.program.part_list_at.Goals as goal
 
-pub returns-in_err-value-clause-walked_list : goal.returns-in_err-value-clause-walked_list
-returns-in_err-value-clause-walked_list c = let p = err_from_is_err_and c.from_residual.result c.from_residual.ensures.1 in rw (p.1, p.2) (search (list_walks, c.in_err-value.ensures, rules))
+pub returns-in_err-value : goal.returns-in_err-value
+returns-in_err-value g c = let p = err_from_is_err_and c.from_residual.result c.from_residual.ensures.1 in rw (p.1, p.2) (search (list_walks, c.in_err-value.ensures, rules))
 
-pub returns-in_err-value-clause-lays_list : goal.returns-in_err-value-clause-lays_list
-returns-in_err-value-clause-lays_list c = let p = err_from_is_err_and c.from_residual.result c.from_residual.ensures.1 in rw (p.1, p.2) (search (list_walks, c.in_err-value.ensures, rules))
+pub parts_at-requires-clause-room : goal.parts_at-requires-clause-room
+parts_at-requires-clause-room g c = search (list_walks, c.in_ok-value.ensures, rules)
 
-pub parts_at-requires : goal.parts_at-requires
-parts_at-requires c = search (list_walks, c.in_ok-value.ensures, rules)
-
-pub returns-clause-walked_list : goal.returns-clause-walked_list
-returns-clause-walked_list c = search (list_walks, c.in_ok-value.ensures, rules)
-
-pub returns-clause-lays_list : goal.returns-clause-lays_list
-returns-clause-lays_list c = search (list_walks, c.in_ok-value.ensures, rules)
+pub returns : goal.returns
+returns g c = search (list_walks, c.in_ok-value.ensures, rules)

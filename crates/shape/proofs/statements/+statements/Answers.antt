@@ -15,10 +15,10 @@ pub scan_stmt-returns-in_err-end : goal.scan_stmt-returns-in_err-end
 scan_stmt-returns-in_err-end t c = let p = err_from_is_err_and c.from_residual-in_err-end.result c.from_residual-in_err-end.ensures.1 in rw (p.1, p.2) (search (stmt_steps, c.in_ok-next.ensures, c.in_ok-after.ensures, c.in_err-end.ensures, rules))
 
 pub scan_stmt-offset_bounds-ends-at : goal.scan_stmt-offset_bounds-ends-at
-scan_stmt-offset_bounds-ends-at t c = search (stmt_steps, c.in_ok-next.ensures, c.in_ok-after.ensures, c.in_ok-end.ensures, rules)
+scan_stmt-offset_bounds-ends-at t c = search (stmt_steps, c.in_ok-next.ensures, rules)
 
 pub scan_stmt-bounds-ends-at : goal.scan_stmt-bounds-ends-at
-scan_stmt-bounds-ends-at t c = search (stmt_steps, c.in_ok-next.ensures, c.in_ok-after.ensures, c.in_ok-end.ensures, rules)
+scan_stmt-bounds-ends-at t c = search (stmt_steps, c.in_ok-next.ensures, rules)
 
 pub scan_stmt-returns-then-depth-eq0 : goal.scan_stmt-returns-then-depth-eq0
 scan_stmt-returns-then-depth-eq0 t c = search (stmt_steps, rules)
