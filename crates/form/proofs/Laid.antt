@@ -6,6 +6,7 @@ use Prim.Native.Nat.{ℕ, zero, suc, ◌+◌, ◌*◌, ◌≤◌, ◌<◌}
 use native.Mathlib.Omega.{arith}
 use lib.ListN.{length, get_or, get_elem?, set}
 use lib.Seq.{sets, length-sets, get_or-set_same, get_or-set_other}
+use Rattle.std.specs.Prelude.{Ok}
 use Rattle.rules.specs.Words.{widest}
 use Rattle.rules.specs.Syntax.{Key, Table, Program}
 use Rattle.rules.specs.Reading.{most_keys, most_tables}
@@ -13,7 +14,6 @@ use Rattle.rules.specs.Form.{ok, apply_scope, judge_expr, judge_program}
 use Rattle.rules.specs.Lists.{key_width}
 use Rattle.program.specs.Stands.{StandsKeys, StandsProgram}
 use Rattle.program.proofs.Found.{member-in}
-use Rattle.form.specs.declared.Formal.TheVariants.{Well}
 use Rattle.program.specs.Keys.{WidthsOf}
 use Rattle.form.specs.Claims.{told_form, key_widths, lay_tables, widths_left, JudgesForm}
 use Rattle.program.proofs.Seen.{apply_slots, apply-scope}
@@ -115,7 +115,7 @@ module _ (nums directory ends : List ℕ) (P : Program) (end : ℕ) (s : StandsP
           key-most _ T.keys (s.tables.member t T e).keys j k q
 
 -- whatever program stands there, the slots tell the widths of its keys
-pub form-laid : (nums directory ends widths widths' : List ℕ) → JudgesForm nums directory ends widths widths' Well
+pub form-laid : (nums directory ends widths widths' : List ℕ) → JudgesForm nums directory ends widths widths' (Ok tt)
     → length widths ≡ most_keys * most_tables
     → (P : Program) (end : ℕ) → StandsProgram nums directory ends P end → WidthsOf P widths'
 unfolding told_form

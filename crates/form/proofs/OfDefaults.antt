@@ -7,15 +7,17 @@ use Prim.Native.Nat.{ℕ, ◌+◌, ◌^◌, ◌<◌}
 use native.Mathlib.Omega.{arith}
 use lib.ListN.{length, get_or, get_elem?}
 use borrow.Author.Tests.{eq-eqb, ne_eqb}
+use Rattle.std.specs.Prelude.{Ok, Err}
+use Rattle.rules.specs.declared.Fault.{Fault}
+use Rattle.rules.specs.declared.Reason.TheVariants as reason
 use Rattle.rules.specs.Syntax.{Callable, Table, Program}
 use Rattle.rules.specs.Form.{◌>>=◌, need, one_lpm}
 use Rattle.program.specs.Stands.{StandsNumeral}
 use Rattle.program.specs.Looks.{Has, Finds, callables_of, FoundHead}
 use Rattle.program.proofs.Found.{member-in}
 use Rattle.program.proofs.Members.{numeral-at}
-use Rattle.form.specs.declared.Formal.{Formal}
-use Rattle.form.specs.declared.Formal.TheVariants.{Well, Ill}
-use Rattle.form.specs.Claims.{told_form}
+use Rattle.bodies.specs.Claims.{refused}
+use Rattle.form.specs.Claims.{Formal, told_form}
 use Rattle.form.specs.Parts.{AsksKinds, JudgesKinds, AsksListed, JudgesListed, AsksLiterals, JudgesLiterals, NamedTable, AsksNamed, JudgesNamed, default_is, kinds_are, behind_keys}
 use Rattle.form.proofs.OfNames.{TableParts, table-parts, NamedAt, named-at}
 use Rattle.form.proofs.Steps.{well-is, ill-is}
@@ -111,7 +113,7 @@ module _ (nums directory ends : List ℕ) (at actions default : ℕ) where
       }
 
       pub default-uncounted : (get_or nums (default + 1) 0 ≡ count → ⊥)
-          → JudgesNamed default_is nums directory ends at actions default (Ill 7 (default + 1))
+          → JudgesNamed default_is nums directory ends at actions default (refused reason.Type (default + 1))
       unfolding default_is told_form need ◌>>=◌
       default-uncounted x = record {
         judged = λ P T cs c h.
@@ -138,39 +140,38 @@ module _ (nums directory ends : List ℕ) (at actions default : ℕ) where
       }
 
   -- the kinds of keys, then the listed actions
-  module _ (a : Formal) (j : JudgesKinds nums ends (at + 1) (get_or nums at 0) false a) where
-    pub kinds-fault : (number index : ℕ) → a ≡ Ill number index
-        → JudgesNamed kinds_are nums directory ends at actions default (Ill number index)
-    unfolding kinds_are told_form ◌>>=◌
-    kinds-fault number index k = record {
-      judged = λ P T cs c h.
-          rw (ill-is a (one_lpm false T.keys) number index (j.judged T.keys (parts P T cs c h).keys) k);
-    }
+  pub kinds-fault : (wrong : Fault) → JudgesKinds nums ends (at + 1) (get_or nums at 0) false (Err wrong)
+      → JudgesNamed kinds_are nums directory ends at actions default (Err wrong)
+  unfolding kinds_are told_form ◌>>=◌
+  kinds-fault wrong j = record {
+    judged = λ P T cs c h. rw (ill-is (one_lpm false T.keys) wrong (j.judged T.keys (parts P T cs c h).keys));
+  }
 
-    pub kinds-judged : (r : Formal) → a ≡ Well → JudgesListed nums directory ends (actions + 1) (get_or nums actions 0) r
-        → JudgesNamed kinds_are nums directory ends at actions default r
-    unfolding kinds_are ◌>>=◌
-    kinds-judged r k l = record {
-      judged = λ P T cs c h.
-          rw (well-is a (one_lpm false T.keys) (j.judged T.keys (parts P T cs c h).keys) k)
-          (l.judged P h.table.end T.actions cs h.table.stands (parts P T cs c h).actions_stand h.names);
-    }
+  pub kinds-judged : (r : Formal) → JudgesKinds nums ends (at + 1) (get_or nums at 0) false (Ok tt)
+      → JudgesListed nums directory ends (actions + 1) (get_or nums actions 0) r
+      → JudgesNamed kinds_are nums directory ends at actions default r
+  unfolding kinds_are ◌>>=◌
+  kinds-judged r j l = record {
+    judged = λ P T cs c h.
+        rw (well-is (one_lpm false T.keys) (j.judged T.keys (parts P T cs c h).keys))
+        (l.judged P h.table.end T.actions cs h.table.stands (parts P T cs c h).actions_stand h.names);
+  }
 
   -- both
-  module _ (a : Formal) (j : JudgesNamed default_is nums directory ends at actions default a) where
-    pub behind-fault : (number index : ℕ) → a ≡ Ill number index
-        → JudgesNamed behind_keys nums directory ends at actions default (Ill number index)
-    unfolding behind_keys told_form ◌>>=◌
-    behind-fault number index k = record {
-      judged = λ P T cs c h. rw (ill-is a (default_is P T cs c) number index (j.judged P T cs c h) k);
-    }
+  pub behind-fault : (wrong : Fault) → JudgesNamed default_is nums directory ends at actions default (Err wrong)
+      → JudgesNamed behind_keys nums directory ends at actions default (Err wrong)
+  unfolding behind_keys told_form ◌>>=◌
+  behind-fault wrong j = record {
+    judged = λ P T cs c h. rw (ill-is (default_is P T cs c) wrong (j.judged P T cs c h));
+  }
 
-    pub behind-judged : (r : Formal) → a ≡ Well → JudgesNamed kinds_are nums directory ends at actions default r
-        → JudgesNamed behind_keys nums directory ends at actions default r
-    unfolding behind_keys ◌>>=◌
-    behind-judged r k l = record {
-      judged = λ P T cs c h. rw (well-is a (default_is P T cs c) (j.judged P T cs c h) k) (l.judged P T cs c h);
-    }
+  pub behind-judged : (r : Formal) → JudgesNamed default_is nums directory ends at actions default (Ok tt)
+      → JudgesNamed kinds_are nums directory ends at actions default r
+      → JudgesNamed behind_keys nums directory ends at actions default r
+  unfolding behind_keys ◌>>=◌
+  behind-judged r j l = record {
+    judged = λ P T cs c h. rw (well-is (default_is P T cs c) (j.judged P T cs c h)) (l.judged P T cs c h);
+  }
 
 pub ruleset defaults = (
   listed-inside,

@@ -11,14 +11,13 @@ use Rattle.rules.specs.Syntax.{GlobalTy, variable, header, Program}
 use Rattle.rules.specs.Form.{ok, ◌>>=◌, named, need, and_look, shape_in, judge_globals}
 use Rattle.rules.proofs.Predicates.{no_member}
 use Rattle.program.specs.Codes.{header_number}
-use Rattle.program.specs.Stands.{StandsProgram, SomeProgram}
-use Rattle.program.specs.Looks.{Has, Finds, globals_of, GlobalNumber, FoundGlobal}
+use Rattle.program.specs.Stands.{StandsProgram}
+use Rattle.program.specs.Looks.{Finds, globals_of, GlobalNumber, FoundGlobal}
 use Rattle.program.proofs.Found.{member-at, global-slot}
-use Rattle.form.specs.declared.Formal.{Formal}
-use Rattle.form.specs.declared.Formal.TheVariants.{Well, Ill}
-use Rattle.form.specs.Parts.{Says, JudgesPart, JudgesParts, global_is, globals_are}
+use Rattle.form.specs.Claims.{Formal}
+use Rattle.form.specs.Parts.{Says, JudgesPart, global_is, globals_are}
 use Rattle.form.proofs.Steps.{forgotten}
-use Rattle.form.proofs.Walking.{Walk, walk-asks, walk-done, walk-next, walk-stop}
+use Rattle.form.proofs.Walking.{Walk}
 
 module _ (nums directory ends : List ℕ) (g : ℕ) where
   -- a variable's number is below all header types', and a header type is there where its number is below their count
@@ -50,28 +49,10 @@ module _ (nums directory ends : List ℕ) (g : ℕ) where
 pub ruleset globals = (global-slot, global-judged)
 
 -- globals one after the other
-globals-walk : Walk globals_of global_is globals_are 9
+pub globals-walk : Walk globals_of global_is globals_are 9
 unfolding globals_of global_is globals_are judge_globals
 globals-walk = record {
   none_left = λ P i. refl;
   next = λ P i x xs. forgotten (named x.at (shape_in P x.ty)) (judge_globals P xs);
   count = λ nums directory ends P end s. s.globals.count;
 }
-
-module _ (nums directory ends : List ℕ) (g : ℕ) where
-  pub globals-ask : SomeProgram nums directory ends → g < get_or directory 9 0 → Has globals_of nums directory ends g
-  globals-ask = walk-asks globals-walk nums directory ends g
-
-  pub globals-done : get_or directory 9 0 ≤ g → JudgesParts globals_of globals_are nums directory ends g Well
-  globals-done = walk-done globals-walk nums directory ends g
-
-  module _ (l : g < get_or directory 9 0) (a : Formal) (j : JudgesPart globals_of global_is nums directory ends g a) where
-    pub globals-next : (b r : Formal) → a ≡ Well → JudgesParts globals_of globals_are nums directory ends (g + 1) b
-        → b ≡ r → JudgesParts globals_of globals_are nums directory ends g r
-    globals-next = walk-next globals-walk nums directory ends g l a j
-
-    pub globals-stop : (number index : ℕ) → a ≡ Ill number index
-        → JudgesParts globals_of globals_are nums directory ends g (Ill number index)
-    globals-stop = walk-stop globals-walk nums directory ends g l a j
-
-pub ruleset walked = (globals-ask, globals-done, globals-next, globals-stop)

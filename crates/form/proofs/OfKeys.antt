@@ -6,6 +6,10 @@ use native.Mathlib.Omega.{arith}
 use native.Mathlib.Numerals.{add-one}
 use lib.ListN.{length, get_or, set}
 use lib.Seq.{sets}
+use Rattle.std.specs.Prelude.{Ok, Err, Some, None}
+use Rattle.std.specs.Prelude.{Option as Optional}
+use Rattle.rules.specs.declared.Fault.{Fault}
+use Rattle.rules.specs.Answers.{number_of}
 use Rattle.rules.specs.Syntax.{Ty, Key, Program}
 use Rattle.rules.specs.Form.{Res, ok, fault, ◌>>=◌, judge_expr, width_at, apply_scope, judge_keys, keys_are_bits}
 use Rattle.rules.specs.Lists.{width_of, key_width}
@@ -13,13 +17,9 @@ use Rattle.program.specs.Codes.{ty_of}
 use Rattle.program.specs.Stands.{StandsProgram}
 use Rattle.program.proofs.Firsts.{FirstKey, first_key}
 use Rattle.program.proofs.Views.{expr-begins}
-use Rattle.bodies.specs.declared.Typed.{Typed}
-use Rattle.bodies.specs.declared.Typed.TheVariants as typed
-use Rattle.bodies.specs.Claims.{told_ty, AsksExpr, JudgesExpr}
-use Rattle.form.specs.declared.keys.Keyed.{Keyed}
-use Rattle.form.specs.declared.keys.Keyed.TheVariants.{AllBits, Boolean, Unkeyed}
+use Rattle.bodies.specs.Claims.{Typed, told_ty, AsksExpr, JudgesExpr}
 use Rattle.form.specs.Claims.{key_widths}
-use Rattle.form.specs.Parts.{AsksKey, JudgesKey, told_keys, WithFirst, KeysAt, AsksKeys, JudgesKeys}
+use Rattle.form.specs.Parts.{AsksKey, JudgesKey, Keyed, told_keys, WithFirst, KeysAt, AsksKeys, JudgesKeys}
 use Rattle.program.proofs.Seen.{apply_slots, apply-scope}
 
 -- the type of a key
@@ -51,42 +51,44 @@ some-width at zero later x = absurd (x refl)
 some-width at (suc t) later x = refl
 
 module _ (at t : ℕ) (rest : Keyed) where
-  pub bool-then-bits : rest ≡ AllBits → t ≡ 0 → WithFirst at t rest (Boolean at)
+  pub with-bool : (b : Optional ℕ) → rest ≡ Ok b → t ≡ 0 → WithFirst at t rest (Ok (Some at))
   unfolding told_keys ◌>>=◌
-  bool-then-bits k e = record { judged = rw (k, no-width at t (ok tt) e) }
+  with-bool b k e = record { judged = rw k (go b) }
+    where
+      go : (b : Optional ℕ)
+          → ok (fault 7 at) ≡ (told_keys (Ok b) >>= λ later. ok (width_at at (ty_of t) >>= λ _. later))
+      go None = rw (no-width at t (ok tt) e)
+      go (Some index) = rw (no-width at t (fault 7 index) e)
 
-  pub bits-then-bits : rest ≡ AllBits → (t ≡ 0 → ⊥) → WithFirst at t rest AllBits
+  pub with-bits : (b : Optional ℕ) → rest ≡ Ok b → (t ≡ 0 → ⊥) → WithFirst at t rest (Ok b)
   unfolding told_keys ◌>>=◌
-  bits-then-bits k x = record { judged = rw (k, some-width at t (ok tt) x) }
+  with-bits b k x = record { judged = rw k (go b) }
+    where
+      go : (b : Optional ℕ)
+          → told_keys (Ok b) ≡ (told_keys (Ok b) >>= λ later. ok (width_at at (ty_of t) >>= λ _. later))
+      go None = rw (some-width at t (ok tt) x)
+      go (Some index) = rw (some-width at t (fault 7 index) x)
 
-  pub bool-then-bool : (index : ℕ) → rest ≡ Boolean index → t ≡ 0 → WithFirst at t rest (Boolean at)
+  pub then-unkeyed : (wrong : Fault) → rest ≡ Err wrong → WithFirst at t rest (Err wrong)
   unfolding told_keys ◌>>=◌
-  bool-then-bool index k e = record { judged = rw (k, no-width at t (fault 7 index) e) }
-
-  pub bits-then-bool : (index : ℕ) → rest ≡ Boolean index → (t ≡ 0 → ⊥) → WithFirst at t rest (Boolean index)
-  unfolding told_keys ◌>>=◌
-  bits-then-bool index k x = record { judged = rw (k, some-width at t (fault 7 index) x) }
-
-  pub then-unkeyed : (number index : ℕ) → rest ≡ Unkeyed number index → WithFirst at t rest (Unkeyed number index)
-  unfolding told_keys ◌>>=◌
-  then-unkeyed number index k = record { judged = rw k }
+  then-unkeyed wrong k = record { judged = rw k }
 
   -- all are bits only where those behind are
-  rest-bits : (r : Keyed) → WithFirst at t rest r → r ≡ AllBits → rest ≡ AllBits
+  rest-bits : (r : Keyed) → WithFirst at t rest r → r ≡ Ok None → rest ≡ Ok None
   unfolding told_keys ◌>>=◌
   rest-bits r w e = go rest (rw e at w.judged)
     where
-      go : (b : Keyed) → told_keys AllBits ≡ (told_keys b >>= λ later. ok (width_at at (ty_of t) >>= λ _. later))
-          → b ≡ AllBits
-      go AllBits q = refl
-      go (Boolean index) q = split (width_at at (ty_of t)) q
+      go : (b : Keyed) → told_keys (Ok None) ≡ (told_keys b >>= λ later. ok (width_at at (ty_of t) >>= λ _. later))
+          → b ≡ Ok None
+      go (Ok None) q = refl
+      go (Ok (Some index)) q = split (width_at at (ty_of t)) q
         where
-          split : (x : Res ℕ) → ok (ok (tt {0})) ≡ ok (x >>= λ _. fault 7 index) → Boolean index ≡ AllBits
+          split : (x : Res ℕ) → ok (ok (tt {0})) ≡ ok (x >>= λ _. fault 7 index) → ◌≡◌ {A = Keyed} (Ok (Some index)) (Ok None)
           split (ok width) q = let z : ◌≡◌ {A = ℕ} 0 1 = cc in absurd (omega arith)
           split (fault number i) q = let z : ◌≡◌ {A = ℕ} 0 1 = cc in absurd (omega arith)
-      go (Unkeyed number index) q = let z : ◌≡◌ {A = ℕ} 0 1 = cc in absurd (omega arith)
+      go (Err wrong) q = let z : ◌≡◌ {A = ℕ} 0 1 = cc in absurd (omega arith)
 
-pub ruleset firsts = (bool-then-bits, bits-then-bits, bool-then-bool, bits-then-bool, then-unkeyed)
+pub ruleset firsts = (with-bool, with-bits, then-unkeyed)
 
 -- the keys behind the first
 pub keys-behind : {nums ends : List ℕ} {at count : ℕ} {ks : List Key} → (o : FirstKey nums ends at count ks)
@@ -133,12 +135,12 @@ width-of (suc t) = refl
 
 -- the keys, one after the other
 module _ (nums directory ends : List ℕ) (at count slot : ℕ) (widths : List ℕ) where
-  pub keys_none : count ≡ 0 → JudgesKeys nums directory ends at count slot widths widths AllBits
+  pub keys_none : count ≡ 0 → JudgesKeys nums directory ends at count slot widths widths (Ok None)
   unfolding told_keys judge_keys keys_are_bits key_widths ◌>>=◌
   keys_none e = record { judged = λ P end ks s h. go P ks h; laid = λ k P end ks s h. lay P ks h }
     where
       go : (P : Program) (ks : List Key) → KeysAt nums ends at count ks
-          → told_keys AllBits ≡ (judge_keys (apply_scope P) ks >>= λ ts. ok (keys_are_bits ks ts))
+          → told_keys (Ok None) ≡ (judge_keys (apply_scope P) ks >>= λ ts. ok (keys_are_bits ks ts))
       go P [] h = refl
       go P (k ∷ ks) h = absurd (omega (arith, e, h.counted))
 
@@ -146,24 +148,24 @@ module _ (nums directory ends : List ℕ) (at count slot : ℕ) (widths : List �
       lay P [] h = refl
       lay P (k ∷ ks) h = absurd (omega (arith, e, h.counted))
 
-  module _ (a : Typed) (more : count ≡ 0 → ⊥) (j : JudgesKey nums directory ends (at + 1) a) where
-    pub keys-fault : (number index : ℕ) → a ≡ typed.Fault number index
-        → JudgesKeys nums directory ends at count slot widths widths (Unkeyed number index)
+  module _ (more : count ≡ 0 → ⊥) where
+    pub keys-fault : (wrong : Fault) → JudgesKey nums directory ends (at + 1) (Err wrong)
+        → JudgesKeys nums directory ends at count slot widths widths (Err wrong)
     unfolding told_keys told_ty judge_keys ◌>>=◌
-    keys-fault number index k = record {
+    keys-fault wrong j = record {
       judged = λ P end ks s h.
           let o : FirstKey nums ends at count ks = first_key nums ends at count ks h.stand h.counted more in
-          let e : judge_expr (apply_scope P) o.first.expr ≡ fault number index
-          = sym (j.judged P end o.first.expr s o.stands) ∙ rw k in
+          let e : judge_expr (apply_scope P) o.first.expr ≡ fault (number_of wrong.reason) wrong.index
+          = sym (j.judged P end o.first.expr s o.stands) in
           rw (o.same, e);
       laid = λ q P end ks s h. let z : ◌≡◌ {A = ℕ} 0 1 = cc in absurd (omega arith);
     }
 
-    module _ (t : ℕ) (k : a ≡ typed.Ty t) where
+    module _ (t : ℕ) (j : JudgesKey nums directory ends (at + 1) (Ok t)) where
       first-type : (P : Program) (end : ℕ) (ks : List Key) → StandsProgram nums directory ends P end
           → (o : FirstKey nums ends at count ks) → judge_expr (apply_scope P) o.first.expr ≡ ok (ty_of t)
       unfolding told_ty
-      first-type P end ks s o = sym (j.judged P end o.first.expr s o.stands) ∙ rw k
+      first-type P end ks s o = sym (j.judged P end o.first.expr s o.stands)
 
       both-judged : (x : Res (List Ty)) (first : Key) (others : List Key) (b : Res (Res (Unit {0}))) → first.at ≡ at
           → b ≡ (x >>= λ ts. ok (keys_are_bits others ts))

@@ -8,15 +8,16 @@ use native.Mathlib.Omega.{arith}
 use lib.ListN.{length, get_or, get_elem?}
 use lib.Dec.{ltb}
 use borrow.Author.Tests.{ltb-true, ltb-false}
+use Rattle.std.specs.Prelude.{Ok, Err}
+use Rattle.rules.specs.declared.Fault.{Fault}
+use Rattle.rules.specs.Answers.{number_of}
 use Rattle.rules.specs.Syntax.{Callable, Numeral, Table, Program}
 use Rattle.rules.specs.Form.{Res, ok, fault, ◌>>=◌, named, need, judge_actions}
 use Rattle.rules.proofs.Predicates.{no_member}
 use Rattle.program.specs.Stands.{StandsNumeral, StandsNumerals}
 use Rattle.program.specs.Looks.{FoundTable}
 use Rattle.program.proofs.Found.{member-at}
-use Rattle.form.specs.declared.Formal.{Formal}
-use Rattle.form.specs.declared.Formal.TheVariants.{Well, Ill}
-use Rattle.form.specs.Claims.{told_form}
+use Rattle.form.specs.Claims.{Formal, told_form}
 use Rattle.form.specs.Parts.{Says, KeysAt, NumeralsAt, AsksExist, JudgesExist, NamesAll, names-none, names-next, TableAt, names_of, AsksNames, JudgesNames}
 
 -- a table's parts
@@ -109,41 +110,42 @@ module _ (nums directory : List ℕ) (at actions default : ℕ) where
       numbers = h.stands.stands.numbers;
     }
 
-  module _ (a : Formal) (j : JudgesExist nums directory (actions + 1) (get_or nums actions 0) a) where
-    told : (ends : List ℕ) (P : Program) (T : Table) → TableAt nums directory ends at actions default P T
-        → told_form a ≡ (judge_actions P T.actions >>= λ _. ok tt)
-    told ends P T h = j.judged ends P h.end T.actions h.stands
-        (table-parts nums ends at actions default T h.found).actions_stand
+  told : (a : Formal) → JudgesExist nums directory (actions + 1) (get_or nums actions 0) a → (ends : List ℕ)
+      (P : Program) (T : Table) → TableAt nums directory ends at actions default P T
+      → told_form a ≡ (judge_actions P T.actions >>= λ _. ok tt)
+  told a j ends P T h = j.judged ends P h.end T.actions h.stands
+      (table-parts nums ends at actions default T h.found).actions_stand
 
-    pub names-fault : (number index : ℕ) → a ≡ Ill number index
-        → JudgesNames nums directory at actions default (Ill number index)
-    unfolding told_form names_of ◌>>=◌
-    names-fault number index k = record {
-      judged = λ ends P T h. go (judge_actions P T.actions) _ (rw k at (told ends P T h));
-    }
-      where
-        go : (x : Res (List Callable)) (y : List Callable → Res (Unit {0}))
-            → fault number index ≡ (x >>= λ _. ok (tt {0})) → fault number index ≡ (x >>= y)
-        go (ok cs) y e = let z : ◌≡◌ {A = ℕ} 0 1 = cc in absurd (omega arith)
-        go (fault m i) y e = e
+  pub names-fault : (wrong : Fault) → JudgesExist nums directory (actions + 1) (get_or nums actions 0) (Err wrong)
+      → JudgesNames nums directory at actions default (Err wrong)
+  unfolding told_form names_of ◌>>=◌
+  names-fault wrong j = record {
+    judged = λ ends P T h. go (judge_actions P T.actions) _ (told (Err wrong) j ends P T h);
+  }
+    where
+      go : (x : Res (List Callable)) (y : List Callable → Res (Unit {0}))
+          → fault (number_of wrong.reason) wrong.index ≡ (x >>= λ _. ok (tt {0}))
+          → fault (number_of wrong.reason) wrong.index ≡ (x >>= y)
+      go (ok cs) y e = let z : ◌≡◌ {A = ℕ} 0 1 = cc in absurd (omega arith)
+      go (fault m i) y e = e
 
-    pub names-judged : (r : Formal) → a ≡ Well
-        → Says r (need 6 default (ltb (get_or nums default 0) (get_or nums actions 0)))
-        → JudgesNames nums directory at actions default r
-    unfolding told_form names_of ◌>>=◌
-    names-judged r k s = record {
-      judged = λ ends P T h. go ends P T (table-parts nums ends at actions default T h.found)
-          (judge_actions P T.actions) refl (rw k at (told ends P T h));
-    }
-      where
-        go : (ends : List ℕ) (P : Program) (T : Table) → TableParts nums ends at actions default T
-            → (x : Res (List Callable)) → judge_actions P T.actions ≡ x → ok (tt {0}) ≡ (x >>= λ _. ok (tt {0}))
-            → told_form r ≡ (x >>= λ cs. named T.default.at (get_elem? cs T.default.number) >>= λ c. ok tt)
-        go ends P T p (ok cs) q e =
-            let n : get_or nums actions 0 ≡ length cs
-            = p.actions_stand.counted ∙ sym (names-count (all_named P T.actions cs q)) in
-            rw (n, p.default_stands.holds.is, ← p.default_stands.index) at s.judged
-            ∙ position-is cs T.default.number T.default.at
-        go ends P T p (fault number index) q e = let z : ◌≡◌ {A = ℕ} 0 1 = cc in absurd (omega arith)
+  pub names-judged : (r : Formal) → JudgesExist nums directory (actions + 1) (get_or nums actions 0) (Ok tt)
+      → Says r (need 6 default (ltb (get_or nums default 0) (get_or nums actions 0)))
+      → JudgesNames nums directory at actions default r
+  unfolding told_form names_of ◌>>=◌
+  names-judged r j s = record {
+    judged = λ ends P T h. go ends P T (table-parts nums ends at actions default T h.found)
+        (judge_actions P T.actions) refl (told (Ok tt) j ends P T h);
+  }
+    where
+      go : (ends : List ℕ) (P : Program) (T : Table) → TableParts nums ends at actions default T
+          → (x : Res (List Callable)) → judge_actions P T.actions ≡ x → ok (tt {0}) ≡ (x >>= λ _. ok (tt {0}))
+          → told_form r ≡ (x >>= λ cs. named T.default.at (get_elem? cs T.default.number) >>= λ c. ok tt)
+      go ends P T p (ok cs) q e =
+          let n : get_or nums actions 0 ≡ length cs
+          = p.actions_stand.counted ∙ sym (names-count (all_named P T.actions cs q)) in
+          rw (n, p.default_stands.holds.is, ← p.default_stands.index) at s.judged
+          ∙ position-is cs T.default.number T.default.at
+      go ends P T p (fault number index) q e = let z : ◌≡◌ {A = ℕ} 0 1 = cc in absurd (omega arith)
 
 pub ruleset names = (names-exist, names-fault, names-judged)

@@ -7,28 +7,25 @@ use Prim.Native.Nat.{ℕ, zero, suc, ◌+◌, ◌^◌, ◌≤◌, ◌<◌}
 use native.Mathlib.Omega.{arith}
 use native.Mathlib.Numerals.{add-one}
 use lib.ListN.{length, get_or, get_elem?}
+use Rattle.std.specs.Prelude.{Ok, Err}
+use Rattle.rules.specs.declared.Reason.TheVariants as reason
+use Rattle.rules.specs.declared.Fault.{Fault}
 use Rattle.rules.specs.Syntax.{Expr, Pair, Transition, ParserState, Program}
 use Rattle.rules.specs.Form.{ok, ◌>>=◌, judge_expr, width_at, state_scope, judge_pairs, values_fit, judge_transition, judge_state, judge_states}
 use Rattle.program.specs.Codes.{ty_of}
-use Rattle.program.specs.Stands.{StandsTransition, on-no-transition, on-accept, on-reject, on-lead-to, on-select, StandsState, StandsProgram, SomeProgram}
+use Rattle.program.specs.Stands.{StandsTransition, on-no-transition, on-accept, on-reject, on-lead-to, on-select, StandsState, StandsProgram}
 use Rattle.program.specs.Looks.{Has, Finds, states_of, FoundState}
 use Rattle.program.proofs.Found.{At, member-at}
 use Rattle.program.proofs.Views.{LeadView, lead-view, SelectView, select-view, transition-inside, expr-begins, stmt-begins}
 use Rattle.program.proofs.Seen.{state_slots, state-scope}
-use Rattle.bodies.specs.declared.Typed.{Typed}
-use Rattle.bodies.specs.declared.Typed.TheVariants as typed
-use Rattle.bodies.specs.declared.Formed.{Formed}
-use Rattle.bodies.specs.declared.Formed.TheVariants.{Fine, Faulty}
-use Rattle.bodies.specs.Claims.{TyMost, AsksExpr, JudgesExpr, AsksStmt, JudgesStmt}
-use Rattle.bodies.proofs.Operating.{typed-is, fault-is}
+use Rattle.bodies.specs.Claims.{refused, AsksExpr, JudgesExpr, AsksStmt, JudgesStmt}
+use Rattle.bodies.proofs.Operating.{typed-is, fault-is, typed-most}
 use Rattle.bodies.proofs.Stating.{fine-is, faulty-is}
-use Rattle.form.specs.declared.Formal.{Formal}
-use Rattle.form.specs.declared.Formal.TheVariants.{Well, Ill}
-use Rattle.form.specs.Claims.{told_form}
-use Rattle.form.specs.Parts.{JudgesPart, JudgesParts}
+use Rattle.form.specs.Claims.{Formal, told_form}
+use Rattle.form.specs.Parts.{JudgesPart}
 use Rattle.form.specs.States.{JudgesLater, PairsAt, AsksPairs, JudgesPairs, AsksValues, JudgesValues, SelectAt, AsksSelect, cases_are, JudgesCases, JudgesSelect, AsksTransition, JudgesTransition}
 use Rattle.form.proofs.Steps.{well-is, ill-is}
-use Rattle.form.proofs.Walking.{Walk, walk-asks, walk-done, walk-next, walk-stop}
+use Rattle.form.proofs.Walking.{Walk}
 
 of_width : (at t : ℕ) → (t ≡ 0 → ⊥) → (ps : List Pair)
     → values_fit t ps ≡ (width_at (suc at) (ty_of t) >>= λ width. values_fit width ps)
@@ -76,59 +73,53 @@ module _ (nums directory ends : List ℕ) (at : ℕ) where
       stands = h.stands.expr;
     }
 
-    pub select-values : (a : Typed) → JudgesExpr nums directory ends (state_slots directory) 32 (at + 1) a → (t : ℕ)
-        → a ≡ typed.Ty t → AsksValues nums t (pairs_at + 1) (get_or nums pairs_at 0)
-    unfolding TyMost
-    select-values a j t k =
-        let m : TyMost (typed.Ty t) = rw k at j.most in
-        record { asks = select-pairs; most = m }
+    pub select-values : (t : ℕ) → JudgesExpr nums directory ends (state_slots directory) 32 (at + 1) (Ok t)
+        → AsksValues nums t (pairs_at + 1) (get_or nums pairs_at 0)
+    select-values t j = record { asks = select-pairs; most = typed-most j }
 
   -- its expression, and its values
-  module _ (a : Typed) (j : JudgesExpr nums directory ends (state_slots directory) 32 (at + 1) a) where
-    pub cases-fault : (number index : ℕ) → a ≡ typed.Fault number index
-        → JudgesCases nums directory ends at (Ill number index)
-    unfolding told_form cases_are ◌>>=◌
-    cases-fault number index k = record {
+  pub cases-fault : (wrong : Fault) → JudgesExpr nums directory ends (state_slots directory) 32 (at + 1) (Err wrong)
+      → JudgesCases nums directory ends at (Err wrong)
+  unfolding told_form cases_are ◌>>=◌
+  cases-fault wrong j = record {
+    judged = λ P e ps s.
+        rw (fault-is j (state_scope P) e (state-scope nums directory ends P s.end s.stands) s.expr);
+  }
+
+  module _ (t : ℕ) (j : JudgesExpr nums directory ends (state_slots directory) 32 (at + 1) (Ok t)) where
+    selected : (P : Program) (e : Expr) (ps : List Pair) → SelectAt nums directory ends at P e ps
+        → judge_expr (state_scope P) e ≡ ok (ty_of t)
+    selected P e ps s = typed-is j (state_scope P) e (state-scope nums directory ends P s.end s.stands) s.expr
+
+    pub cases_bool : t ≡ 0 → JudgesCases nums directory ends at (refused reason.Type (at + 1))
+    unfolding told_form cases_are ty_of width_at ◌>>=◌
+    cases_bool z = record { judged = λ P e ps s. rw (selected P e ps s, z, add-one at) }
+
+    pub cases_fit : (t ≡ 0 → ⊥) → (r : Formal) → JudgesValues nums t (pairs_at + 1) (get_or nums pairs_at 0) r
+        → JudgesCases nums directory ends at r
+    unfolding cases_are ◌>>=◌
+    cases_fit x r m = record {
       judged = λ P e ps s.
-          rw (fault-is j (state_scope P) e (state-scope nums directory ends P s.end s.stands) s.expr
-          number index k);
+          rw (selected P e ps s) (m.judged ps (pairs_of P e ps s) ∙ of_width at t x ps);
     }
-
-    module _ (t : ℕ) (k : a ≡ typed.Ty t) where
-      selected : (P : Program) (e : Expr) (ps : List Pair) → SelectAt nums directory ends at P e ps
-          → judge_expr (state_scope P) e ≡ ok (ty_of t)
-      selected P e ps s =
-          typed-is j (state_scope P) e (state-scope nums directory ends P s.end s.stands) s.expr t k
-
-      pub cases_bool : t ≡ 0 → JudgesCases nums directory ends at (Ill 7 (at + 1))
-      unfolding told_form cases_are ty_of width_at ◌>>=◌
-      cases_bool z = record { judged = λ P e ps s. rw (selected P e ps s, z, add-one at) }
-
-      pub cases_fit : (t ≡ 0 → ⊥) → (r : Formal) → JudgesValues nums t (pairs_at + 1) (get_or nums pairs_at 0) r
-          → JudgesCases nums directory ends at r
-      unfolding cases_are ◌>>=◌
-      cases_fit x r m = record {
-        judged = λ P e ps s.
-            rw (selected P e ps s) (m.judged ps (pairs_of P e ps s) ∙ of_width at t x ps);
-      }
 
   -- its names before them
-  module _ (n : ℕ) (a : Formal) (j : JudgesPairs nums directory n (pairs_at + 1) (get_or nums pairs_at 0) a) where
-    pub select-fault : (number index : ℕ) → a ≡ Ill number index
-        → JudgesSelect nums directory ends n at (Ill number index)
+  module _ (n : ℕ) where
+    pub select-fault : (wrong : Fault)
+        → JudgesPairs nums directory n (pairs_at + 1) (get_or nums pairs_at 0) (Err wrong)
+        → JudgesSelect nums directory ends n at (Err wrong)
     unfolding told_form judge_transition ◌>>=◌
-    select-fault number index k = record {
+    select-fault wrong j = record {
       judged = λ P e ps s.
-          rw (ill-is a (judge_pairs P n ps) number index
-          (j.judged ends P s.end ps s.stands (pairs_of P e ps s)) k);
+          rw (ill-is (judge_pairs P n ps) wrong (j.judged ends P s.end ps s.stands (pairs_of P e ps s)));
     }
 
-    pub select-judged : (r : Formal) → a ≡ Well → JudgesCases nums directory ends at r
-        → JudgesSelect nums directory ends n at r
+    pub select-judged : (r : Formal) → JudgesPairs nums directory n (pairs_at + 1) (get_or nums pairs_at 0) (Ok tt)
+        → JudgesCases nums directory ends at r → JudgesSelect nums directory ends n at r
     unfolding judge_transition cases_are ◌>>=◌
-    select-judged r k m = record {
+    select-judged r j m = record {
       judged = λ P e ps s.
-          rw (well-is a (judge_pairs P n ps) (j.judged ends P s.end ps s.stands (pairs_of P e ps s)) k)
+          rw (well-is (judge_pairs P n ps) (j.judged ends P s.end ps s.stands (pairs_of P e ps s)))
           (m.judged P e ps s);
     }
 
@@ -176,12 +167,12 @@ module _ (nums directory ends : List ℕ) (at : ℕ) where
 
   module _ (n : ℕ) where
     pub transition-none : (get_or nums at 0 ≡ 3 → ⊥) → (get_or nums at 0 ≡ 4 → ⊥)
-        → JudgesTransition nums directory ends n at Well
+        → JudgesTransition nums directory ends n at (Ok tt)
     unfolding told_form judge_transition
     transition-none x y = record { judged = λ P end t p s. go P t s }
       where
         go : (P : Program) (t : Transition) → StandsTransition nums ends at t
-            → told_form Well ≡ judge_transition P n t
+            → told_form (Ok tt) ≡ judge_transition P n t
         go P t (on-no-transition h) = refl
         go P t (on-accept h) = refl
         go P t (on-reject h e) = refl
@@ -251,52 +242,31 @@ module _ (nums directory ends : List ℕ) (n at : ℕ)
       transition_stands = stands-some.transition;
     }
 
-  module _ (a : Formed) (j : JudgesStmt nums directory ends (state_slots directory) 32 at a) where
-    pub state-fault : (number index : ℕ) → a ≡ Faulty number index
-        → JudgesPart states_of judge_state nums directory ends n (Ill number index)
-    unfolding states_of judge_state told_form ◌>>=◌
-    state-fault number index k = record {
-      judged = λ P end s p e.
-          rw (faulty-is j (state_scope P) s.body (state-scope nums directory ends P end p) (found P end s p e).body
-          number index k);
-    }
+  pub state-fault : (wrong : Fault) → JudgesStmt nums directory ends (state_slots directory) 32 at (Err wrong)
+      → JudgesPart states_of judge_state nums directory ends n (Err wrong)
+  unfolding states_of judge_state told_form ◌>>=◌
+  state-fault wrong j = record {
+    judged = λ P end s p e.
+        rw (faulty-is j (state_scope P) s.body (state-scope nums directory ends P end p) (found P end s p e).body);
+  }
 
-    pub state-judged : (b : Bool) (r : Formal) → a ≡ Fine b → JudgesTransition nums directory ends n (get_or ends at 0) r
-        → JudgesPart states_of judge_state nums directory ends n r
-    unfolding states_of judge_state ◌>>=◌
-    state-judged b r k m = record {
-      judged = λ P end s p e.
-          rw (fine-is j (state_scope P) s.body (state-scope nums directory ends P end p) (found P end s p e).body
-          b k).is (m.judged P end s.transition p (found P end s p e).transition);
-    }
+  pub state-judged : (b : Bool) (r : Formal) → JudgesStmt nums directory ends (state_slots directory) 32 at (Ok b)
+      → JudgesTransition nums directory ends n (get_or ends at 0) r
+      → JudgesPart states_of judge_state nums directory ends n r
+  unfolding states_of judge_state ◌>>=◌
+  state-judged b r j m = record {
+    judged = λ P end s p e.
+        rw (fine-is j (state_scope P) s.body (state-scope nums directory ends P end p) (found P end s p e).body).is
+        (m.judged P end s.transition p (found P end s p e).transition);
+  }
 
 pub ruleset states = (state-asks, state-ends, state-transition, state-fault, state-judged)
 
 -- states one after the other
-states-walk : Walk states_of judge_state judge_states 70
+pub states-walk : Walk states_of judge_state judge_states 70
 unfolding states_of judge_states
 states-walk = record {
   none_left = λ P i. refl;
   next = λ P i x xs. refl;
   count = λ nums directory ends P end s. s.states.count;
 }
-
-module _ (nums directory ends : List ℕ) (n : ℕ) where
-  pub states-ask : SomeProgram nums directory ends → n < get_or directory 70 0 → Has states_of nums directory ends n
-  states-ask = walk-asks states-walk nums directory ends n
-
-  pub states-done : get_or directory 70 0 ≤ n → JudgesParts states_of judge_states nums directory ends n Well
-  states-done = walk-done states-walk nums directory ends n
-
-  module _ (l : n < get_or directory 70 0) (a : Formal) (j : JudgesPart states_of judge_state nums directory ends n a)
-    where
-      pub states-next : (b r : Formal) → a ≡ Well
-          → JudgesParts states_of judge_states nums directory ends (n + 1) b → b ≡ r
-          → JudgesParts states_of judge_states nums directory ends n r
-      states-next = walk-next states-walk nums directory ends n l a j
-
-      pub states-stop : (number index : ℕ) → a ≡ Ill number index
-          → JudgesParts states_of judge_states nums directory ends n (Ill number index)
-      states-stop = walk-stop states-walk nums directory ends n l a j
-
-pub ruleset walked = (states-ask, states-done, states-next, states-stop)

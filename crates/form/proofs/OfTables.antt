@@ -8,21 +8,23 @@ use native.Mathlib.Numerals.{add-one}
 use lib.ListN.{length, get_or, get_elem?, drop, drop_of_length-le}
 use lib.Seq.{sets}
 use lib.Dec.{eqb}
+use Rattle.std.specs.Prelude.{Ok, Err, Some, None}
+use Rattle.std.specs.Prelude.{Option as Optional}
+use Rattle.rules.specs.declared.Reason.TheVariants as reason
+use Rattle.rules.specs.declared.Fault.{Fault}
+use Rattle.rules.specs.Answers.{number_of}
 use Rattle.rules.specs.Syntax.{Ty, Callable, Table, Program}
 use Rattle.rules.specs.Form.{Res, ok, fault, ◌>>=◌, named, need, literals_fit, apply_scope, judge_actions, judge_keys, keys_are_bits, judge_table, judge_tables}
 use Rattle.program.specs.Stands.{StandsProgram, SomeProgram}
 use Rattle.program.specs.Looks.{Has, Finds, tables_of, FoundTable}
 use Rattle.program.proofs.Found.{At, member-at}
 use Rattle.program.proofs.Members.{drop-member}
-use Rattle.form.specs.declared.Formal.{Formal}
-use Rattle.form.specs.declared.Formal.TheVariants.{Well, Ill}
-use Rattle.form.specs.declared.keys.Keyed.{Keyed}
-use Rattle.form.specs.declared.keys.Keyed.TheVariants.{AllBits, Boolean, Unkeyed}
-use Rattle.form.specs.Claims.{told_form, key_widths, lay_tables}
-use Rattle.form.specs.Parts.{told_keys, AsksKeys, JudgesKeys, TableAt, names_of, AsksNames, JudgesNames, NamedTable, JudgesNamed, default_is, kinds_are, behind_keys, behind_names, AsksLays, LaysNamed, table_is, tables_are, LaysTable, LaysTables}
+use Rattle.form.specs.Claims.{Formal, told_form, key_widths, lay_tables}
+use Rattle.bodies.specs.Claims.{refused}
+use Rattle.form.specs.Parts.{Keyed, told_keys, AsksKeys, JudgesKeys, TableAt, names_of, AsksNames, JudgesNames, NamedTable, JudgesNamed, default_is, kinds_are, behind_keys, behind_names, AsksLays, LaysNamed, table_is, tables_are, LaysTable, LaysTables}
 use Rattle.form.proofs.OfNames.{TableParts, table-parts, all_named}
 use Rattle.form.proofs.Steps.{well-is, ill-is}
-use Rattle.form.proofs.Walking.{Walk, walk-asks, walk-done, here, walk-next, walk-stop}
+use Rattle.form.proofs.Walking.{Walk, Walked, walk-first, walk-asks, walk-done, here, walk-next, walk-stop}
 
 -- keys that are judged, then that each is bits, then what stands behind
 keys-then : (x : Res (List Ty)) (f : List Ty → Res (Unit {0})) (y : Res (Unit {0})) (b : Res (Res (Unit {0})))
@@ -46,39 +48,41 @@ module _ (nums directory ends : List ℕ) (at actions default t : ℕ) where
       slots = omega (arith, h.few, asked.few_keys);
     }
 
-  module _ (a : Keyed) (widths widths' : List ℕ)
-      (j : JudgesKeys nums directory ends (at + 1) (get_or nums at 0) (4 * t) widths widths' a)
-    where
-      told : (P : Program) (T : Table) (cs : List Callable) (c : Callable)
-          → NamedTable nums directory ends at actions default P T cs c
-          → (told_keys a >>= λ later. later >>= λ _. behind_keys P T cs c) ≡ behind_names P T cs c
-      unfolding behind_names
-      told P T cs c h = keys-then (judge_keys (apply_scope P) T.keys) (keys_are_bits T.keys) (behind_keys P T cs c)
-          (told_keys a) (j.judged P h.table.end T.keys h.table.stands
-          (table-parts nums ends at actions default T h.table.found).keys)
+  module _ (widths widths' : List ℕ) where
+    abbrev KeysJudged : Keyed → Type 0
+    KeysJudged a = JudgesKeys nums directory ends (at + 1) (get_or nums at 0) (4 * t) widths widths' a
 
-      pub lays-unkeyed : (number index : ℕ) → a ≡ Unkeyed number index
-          → LaysNamed nums directory ends at actions default t widths widths' (Ill number index)
-      unfolding told_keys told_form ◌>>=◌
-      lays-unkeyed number index k = record {
-        judges = record { judged = λ P T cs c h. rw k at (told P T cs c h) };
-        laid = λ q P T cs c h. let z : ◌≡◌ {A = ℕ} 0 1 = cc in absurd (omega arith);
-      }
+    told : (a : Keyed) → KeysJudged a → (P : Program) (T : Table) (cs : List Callable) (c : Callable)
+        → NamedTable nums directory ends at actions default P T cs c
+        → (told_keys a >>= λ later. later >>= λ _. behind_keys P T cs c) ≡ behind_names P T cs c
+    unfolding behind_names
+    told a j P T cs c h = keys-then (judge_keys (apply_scope P) T.keys) (keys_are_bits T.keys) (behind_keys P T cs c)
+        (told_keys a) (j.judged P h.table.end T.keys h.table.stands
+        (table-parts nums ends at actions default T h.table.found).keys)
 
-      pub lays-boolean : (index : ℕ) → a ≡ Boolean index
-          → LaysNamed nums directory ends at actions default t widths widths' (Ill 7 index)
+    pub lays-unkeyed : (wrong : Fault) → KeysJudged (Err wrong)
+        → LaysNamed nums directory ends at actions default t widths widths' (Err wrong)
+    unfolding told_keys told_form ◌>>=◌
+    lays-unkeyed wrong j = record {
+      judges = record { judged = λ P T cs c h. told (Err wrong) j P T cs c h };
+      laid = λ q P T cs c h. let z : ◌≡◌ {A = ℕ} 0 1 = cc in absurd (omega arith);
+    }
+
+    module _ (b : Optional ℕ) (j : KeysJudged (Ok b)) where
+      pub lays-boolean : (index : ℕ) → b ≡ Some index
+          → LaysNamed nums directory ends at actions default t widths widths' (refused reason.Type index)
       unfolding told_keys told_form ◌>>=◌
       lays-boolean index k = record {
-        judges = record { judged = λ P T cs c h. rw k at (told P T cs c h) };
+        judges = record { judged = λ P T cs c h. rw k at (told (Ok b) j P T cs c h) };
         laid = λ q P T cs c h. let z : ◌≡◌ {A = ℕ} 0 1 = cc in absurd (omega arith);
       }
 
-      pub lays-judged : (r : Formal) → a ≡ AllBits → JudgesNamed behind_keys nums directory ends at actions default r
+      pub lays-judged : (r : Formal) → b ≡ None → JudgesNamed behind_keys nums directory ends at actions default r
           → LaysNamed nums directory ends at actions default t widths widths' r
       unfolding told_keys ◌>>=◌
       lays-judged r k l = record {
-        judges = record { judged = λ P T cs c h. l.judged P T cs c h ∙ rw k at (told P T cs c h) };
-        laid = λ q P T cs c h. j.laid k P h.table.end T.keys h.table.stands
+        judges = record { judged = λ P T cs c h. l.judged P T cs c h ∙ rw k at (told (Ok b) j P T cs c h) };
+        laid = λ q P T cs c h. j.laid (ap Ok k) P h.table.end T.keys h.table.stands
             (table-parts nums ends at actions default T h.table.found).keys;
       }
 
@@ -165,61 +169,60 @@ module _ (nums directory ends : List ℕ) (t at actions default : ℕ)
       stands = table_at h.program h.end here-is.member h.stands here-is.is;
     }
 
-  module _ (a : Formal) (j : JudgesNames nums directory at actions default a) where
-    pub table-fault : (number index : ℕ) (widths : List ℕ) → a ≡ Ill number index
-        → LaysTable nums directory ends t widths widths (Ill number index)
-    unfolding tables_of table_is told_form
-    table-fault number index widths k = record {
-      judges = record {
-        judged = λ P end T s e. sym (names-fault P T number index
-            (ill-is a (names_of P T) number index (j.judged ends P T (table_at P end T s e)) k));
-      };
-      laid = λ q P end T s e. let z : ◌≡◌ {A = ℕ} 0 1 = cc in absurd (omega arith);
+  pub table-fault : (wrong : Fault) (widths : List ℕ) → JudgesNames nums directory at actions default (Err wrong)
+      → LaysTable nums directory ends t widths widths (Err wrong)
+  unfolding tables_of table_is told_form
+  table-fault wrong widths j = record {
+    judges = record {
+      judged = λ P end T s e. sym (names-fault P T (number_of wrong.reason) wrong.index
+          (ill-is (names_of P T) wrong (j.judged ends P T (table_at P end T s e))));
+    };
+    laid = λ q P end T s e. let z : ◌≡◌ {A = ℕ} 0 1 = cc in absurd (omega arith);
+  }
+
+  module _ (j : JudgesNames nums directory at actions default (Ok tt)) where
+    names_at : (P : Program) (T : Table) → TableAt nums directory ends at actions default P T → Names P T
+    names_at P T p = names-fine P T (well-is (names_of P T) (j.judged ends P T p))
+
+    named_table : (P : Program) (T : Table) (p : TableAt nums directory ends at actions default P T)
+        → NamedTable nums directory ends at actions default P T (names_at P T p).callables (names_at P T p).callable
+    named_table P T p = record {
+      table = p;
+      names = all_named P T.actions (names_at P T p).callables (names_at P T p).judged;
+      is = (names_at P T p).is;
     }
 
-    module _ (k : a ≡ Well) where
-      names_at : (P : Program) (T : Table) → TableAt nums directory ends at actions default P T → Names P T
-      names_at P T p = names-fine P T (well-is a (names_of P T) (j.judged ends P T p) k)
+    pub table-lays : Has tables_of nums directory ends t → AsksLays nums directory ends at actions default t
+    unfolding tables_of
+    table-lays h =
+        let p : TableAt nums directory ends at actions default h.program (here-is h).member
+        = table_at h.program h.end (here-is h).member h.stands (here-is h).is in
+        record {
+          asks = record {
+            program = h.program;
+            table = (here-is h).member;
+            callables = (names_at h.program (here-is h).member p).callables;
+            callable = (names_at h.program (here-is h).member p).callable;
+            named = named_table h.program (here-is h).member p;
+          };
+          few = omega (arith, h.inside, h.stands.tables.few);
+        }
 
-      named_table : (P : Program) (T : Table) (p : TableAt nums directory ends at actions default P T)
-          → NamedTable nums directory ends at actions default P T (names_at P T p).callables (names_at P T p).callable
-      named_table P T p = record {
-        table = p;
-        names = all_named P T.actions (names_at P T p).callables (names_at P T p).judged;
-        is = (names_at P T p).is;
-      }
-
-      pub table-lays : Has tables_of nums directory ends t → AsksLays nums directory ends at actions default t
-      unfolding tables_of
-      table-lays h =
-          let p : TableAt nums directory ends at actions default h.program (here-is h).member
-          = table_at h.program h.end (here-is h).member h.stands (here-is h).is in
-          record {
-            asks = record {
-              program = h.program;
-              table = (here-is h).member;
-              callables = (names_at h.program (here-is h).member p).callables;
-              callable = (names_at h.program (here-is h).member p).callable;
-              named = named_table h.program (here-is h).member p;
-            };
-            few = omega (arith, h.inside, h.stands.tables.few);
-          }
-
-      pub table-judged : (r : Formal) (widths widths' : List ℕ)
-          → LaysNamed nums directory ends at actions default t widths widths' r
-          → LaysTable nums directory ends t widths widths' r
-      unfolding tables_of table_is
-      table-judged r widths widths' l = record {
-        judges = record {
-          judged = λ P end T s e.
-              let p : TableAt nums directory ends at actions default P T = table_at P end T s e in
-              l.judges.judged P T (names_at P T p).callables (names_at P T p).callable (named_table P T p)
-              ∙ sym (table-behind P T (names_at P T p));
-        };
-        laid = λ q P end T s e.
+    pub table-judged : (r : Formal) (widths widths' : List ℕ)
+        → LaysNamed nums directory ends at actions default t widths widths' r
+        → LaysTable nums directory ends t widths widths' r
+    unfolding tables_of table_is
+    table-judged r widths widths' l = record {
+      judges = record {
+        judged = λ P end T s e.
             let p : TableAt nums directory ends at actions default P T = table_at P end T s e in
-            l.laid q P T (names_at P T p).callables (names_at P T p).callable (named_table P T p);
-      }
+            l.judges.judged P T (names_at P T p).callables (names_at P T p).callable (named_table P T p)
+            ∙ sym (table-behind P T (names_at P T p));
+      };
+      laid = λ q P end T s e.
+          let p : TableAt nums directory ends at actions default P T = table_at P end T s e in
+          l.laid q P T (names_at P T p).callables (names_at P T p).callable (named_table P T p);
+    }
 
 pub ruleset tabled = (table-asks, table-fault, table-lays, table-judged)
 
@@ -232,46 +235,47 @@ tables-walk = record {
   count = λ nums directory ends P end s. s.tables.count;
 }
 
-lay-next : (P : Program) (t : ℕ) (T : Table) (Ts : List Table) (widths widths₁ widths₂ : List ℕ)
-    → widths₁ ≡ sets widths (4 * t) (key_widths P T.keys) → widths₂ ≡ lay_tables P (suc t) Ts widths₁
-    → widths₂ ≡ lay_tables P t (T ∷ Ts) widths
-unfolding lay_tables
-lay-next P t T Ts widths widths₁ widths₂ w e = e ∙ ap (lay_tables P (suc t) Ts) w
+-- those before a number are judged and fine, and their keys' widths are laid
+pub record Laid (nums directory ends : List ℕ) (t : ℕ) (widths now : List ℕ) : Type 0 where
+  walked : Walked tables_of tables_are nums directory ends t
+  left : (P : Program) (end : ℕ) → StandsProgram nums directory ends P end
+      → lay_tables P 0 P.tables widths ≡ lay_tables P t (drop t P.tables) now
 
-module _ (nums directory ends : List ℕ) (t : ℕ) where
-  pub tables-ask : SomeProgram nums directory ends → t < get_or directory 59 0 → Has tables_of nums directory ends t
-  tables-ask = walk-asks tables-walk nums directory ends t
+module _ (nums directory ends widths : List ℕ) where
+  pub tables-first : Laid nums directory ends 0 widths widths
+  tables-first = record { walked = walk-first tables-walk nums directory ends; left = λ P end s. refl }
 
-  pub tables-done : (widths : List ℕ) → get_or directory 59 0 ≤ t → LaysTables nums directory ends t widths widths Well
-  unfolding lay_tables
-  tables-done widths l = record {
-    judges = walk-done tables-walk nums directory ends t l;
-    laid = λ q P end s.
-        let past : length P.tables ≤ t = omega (arith, l, s.tables.count) in
-        rw (drop_of_length-le P.tables past);
-  }
+  module _ (t : ℕ) (now : List ℕ) where
+    pub tables-ask : SomeProgram nums directory ends → t < get_or directory 59 0 → Has tables_of nums directory ends t
+    tables-ask = walk-asks tables-walk nums directory ends t
 
-  module _ (l : t < get_or directory 59 0) (a : Formal) (widths widths₁ : List ℕ)
-      (j : LaysTable nums directory ends t widths widths₁ a)
-    where
-      pub tables-next : (b r : Formal) (widths₂ : List ℕ) → a ≡ Well
-          → LaysTables nums directory ends (t + 1) widths₁ widths₂ b → b ≡ r
-          → LaysTables nums directory ends t widths widths₂ r
+    module _ (d : Laid nums directory ends t widths now) where
+      pub tables-done : get_or directory 59 0 ≤ t → LaysTables nums directory ends 0 widths now (Ok tt)
       unfolding tables_of lay_tables
-      tables-next b r widths₂ k m e = record {
-        judges = walk-next tables-walk nums directory ends t l a j.judges b r k m.judges e;
+      tables-done l = record {
+        judges = walk-done tables-walk nums directory ends t d.walked l;
         laid = λ q P end s.
-            let x : At P.tables t = here tables-walk nums directory ends t l P end s in
-            rw (drop-member P.tables t x.member x.is)
-            (lay-next P t x.member (drop (suc t) P.tables) widths widths₁ widths₂
-            (j.laid k P end x.member s x.is) (rw (add-one t) at (m.laid (e ∙ q) P end s)));
+            let past : length P.tables ≤ t = omega (arith, l, s.tables.count) in
+            sym (d.left P end s ∙ rw (drop_of_length-le P.tables past));
       }
 
-      pub tables-stop : (number index : ℕ) → a ≡ Ill number index
-          → LaysTables nums directory ends t widths widths₁ (Ill number index)
-      tables-stop number index k = record {
-        judges = walk-stop tables-walk nums directory ends t l a j.judges number index k;
-        laid = λ q P end s. let z : ◌≡◌ {A = ℕ} 0 1 = cc in absurd (omega arith);
-      }
+      module _ (l : t < get_or directory 59 0) (next : List ℕ) where
+        pub tables-next : LaysTable nums directory ends t now next (Ok tt) → Laid nums directory ends (t + 1) widths next
+        unfolding tables_of lay_tables
+        tables-next j = record {
+          walked = walk-next tables-walk nums directory ends t d.walked l j.judges;
+          left = λ P end s.
+              let x : At P.tables t = here tables-walk nums directory ends t d.walked l P end s in
+              let e : next ≡ sets now (4 * t) (key_widths P x.member.keys) = j.laid refl P end x.member s x.is in
+              d.left P end s
+              ∙ rw (drop-member P.tables t x.member x.is, add-one t, e);
+        }
 
-pub ruleset walked = (tables-ask, tables-done, tables-next, tables-stop)
+        pub tables-stop : (wrong : Fault) → LaysTable nums directory ends t now next (Err wrong)
+            → LaysTables nums directory ends 0 widths next (Err wrong)
+        tables-stop wrong j = record {
+          judges = walk-stop tables-walk nums directory ends t d.walked l wrong j.judges;
+          laid = λ q P end s. let z : ◌≡◌ {A = ℕ} 0 1 = cc in absurd (omega arith);
+        }
+
+pub ruleset walked = (tables-first, tables-ask, tables-done, tables-next, tables-stop)

@@ -1,17 +1,17 @@
--- Parts of a program one after the other: the first, then those behind it.
-use mathlib.Core.Path.{◌≡◌, sym, ◌∙◌}
+-- Parts of a program one after the other: what is left of them is judged as all are.
+use mathlib.Core.Path.{◌≡◌, refl, sym, ◌∙◌}
 use mathlib.Core.List.{List, [], ◌∷◌}
 use Prim.Native.Nat.{ℕ, suc, ◌+◌, ◌≤◌, ◌<◌}
 use native.Mathlib.Numerals.{add-one}
 use lib.ListN.{length, get_or, drop, drop_of_length-le}
+use Rattle.std.specs.Prelude.{Ok, Err}
+use Rattle.rules.specs.declared.Fault.{Fault}
 use Rattle.rules.specs.Syntax.{Program}
 use Rattle.rules.specs.Form.{Res, ok, ◌>>=◌}
 use Rattle.program.specs.Stands.{StandsProgram, SomeProgram}
 use Rattle.program.specs.Looks.{Has}
 use Rattle.program.proofs.Found.{At, member-at}
 use Rattle.program.proofs.Members.{drop-member}
-use Rattle.form.specs.declared.Formal.{Formal}
-use Rattle.form.specs.declared.Formal.TheVariants.{Well, Ill}
 use Rattle.form.specs.Claims.{told_form}
 use Rattle.form.specs.Parts.{JudgesPart, JudgesParts}
 use Rattle.form.proofs.Steps.{well-is, ill-is}
@@ -24,52 +24,60 @@ pub record Walk {A : Type 0} (list : Program → List A) (one : Program → ℕ 
   pub count : (nums directory ends : List ℕ) (P : Program) (end : ℕ) → StandsProgram nums directory ends P end
       → get_or directory slot 0 ≡ length (list P)
 
+-- those before a number are judged and fine
+pub record Walked {A : Type 0} (list : Program → List A) (all : Program → ℕ → List A → Res (Unit {0}))
+    (nums directory ends : List ℕ) (i : ℕ) : Type 0 where
+  pub left : (P : Program) (end : ℕ) → StandsProgram nums directory ends P end
+      → all P 0 (list P) ≡ all P i (drop i (list P))
+
 module _ {A : Type 0} {list : Program → List A} {one : Program → ℕ → A → Res (Unit {0})}
     {all : Program → ℕ → List A → Res (Unit {0})} {slot : ℕ} (w : Walk list one all slot)
-    (nums directory ends : List ℕ) (i : ℕ) where
-  pub walk-asks : SomeProgram nums directory ends → i < get_or directory slot 0 → Has list nums directory ends i
-  walk-asks h l = record {
-    program = h.program;
-    end = h.end;
-    stands = h.stands;
-    inside = rw (w.count nums directory ends h.program h.end h.stands) at l;
-  }
+    (nums directory ends : List ℕ) where
+  pub walk-first : Walked list all nums directory ends 0
+  walk-first = record { left = λ P end s. refl }
 
-  pub walk-done : get_or directory slot 0 ≤ i → JudgesParts list all nums directory ends i Well
-  unfolding told_form
-  walk-done l = record {
-    judged = λ P end s.
-        let past : length (list P) ≤ i = rw (w.count nums directory ends P end s) at l in
-        rw (drop_of_length-le (list P) past, w.none_left P i);
-  }
+  module _ (i : ℕ) where
+    pub walk-asks : SomeProgram nums directory ends → i < get_or directory slot 0 → Has list nums directory ends i
+    walk-asks h l = record {
+      program = h.program;
+      end = h.end;
+      stands = h.stands;
+      inside = rw (w.count nums directory ends h.program h.end h.stands) at l;
+    }
 
-  module _ (l : i < get_or directory slot 0) where
-    pub here : (P : Program) (end : ℕ) → StandsProgram nums directory ends P end → At (list P) i
-    here P end s = member-at (list P) i (rw (w.count nums directory ends P end s) at l)
-
-    opened : (P : Program) (end : ℕ) (s : StandsProgram nums directory ends P end)
-        → all P i (drop i (list P)) ≡ (one P i (here P end s).member >>= λ _. all P (suc i) (drop (suc i) (list P)))
-    opened P end s = rw (drop-member (list P) i (here P end s).member (here P end s).is) (w.next P i _ _)
-
-    module _ (a : Formal) (j : JudgesPart list one nums directory ends i a) where
-      pub walk-next : (b r : Formal) → a ≡ Well → JudgesParts list all nums directory ends (i + 1) b → b ≡ r
-          → JudgesParts list all nums directory ends i r
-      unfolding ◌>>=◌
-      walk-next b r k m e = record {
+    module _ (d : Walked list all nums directory ends i) where
+      pub walk-done : get_or directory slot 0 ≤ i → JudgesParts list all nums directory ends 0 (Ok tt)
+      unfolding told_form
+      walk-done l = record {
         judged = λ P end s.
-            let f : one P i (here P end s).member ≡ ok tt
-            = well-is a _ (j.judged P end (here P end s).member s (here P end s).is) k in
-            let g : told_form r ≡ all P (suc i) (drop (suc i) (list P)) = rw (add-one i, e) at (m.judged P end s) in
-            g ∙ sym (opened P end s ∙ rw f);
+            let past : length (list P) ≤ i = rw (w.count nums directory ends P end s) at l in
+            sym (d.left P end s ∙ rw (drop_of_length-le (list P) past) (w.none_left P i));
       }
 
-      pub walk-stop : (number index : ℕ) → a ≡ Ill number index
-          → JudgesParts list all nums directory ends i (Ill number index)
-      unfolding ◌>>=◌ told_form
-      walk-stop number index k = record {
-        judged = λ P end s.
-            rw (
-              opened P end s,
-              ill-is a _ number index (j.judged P end (here P end s).member s (here P end s).is) k,
-            );
-      }
+      module _ (l : i < get_or directory slot 0) where
+        pub here : (P : Program) (end : ℕ) → StandsProgram nums directory ends P end → At (list P) i
+        here P end s = member-at (list P) i (rw (w.count nums directory ends P end s) at l)
+
+        opened : (P : Program) (end : ℕ) (s : StandsProgram nums directory ends P end)
+            → all P 0 (list P) ≡ (one P i (here P end s).member >>= λ _. all P (suc i) (drop (suc i) (list P)))
+        opened P end s =
+            d.left P end s ∙ rw (drop-member (list P) i (here P end s).member (here P end s).is) (w.next P i _ _)
+
+        pub walk-next : JudgesPart list one nums directory ends i (Ok tt) → Walked list all nums directory ends (i + 1)
+        unfolding ◌>>=◌
+        walk-next j = record {
+          left = λ P end s.
+              let f : one P i (here P end s).member ≡ ok tt
+              = well-is _ (j.judged P end (here P end s).member s (here P end s).is) in
+              rw (add-one i) (rw f at (opened P end s));
+        }
+
+        pub walk-stop : (wrong : Fault) → JudgesPart list one nums directory ends i (Err wrong)
+            → JudgesParts list all nums directory ends 0 (Err wrong)
+        unfolding ◌>>=◌ told_form
+        walk-stop wrong j = record {
+          judged = λ P end s.
+              rw (opened P end s, ill-is _ wrong (j.judged P end (here P end s).member s (here P end s).is));
+        }
+
+pub ruleset walking = (walk-first, walk-asks, walk-done, walk-next, walk-stop)

@@ -1,19 +1,23 @@
 -- What the judgement of a whole program promises: the rules' answer, and, where the program is fine, the widths of the
 -- keys of its tables in the slots lent.
-use Rattle.std.specs.Prelude.{◌≡◌, List, [], ◌∷◌, ℕ, suc, ◌*◌}
+use Rattle.std.specs.Prelude.{◌≡◌, List, [], ◌∷◌, ℕ, suc, ◌*◌, Result, Ok, Err}
 use Rattle.std.proofs.lemmas.List.Edits.{sets}
+use Rattle.rules.specs.declared.Fault.{Fault}
+use Rattle.rules.specs.Answers.{number_of}
 use Rattle.rules.specs.Syntax.{Key, Table, Program}
 use Rattle.rules.specs.Reading.{most_keys}
 use Rattle.rules.specs.Form.{Res, ok, fault, judge_program}
 use Rattle.rules.specs.Lists.{key_width}
 use Rattle.program.specs.Stands.{StandsProgram}
-use Rattle.form.specs.declared.Formal.{Formal}
-use Rattle.form.specs.declared.Formal.TheVariants.{Well, Ill}
+
+-- a program is fine, or has a first fault
+abbrev pub Formal : Type 0
+Formal = Result (Unit {0}) Fault
 
 -- the answer in the rules' words
 unfoldable pub told_form : Formal → Res (Unit {0})
-told_form Well = ok tt
-told_form (Ill number index) = fault number index
+told_form (Ok fine) = ok tt
+told_form (Err f) = fault (number_of f.reason) f.index
 
 -- the slots with the widths of each table's keys, from the slots of the table with a number on
 unfoldable pub key_widths : Program → List Key → List ℕ

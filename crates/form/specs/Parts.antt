@@ -1,9 +1,12 @@
 -- What the functions below the judgement of a program ask and promise one another: each answers what the rules' page
 -- Form says of the part that stands where the function looks, whatever part and program stand there.
-use Rattle.std.specs.Prelude.{Bool, false, ◌≡◌, List, [], ◌∷◌, ℕ, ◌+◌, ◌*◌, ◌≤◌, ◌<◌, eqb, length, drop}
+use Rattle.std.specs.Prelude.{Bool, false, ◌≡◌, List, [], ◌∷◌, ℕ, ◌+◌, ◌*◌, ◌≤◌, ◌<◌, eqb, length, drop, Result, Ok, Err, Some, None}
+use Rattle.std.specs.Prelude.{Option as Optional}
 use Rattle.std.proofs.Math.Option.{some}
 use Rattle.std.proofs.Math.ListN.{get_elem?}
 use Rattle.std.proofs.lemmas.List.Edits.{sets}
+use Rattle.rules.specs.declared.Fault.{Fault}
+use Rattle.rules.specs.Answers.{number_of}
 use Rattle.rules.specs.Numbers.{most_bytes}
 use Rattle.rules.specs.Syntax.{Expr, Global, Parameter, Callable, Numeral, Key, Table, Program}
 use Rattle.rules.specs.Reading.{deepest, most_keys, most_tables}
@@ -11,13 +14,8 @@ use Rattle.rules.specs.Form.{Res, ok, fault, ◌>>=◌, named, need, shape_in, j
 use Rattle.program.specs.Codes.{ty_of}
 use Rattle.program.specs.Stands.{StandsExpr, StandsParameters, StandsNumerals, StandsKeys, StandsProgram}
 use Rattle.program.specs.Looks.{tables_of, FoundTable}
-use Rattle.bodies.specs.declared.Typed.{Typed}
-use Rattle.bodies.specs.Claims.{told_ty}
-use Rattle.form.specs.declared.Formal.{Formal}
-use Rattle.form.specs.declared.Formal.TheVariants.{Well}
-use Rattle.form.specs.declared.keys.Keyed.{Keyed}
-use Rattle.form.specs.declared.keys.Keyed.TheVariants.{AllBits, Boolean, Unkeyed}
-use Rattle.form.specs.Claims.{told_form, key_widths, lay_tables, widths_left}
+use Rattle.bodies.specs.Claims.{Typed, told_ty}
+use Rattle.form.specs.Claims.{Formal, told_form, key_widths, lay_tables, widths_left}
 
 -- an answer is the rules'
 pub record Says (r : Formal) (is : Res (Unit {0})) : Type 0 where
@@ -58,10 +56,13 @@ pub record JudgesKey (nums directory ends : List ℕ) (at : ℕ) (r : Typed) : T
       → StandsExpr nums ends deepest at e → told_ty r ≡ judge_expr (apply_scope P) e
 
 -- keys: first that each is judged, then that each is bits
+abbrev pub Keyed : Type 0
+Keyed = Result (Optional ℕ) Fault
+
 unfoldable pub told_keys : Keyed → Res (Res (Unit {0}))
-told_keys AllBits = ok (ok tt)
-told_keys (Boolean index) = ok (fault 7 index)
-told_keys (Unkeyed number index) = fault number index
+told_keys (Ok None) = ok (ok tt)
+told_keys (Ok (Some index)) = ok (fault 7 index)
+told_keys (Err f) = fault (number_of f.reason) f.index
 
 pub record WithFirst (at t : ℕ) (rest r : Keyed) : Type 0 where
   pub judged : told_keys r ≡ (told_keys rest >>= λ later. ok (width_at at (ty_of t) >>= λ _. later))
@@ -83,7 +84,7 @@ pub record JudgesKeys (nums directory ends : List ℕ) (at count slot : ℕ) (wi
   pub judged : (P : Program) (end : ℕ) (ks : List Key) → StandsProgram nums directory ends P end
       → KeysAt nums ends at count ks
       → told_keys r ≡ (judge_keys (apply_scope P) ks >>= λ ts. ok (keys_are_bits ks ts))
-  pub laid : r ≡ AllBits → (P : Program) (end : ℕ) (ks : List Key) → StandsProgram nums directory ends P end
+  pub laid : r ≡ Ok None → (P : Program) (end : ℕ) (ks : List Key) → StandsProgram nums directory ends P end
       → KeysAt nums ends at count ks → widths' ≡ sets widths slot (key_widths P ks)
 
 -- kinds of keys
@@ -224,7 +225,7 @@ pub record AsksLays (nums directory ends : List ℕ) (at actions default t : ℕ
 pub record LaysNamed (nums directory ends : List ℕ) (at actions default t : ℕ) (widths widths' : List ℕ) (r : Formal)
     : Type 0 where
   pub judges : JudgesNamed behind_names nums directory ends at actions default r
-  pub laid : r ≡ Well → (P : Program) (T : Table) (cs : List Callable) (c : Callable)
+  pub laid : r ≡ Ok tt → (P : Program) (T : Table) (cs : List Callable) (c : Callable)
       → NamedTable nums directory ends at actions default P T cs c
       → widths' ≡ sets widths (most_keys * t) (key_widths P T.keys)
 
@@ -237,12 +238,12 @@ tables_are P t Ts = judge_tables P Ts
 
 pub record LaysTable (nums directory ends : List ℕ) (t : ℕ) (widths widths' : List ℕ) (r : Formal) : Type 0 where
   pub judges : JudgesPart tables_of table_is nums directory ends t r
-  pub laid : r ≡ Well → (P : Program) (end : ℕ) (T : Table) → StandsProgram nums directory ends P end
+  pub laid : r ≡ Ok tt → (P : Program) (end : ℕ) (T : Table) → StandsProgram nums directory ends P end
       → get_elem? P.tables t ≡ some T → widths' ≡ sets widths (most_keys * t) (key_widths P T.keys)
 
 pub record LaysTables (nums directory ends : List ℕ) (t : ℕ) (widths widths' : List ℕ) (r : Formal) : Type 0 where
   pub judges : JudgesParts tables_of tables_are nums directory ends t r
-  pub laid : r ≡ Well → (P : Program) (end : ℕ) → StandsProgram nums directory ends P end
+  pub laid : r ≡ Ok tt → (P : Program) (end : ℕ) → StandsProgram nums directory ends P end
       → widths' ≡ lay_tables P t (drop t P.tables) widths
 
 -- the states and the apply body

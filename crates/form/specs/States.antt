@@ -6,8 +6,7 @@ use Rattle.rules.specs.Syntax.{Expr, Numeral, Pair, Transition, select, Program}
 use Rattle.rules.specs.Reading.{deepest, most_pairs}
 use Rattle.rules.specs.Form.{Res, ◌>>=◌, judge_expr, width_at, state_scope, judge_later, judge_pairs, values_fit, judge_transition}
 use Rattle.program.specs.Stands.{HoldsWithin, StandsExpr, StandsNumeral, StandsPairs, StandsTransition, StandsProgram}
-use Rattle.form.specs.declared.Formal.{Formal}
-use Rattle.form.specs.Claims.{told_form}
+use Rattle.form.specs.Claims.{Formal, told_form}
 
 -- a state that a transition of state n names
 pub record JudgesLater (nums directory : List ℕ) (n at : ℕ) (r : Formal) : Type 0 where

@@ -7,10 +7,10 @@ ghost use Rattle.program.specs.Codes.{ty_of};
 ghost use Rattle.form.specs.Parts.{AsksExist, JudgesExist, AsksGiven, GivesAll, AsksListed, JudgesListed, AsksLiterals, JudgesLiterals};
 ghost use Rattle.program.specs.In.{In};
 
-use super::Formal;
+use super::{Formal, rule};
 use bodies::types::both;
 use program::{ACTION, Source};
-use rules::{Fault, Reason};
+use rules::Reason;
 
 // The direction of a parameter that a table gives.
 const NO_DIRECTION: u64 = 0;
@@ -20,17 +20,14 @@ pub fn actions_exist(source: &Source, at: usize, count: u64) -> Formal
     requires { AsksExist source.now.nums.now at count }
     ensures { JudgesExist source.now.nums.now source.now.directory.now at count result }
 {
-    if count == 0 {
-        Ok(())
-    } else if source.nums[at] < source.directory[shape::CALLABLES] {
-        actions_exist(source, at + 1, count - 1)?;
-        Ok(())
-    } else {
-        Err(Fault {
-            reason: Reason::Unnamed,
-            index: at,
-        })
+    for action in at..at + count as usize {
+        rule(
+            Reason::Unnamed,
+            action,
+            source.nums[action] < source.directory[shape::CALLABLES],
+        )?;
     }
+    Ok(())
 }
 
 // A table gives each of so many parameters.
@@ -38,13 +35,12 @@ fn gives_all(nums: &[u64], at: usize, count: u64) -> bool
     requires { AsksGiven nums.now at count }
     ensures { GivesAll nums.now at count result }
 {
-    if count == 0 {
-        true
-    } else if nums[at] == NO_DIRECTION {
-        gives_all(nums, at + 2, count - 1)
-    } else {
-        false
+    for i in 0..count as usize {
+        if nums[at + 2 * i] != NO_DIRECTION {
+            return false;
+        }
     }
+    true
 }
 
 // So many numbers each name an action that a table may list.
@@ -52,21 +48,12 @@ pub fn judge_listed(source: &Source, at: usize, count: u64) -> Formal
     requires { In AsksListed source.now at count }
     ensures { In JudgesListed source.now at count result }
 {
-    if count == 0 {
-        Ok(())
-    } else {
-        let head = source.head_of(source.nums[at] as usize);
+    for action in at..at + count as usize {
+        let head = source.head_of(source.nums[action] as usize);
         let given = gives_all(source.nums, head.parameters, head.count);
-        if both(head.kind == ACTION, given) {
-            judge_listed(source, at + 1, count - 1)?;
-            Ok(())
-        } else {
-            Err(Fault {
-                reason: Reason::Form,
-                index: at,
-            })
-        }
+        rule(Reason::Form, action, both(head.kind == ACTION, given))?;
     }
+    Ok(())
 }
 
 // A number fits a type, written as in the program: 0 is bool, any other is bits of that width.
@@ -86,15 +73,10 @@ pub fn literals_fit(nums: &[u64], parameter: usize, at: usize, count: u64) -> Fo
     requires { AsksLiterals nums.now parameter at count }
     ensures { JudgesLiterals nums.now parameter at count result }
 {
-    if count == 0 {
-        Ok(())
-    } else if fits_type(nums[parameter + 1], nums[at]) {
-        literals_fit(nums, parameter + 2, at + 1, count - 1)?;
-        Ok(())
-    } else {
-        Err(Fault {
-            reason: Reason::Type,
-            index: at,
-        })
+    for i in 0..count as usize {
+        let literal = at + i;
+        let ty = nums[parameter + 2 * i + 1];
+        rule(Reason::Type, literal, fits_type(ty, nums[literal]))?;
     }
+    Ok(())
 }

@@ -33,16 +33,13 @@ fn judge_callable(source: &Source, n: usize) -> Formal
     rule(Reason::Form, at, either(head.kind == ACTION, returns))
 }
 
-// The callables from number n on.
-pub fn judge_callables(source: &Source, n: usize) -> Formal
+// The callables of a program.
+pub fn judge_callables(source: &Source) -> Formal
     requires { In SomeProgram source.now }
-    ensures { In (JudgesParts callables_of judge_callables) source.now n result }
+    ensures { In (JudgesParts callables_of judge_callables) source.now 0 result }
 {
-    if n < source.directory[shape::CALLABLES] as usize {
+    for n in 0..source.directory[shape::CALLABLES] as usize {
         judge_callable(source, n)?;
-        judge_callables(source, n + 1)?;
-        Ok(())
-    } else {
-        Ok(())
     }
+    Ok(())
 }

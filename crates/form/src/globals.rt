@@ -23,16 +23,13 @@ fn judge_global(source: &Source, g: usize) -> Formal
     )
 }
 
-// The globals from a number on.
-pub fn judge_globals(source: &Source, g: usize) -> Formal
+// The globals of a program.
+pub fn judge_globals(source: &Source) -> Formal
     requires { In SomeProgram source.now }
-    ensures { In (JudgesParts globals_of globals_are) source.now g result }
+    ensures { In (JudgesParts globals_of globals_are) source.now 0 result }
 {
-    if g < source.directory[shape::GLOBALS] as usize {
+    for g in 0..source.directory[shape::GLOBALS] as usize {
         judge_global(source, g)?;
-        judge_globals(source, g + 1)?;
-        Ok(())
-    } else {
-        Ok(())
     }
+    Ok(())
 }

@@ -1,8 +1,9 @@
 // The keys of a table: the expression of each in the scope of the apply body, that each is bits, and their kinds.
+ghost use Rattle.std.specs.Prelude.{false};
 ghost use Rattle.form.specs.Parts.{AsksKey, JudgesKey, WithFirst, AsksKeys, JudgesKeys, AsksKinds, JudgesKinds};
 ghost use Rattle.program.specs.In.{In};
 
-use super::Formal;
+use super::{Formal, rule};
 use bodies::Typed;
 use bodies::exprs::judge_expr;
 use bodies::types::{both, either};
@@ -52,24 +53,18 @@ pub fn judge_keys(
     }
 }
 
-// At most one of so many keys is lpm; `seen`: one stands before them.
-pub fn one_lpm(source: &Source, at: usize, count: u64, seen: bool) -> Formal
+// At most one of so many keys is lpm.
+pub fn one_lpm(source: &Source, at: usize, count: u64) -> Formal
     requires { AsksKinds source.now.nums.now source.now.ends.now at count }
-    ensures { JudgesKinds source.now.nums.now source.now.ends.now at count seen result }
+    ensures { JudgesKinds source.now.nums.now source.now.ends.now at count false result }
 {
-    if count == 0 {
-        Ok(())
-    } else {
-        let lpm = source.nums[at] == LPM;
-        if both(seen, lpm) {
-            Err(Fault {
-                reason: Reason::Form,
-                index: at,
-            })
-        } else {
-            let next = source.ends[at + 1] as usize;
-            one_lpm(source, next, count - 1, either(seen, lpm))?;
-            Ok(())
-        }
+    let mut next = at;
+    let mut seen = false;
+    for _ in 0..count {
+        let lpm = source.nums[next] == LPM;
+        rule(Reason::Form, next, !both(seen, lpm))?;
+        seen = either(seen, lpm);
+        next = source.ends[next + 1] as usize;
     }
+    Ok(())
 }

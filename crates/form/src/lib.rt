@@ -55,7 +55,7 @@ fn judge_behind_tables(source: &Source) -> Formal
     requires { In SomeProgram source.now }
     ensures { In JudgesBehind source.now result }
 {
-    judge_states(source, 0)?;
+    judge_states(source)?;
     judge_apply(source)
 }
 
@@ -65,7 +65,7 @@ fn judge_rest(source: &Source, widths: &mut [u64; WIDTHS]) -> Formal
     ensures { In LaysRest source.now widths.old widths.new result }
 {
     let mut laid = *widths;
-    judge_tables(source, 0, &mut laid)?;
+    judge_tables(source, &mut laid)?;
     judge_behind_tables(source)?;
     *widths = laid;
     Ok(())
@@ -77,7 +77,7 @@ pub fn judge_form(source: &Source, widths: &mut [u64; WIDTHS]) -> Formal
     requires { In SomeProgram source.now }
     ensures { In JudgesForm source.now widths.old widths.new result }
 {
-    judge_globals(source, 0)?;
-    judge_callables(source, 0)?;
+    judge_globals(source)?;
+    judge_callables(source)?;
     judge_rest(source, widths)
 }

@@ -31,13 +31,10 @@ fn judge_pairs(source: &Source, n: usize, at: usize, count: u64) -> Formal
     requires { AsksPairs source.now.nums.now at count }
     ensures { JudgesPairs source.now.nums.now source.now.directory.now n at count result }
 {
-    if count == 0 {
-        Ok(())
-    } else {
-        judge_later(source, n, at + 1)?;
-        judge_pairs(source, n, at + 2, count - 1)?;
-        Ok(())
+    for i in 0..count as usize {
+        judge_later(source, n, at + 2 * i + 1)?;
     }
+    Ok(())
 }
 
 // So many pairs each have a value that fits a width.
@@ -45,17 +42,15 @@ fn values_fit(nums: &[u64], width: u64, at: usize, count: u64) -> Formal
     requires { AsksValues nums.now width at count }
     ensures { JudgesValues nums.now width at count result }
 {
-    if count == 0 {
-        Ok(())
-    } else if words::widths::fits(width, nums[at]) {
-        values_fit(nums, width, at + 2, count - 1)?;
-        Ok(())
-    } else {
-        Err(Fault {
-            reason: Reason::Type,
-            index: at,
-        })
+    for i in 0..count as usize {
+        let value = at + 2 * i;
+        rule(
+            Reason::Type,
+            value,
+            words::widths::fits(width, nums[value]),
+        )?;
     }
+    Ok(())
 }
 
 // The select at an index behind its names: its expression is bits, and its values fit.
@@ -111,16 +106,13 @@ fn judge_state(source: &Source, n: usize) -> Formal
     judge_transition(source, n, transition)
 }
 
-// The states from number n on.
-pub fn judge_states(source: &Source, n: usize) -> Formal
+// The states of a program.
+pub fn judge_states(source: &Source) -> Formal
     requires { In SomeProgram source.now }
-    ensures { In (JudgesParts states_of judge_states) source.now n result }
+    ensures { In (JudgesParts states_of judge_states) source.now 0 result }
 {
-    if n < source.directory[shape::STATES] as usize {
+    for n in 0..source.directory[shape::STATES] as usize {
         judge_state(source, n)?;
-        judge_states(source, n + 1)?;
-        Ok(())
-    } else {
-        Ok(())
     }
+    Ok(())
 }

@@ -49,7 +49,7 @@ fn judge_kinds(source: &Source, parts: Parts) -> Formal
     ensures { In (JudgesNamed kinds_are) source.now parts.at parts.actions parts.default result }
 {
     let at = parts.at;
-    one_lpm(source, at + 1, source.nums[at], false)?;
+    one_lpm(source, at + 1, source.nums[at])?;
     let actions = parts.actions;
     judge_listed(source, actions + 1, source.nums[actions])
 }
@@ -88,16 +88,13 @@ fn judge_table(source: &Source, t: usize, widths: &mut [u64; WIDTHS]) -> Formal
     judge_behind_names(source, parts, t, widths)
 }
 
-// The tables from number t on.
-pub fn judge_tables(source: &Source, t: usize, widths: &mut [u64; WIDTHS]) -> Formal
+// The tables of a program.
+pub fn judge_tables(source: &Source, widths: &mut [u64; WIDTHS]) -> Formal
     requires { In SomeProgram source.now }
-    ensures { In LaysTables source.now t widths.old widths.new result }
+    ensures { In LaysTables source.now 0 widths.old widths.new result }
 {
-    if t < source.directory[shape::TABLES] as usize {
+    for t in 0..source.directory[shape::TABLES] as usize {
         judge_table(source, t, widths)?;
-        judge_tables(source, t + 1, widths)?;
-        Ok(())
-    } else {
-        Ok(())
     }
+    Ok(())
 }

@@ -6,11 +6,11 @@ use Rattle.form.proofs.globals.judge_global.Goals as goal
 pub overflow_add-at-2 : goal.overflow_add-at-2
 overflow_add-at-2 c = search (globals, rules)
 
-pub offset_bounds-directory-g : goal.offset_bounds-directory-g
-offset_bounds-directory-g c = search (globals, rules)
+pub offset_bounds-source-g : goal.offset_bounds-source-g
+offset_bounds-source-g c = search (globals, rules)
 
-pub bounds-directory-g : goal.bounds-directory-g
-bounds-directory-g c = search (globals, rules)
+pub bounds-source-g : goal.bounds-source-g
+bounds-source-g c = search (globals, rules)
 
 pub returns : goal.returns
 returns c = search (globals, rules)
