@@ -101,7 +101,7 @@ module _ (nums directory directory' ends ends' widths widths' entries entries' o
           let scans : ScansProgram nums directory directory' ends ends' (Past end)
           = record { answer = rw read refl; parts = j.directory_is; laid = j.ends_are } in
           let s : StandsProgram nums directory' ends' P end
-          = stands nums directory directory' ends ends' (Past end) scans a.lent end
+          = stands nums directory directory' ends ends' end scans a.lent
           (record { program = P; read = read }) in
           let lists : ListsJudged P end nums entries entries' offsets offsets' (Fine v.store v.length) = record {
             answer = l.1;

@@ -16,8 +16,7 @@ use Rattle.rules.proofs.Readers.{Kept, keeps-program}
 use Rattle.shape.specs.Directory.{directory_left, slot_count}
 use Rattle.shape.specs.Ends.{most_numbers, ScansProgram}
 use Rattle.shape.specs.Scans.{forget, scan_of}
-use Rattle.shape.specs.Scans.{Scan, Past, told}
-use Rattle.shape.specs.Scans as scans
+use Rattle.shape.specs.Scans.{Past, told}
 use Rattle.program.specs.Stands.{StandsProgram, SomeProgram}
 use Rattle.shape.proofs.Entries.{directory-long}
 use Rattle.shape.proofs.Lines.{scan-long}
@@ -149,17 +148,17 @@ module _ (nums directory ends widths widths₁ : List ℕ) (formal : Result (Uni
 pub ruleset formed = (program-asks, well-asks, well-judged, ill-judged)
 
 -- shape
-module _ (nums directory directory' ends ends' : List ℕ) (scan : Scan)
-    (w : ScansProgram nums directory directory' ends ends' scan) where
-  pub record Found (end : ℕ) : Type 0 where
+module _ (nums directory directory' ends ends' : List ℕ) (end : ℕ)
+    (w : ScansProgram nums directory directory' ends ends' (Past end)) where
+  pub record Found : Type 0 where
     pub program : Program
     pub read : read_program nums 0 ≡ got program (drop end nums) end
 
-  found : (end : ℕ) → scan ≡ Past end → Found end
+  found : Found
   unfolding scan_of forget Kept
-  found end e = go (read_program nums 0) refl (keeps-program.kept nums 0) (sym e ∙ w.answer)
+  found = go (read_program nums 0) refl (keeps-program.kept nums 0) w.answer
     where
-      go : (x : Got Program) → read_program nums 0 ≡ x → Kept nums 0 x → Past end ≡ forget x → Found end
+      go : (x : Got Program) → read_program nums 0 ≡ x → Kept nums 0 x → Past end ≡ forget x → Found
       go (got P left next) q k f =
           let last : next ≡ end = cc in
           record { program = P; read = q ∙ rw (k.rest, last) }
@@ -167,31 +166,28 @@ module _ (nums directory directory' ends ends' : List ℕ) (scan : Scan)
 
   -- the directory and the ends have as many slots as they had
   module _ (lent : Lent nums directory ends) where
-    pub stands : (end : ℕ) (f : Found end) → StandsProgram nums directory' ends' f.program end
+    pub stands : (f : Found) → StandsProgram nums directory' ends' f.program end
     unfolding directory_left
-    stands end f =
+    stands f =
         let slots' : length directory' ≡ slot_count
         = rw (w.parts, f.read) (directory-long f.program end directory ∙ lent.slots) in
         let room' : length ends' ≡ most_numbers
-        = scan-long nums directory directory' ends ends' scan f.program (drop end nums) end w f.read ∙ lent.room in
-        program-stands nums directory directory' ends ends' scan f.program end w f.read lent.few
+        = scan-long nums directory directory' ends ends' (Past end) f.program (drop end nums) end w f.read ∙ lent.room in
+        program-stands nums directory directory' ends ends' (Past end) f.program end w f.read lent.few
         (omega (arith, lent.few, lent.room)) (omega (arith, lent.few, room')) lent.slots slots'
 
-    pub scanned : (end : ℕ) (widths : List ℕ) → scan ≡ Past end → length widths ≡ most_keys * most_tables
+    pub scanned : (widths : List ℕ) → length widths ≡ most_keys * most_tables
         → AsksProgram nums directory' ends' widths
-    scanned end widths e room =
-        let f : Found end = found end e in
-        record { program = f.program; end = end; stands = stands end f; slots = room }
+    scanned widths room = record { program = found.program; end = end; stands = stands found; slots = room }
 
-    pub judged-past : (end : ℕ) (widths widths' entries entries' offsets offsets' : List ℕ) (r : Result coded.Verdict rules.Fault)
-        → scan ≡ Past end
+    pub judged-past : (widths widths' entries entries' offsets offsets' : List ℕ) (r : Result coded.Verdict rules.Fault)
         → JudgesProgram nums directory' ends' widths widths' entries entries' offsets offsets' r
         → JudgesNumbers nums directory directory' ends ends' widths widths' entries entries' offsets offsets' r
     unfolding after_shape widths_after entries_after offsets_after
-    judged-past end widths widths' entries entries' offsets offsets' r e j =
-        let f : Found end = found end e in
+    judged-past widths widths' entries entries' offsets offsets' r j =
+        let f : Found = found in
         let k : Judged f.program end nums widths widths' entries entries' offsets offsets' (told_verdict r)
-        = j.judged f.program end (stands end f) in
+        = j.judged f.program end (stands f) in
         let verdict : told_verdict r ≡ after_shape (read_program nums 0) = rw f.read k.verdict in
         record {
           answer = rw verdict (passes-say nums);
@@ -203,26 +199,27 @@ module _ (nums directory directory' ends ends' : List ℕ) (scan : Scan)
           offsets_are = rw f.read k.offsets_are;
         }
 
-  pub judged-fault : (f : rules.Fault) (widths entries offsets : List ℕ) → scan ≡ told (Err f)
-      → JudgesNumbers nums directory directory' ends ends' widths widths entries entries offsets offsets (Err f)
-  unfolding scan_of forget after_shape widths_after entries_after offsets_after
-  judged-fault f widths entries offsets e = go (read_program nums 0) refl (sym e ∙ w.answer)
-    where
-      go : (x : Got Program) → read_program nums 0 ≡ x → told (Err f) ≡ forget x
-          → JudgesNumbers nums directory directory' ends ends' widths widths entries entries offsets offsets (Err f)
-      go (got P left next) q g = let z : ◌≡◌ {A = ℕ} 0 1 = cc in absurd (omega arith)
-      go (bad n i) q g =
-          let same_n : n ≡ number_of f.reason = cc in
-          let same_i : i ≡ f.index = cc in
-          let verdict : Refused (number_of f.reason) f.index ≡ after_shape (read_program nums 0) = rw (q, same_n, same_i) in
-          record {
-            answer = rw verdict (passes-say nums);
-            verdict = verdict;
-            directory_is = w.parts;
-            ends_are = w.laid;
-            widths_are = rw q;
-            entries_are = rw q;
-            offsets_are = rw q;
-          }
+pub judged-fault : (nums directory directory' ends ends' widths entries offsets : List ℕ) (f : rules.Fault)
+    → ScansProgram nums directory directory' ends ends' (told (Err f))
+    → JudgesNumbers nums directory directory' ends ends' widths widths entries entries offsets offsets (Err f)
+unfolding scan_of forget after_shape widths_after entries_after offsets_after
+judged-fault nums directory directory' ends ends' widths entries offsets f w = go (read_program nums 0) refl w.answer
+  where
+    go : (x : Got Program) → read_program nums 0 ≡ x → told (Err f) ≡ forget x
+        → JudgesNumbers nums directory directory' ends ends' widths widths entries entries offsets offsets (Err f)
+    go (got P left next) q g = let z : ◌≡◌ {A = ℕ} 0 1 = cc in absurd (omega arith)
+    go (bad n i) q g =
+        let same_n : n ≡ number_of f.reason = cc in
+        let same_i : i ≡ f.index = cc in
+        let verdict : Refused (number_of f.reason) f.index ≡ after_shape (read_program nums 0) = rw (q, same_n, same_i) in
+        record {
+          answer = rw verdict (passes-say nums);
+          verdict = verdict;
+          directory_is = w.parts;
+          ends_are = w.laid;
+          widths_are = rw q;
+          entries_are = rw q;
+          offsets_are = rw q;
+        }
 
 pub ruleset judged = (scanned, judged-past, judged-fault)

@@ -1,6 +1,6 @@
 -- The lists together: the entries, the store behind them, and the packet, with nothing behind that.
 use mathlib.Core.Bool.{true}
-use mathlib.Core.Path.{◌≡◌}
+use mathlib.Core.Path.{◌≡◌, refl}
 use mathlib.Core.List.{List}
 use Prim.Native.Nat.{ℕ, ◌-◌, ◌≤◌, ◌<◌}
 use native.Mathlib.Omega.{arith}
@@ -8,13 +8,12 @@ use lib.ListN.{length, get_or, drop}
 use Rattle.rules.specs.Syntax.{Program}
 use Rattle.rules.specs.Reading.{bad, and_then, ◌>>=◌, pure}
 use Rattle.rules.specs.Lists.{slots_of, read_entries, read_cells, read_store}
-use Rattle.shape.specs.Scans.{Scan, Past, Fault}
+use Rattle.shape.specs.Scans.{Past, told}
 use Rattle.shape.specs.Walks.{Laid, Lays}
 use Rattle.program.specs.Stands.{StandsProgram}
-use Rattle.std.specs.Prelude.{Result, Ok, Err}
+use Rattle.std.specs.Prelude.{Ok, Err}
 use Rattle.rules.specs.declared.Fault as rules
 use Rattle.rules.specs.Answers.{number_of}
-use Rattle.lists.specs.declared.Lists as coded
 use Rattle.program.specs.Keys.{WidthsOf}
 use Rattle.lists.specs.Listing.{read_last, listing, listed_of, entries_left, offsets_left, AsksLists, JudgesLists}
 use Rattle.lists.specs.Parts.{lay_entries, JudgesEntryList, AsksCells, lay_offsets, JudgesCells, JudgesLast}
@@ -35,99 +34,99 @@ lists-store nums directory ends widths store h = record {
   later = omega arith;
 }
 
+-- a fault of the entries
+pub lists-no-entries : (nums directory ends widths entries starts offsets : List ℕ) (e : rules.Fault)
+    → JudgesEntryList nums directory ends widths (end_of directory) entries starts (told (Err e))
+    → JudgesLists nums directory ends widths entries entries offsets offsets (Err e)
+unfolding listing ◌>>=◌ and_then listed_of entries_left offsets_left
+lists-no-entries nums directory ends widths entries starts offsets e w = record {
+  judged = λ P end s known.
+      let g : read_entries true P (drop (end_of directory) nums) (end_of directory) ≡ bad (number_of e.reason) e.index
+      = fault-read (read_entries true P) nums (end_of directory) _ _ (told (Err e)) (w.judged P end s known).scan refl in
+      rw (← s.ending) (record { answer = rw g; entries_are = rw g; offsets_are = rw g });
+}
+
 -- what is known behind the entries
-module _ (nums directory ends widths entries starts : List ℕ) (a : Scan)
-    (w : JudgesEntryList nums directory ends widths (end_of directory) entries starts a)
+module _ (nums directory ends widths entries starts : List ℕ) (store : ℕ)
+    (w : JudgesEntryList nums directory ends widths (end_of directory) entries starts (Past store))
   where
-    -- a fault of the entries
-    pub lists-no-entries : (e : rules.Fault) (offsets : List ℕ) → a ≡ Fault (number_of e.reason) e.index
-        → JudgesLists nums directory ends widths entries entries offsets offsets (Err e)
-    unfolding listing ◌>>=◌ and_then listed_of entries_left offsets_left
-    lists-no-entries e offsets p = record {
-      judged = λ P end s known.
-          let g : read_entries true P (drop (end_of directory) nums) (end_of directory)
-          ≡ bad (number_of e.reason) e.index
-          = fault-read (read_entries true P) nums (end_of directory) _ _ a (w.judged P end s known).scan p in
-          rw (← s.ending) (record { answer = rw g; entries_are = rw g; offsets_are = rw g });
-    }
+    read-entries : (P : Program) (end : ℕ) → StandsProgram nums directory ends P end → WidthsOf P widths
+        → Read (EntryListAt P) (read_entries true P) nums (end_of directory) store
+    read-entries P end s known =
+        past-read nums (end_of directory) store (Past store) (placed-entries P) (w.judged P end s known).scan refl
 
-    module _ (store : ℕ) (p : a ≡ Past store) where
-      read-entries : (P : Program) (end : ℕ) → StandsProgram nums directory ends P end → WidthsOf P widths
-          → Read (EntryListAt P) (read_entries true P) nums (end_of directory) store
-      read-entries P end s known =
-          past-read nums (end_of directory) store a (placed-entries P) (w.judged P end s known).scan p
+    module _ (offsets slots : List ℕ) where
+      -- a fault of the store
+      pub lists-no-store : (e : rules.Fault)
+          → JudgesCells nums directory ends 0 (get_or directory 9 0) store store offsets slots (told (Err e))
+          → JudgesLists nums directory ends widths entries entries offsets offsets (Err e)
+      unfolding listing read_store ◌>>=◌ and_then listed_of entries_left offsets_left
+      lists-no-store e v = record {
+        judged = λ P end s known.
+            let d : Read (EntryListAt P) (read_entries true P) nums (end_of directory) store
+            = read-entries P end s known in
+            let g : read_cells P P.globals (drop store nums) store ≡ bad (number_of e.reason) e.index
+            = fault-read (read_cells P P.globals) nums store _ _ (told (Err e))
+            (v.judged P end s (omega (arith, s.globals.count))).scan refl in
+            rw (← s.ending)
+            (record { answer = rw (d.gave, g); entries_are = rw (d.gave, g); offsets_are = rw (d.gave, g) });
+      }
 
-      module _ (offsets slots : List ℕ) (b : Scan)
-          (v : JudgesCells nums directory ends 0 (get_or directory 9 0) store store offsets slots b)
+      module _ (last : ℕ)
+          (v : JudgesCells nums directory ends 0 (get_or directory 9 0) store store offsets slots (Past last))
         where
           store-judged : (P : Program) (end : ℕ) → StandsProgram nums directory ends P end
-              → Lays (read_cells P P.globals) (lay_offsets P 0 (store - store)) nums store offsets slots b
+              → Lays (read_cells P P.globals) (lay_offsets P 0 (store - store)) nums store offsets slots (Past last)
           store-judged P end s = v.judged P end s (omega (arith, s.globals.count))
 
-          -- a fault of the store
-          pub lists-no-store : (e : rules.Fault) → b ≡ Fault (number_of e.reason) e.index
+          read-cells : (P : Program) (end : ℕ) → StandsProgram nums directory ends P end
+              → Read (CellsAt P P.globals) (read_cells P P.globals) nums store last
+          read-cells P end s =
+              past-read nums store last (Past last) (placed-cells P P.globals) (store-judged P end s).scan refl
+
+          pub lists_length : AsksLists nums directory ends widths → store ≤ last
+          lists_length h = omega (arith, (read-cells h.program h.end h.stands).stands.after)
+
+          -- a fault of the packet, or a number left over
+          pub lists-no-packet : (e : rules.Fault) → JudgesLast nums last (told (Err e))
               → JudgesLists nums directory ends widths entries entries offsets offsets (Err e)
           unfolding listing read_store ◌>>=◌ and_then listed_of entries_left offsets_left
-          lists-no-store e q = record {
+          lists-no-packet x u = record {
             judged = λ P end s known.
                 let d : Read (EntryListAt P) (read_entries true P) nums (end_of directory) store
                 = read-entries P end s known in
-                let g : read_cells P P.globals (drop store nums) store ≡ bad (number_of e.reason) e.index
-                = fault-read (read_cells P P.globals) nums store _ _ b (store-judged P end s).scan q in
-                rw (← s.ending)
-                (record { answer = rw (d.gave, g); entries_are = rw (d.gave, g); offsets_are = rw (d.gave, g) });
+                let e : Read (CellsAt P P.globals) (read_cells P P.globals) nums store last
+                = read-cells P end s in
+                let g : read_last P (drop last nums) last ≡ bad (number_of x.reason) x.index
+                = fault-read (read_last P) nums last _ _ (told (Err x)) (u.judged P s.version) refl in
+                rw (← s.ending) (record {
+                  answer = rw (d.gave, e.gave, g);
+                  entries_are = rw (d.gave, e.gave, g);
+                  offsets_are = rw (d.gave, e.gave, g);
+                });
           }
 
-          module _ (last : ℕ) (q : b ≡ Past last) where
-            read-cells : (P : Program) (end : ℕ) → StandsProgram nums directory ends P end
-                → Read (CellsAt P P.globals) (read_cells P P.globals) nums store last
-            read-cells P end s =
-                past-read nums store last b (placed-cells P P.globals) (store-judged P end s).scan q
-
-            pub lists_length : AsksLists nums directory ends widths → store ≤ last
-            lists_length h = omega (arith, (read-cells h.program h.end h.stands).stands.after)
-
-            module _ (c : Scan) (u : JudgesLast nums last c) where
-              -- a fault of the packet, or a number left over
-              pub lists-no-packet : (x : rules.Fault) → c ≡ Fault (number_of x.reason) x.index
-                  → JudgesLists nums directory ends widths entries entries offsets offsets (Err x)
-              unfolding listing read_store ◌>>=◌ and_then listed_of entries_left offsets_left
-              lists-no-packet x t = record {
-                judged = λ P end s known.
-                    let d : Read (EntryListAt P) (read_entries true P) nums (end_of directory) store
-                    = read-entries P end s known in
-                    let e : Read (CellsAt P P.globals) (read_cells P P.globals) nums store last
-                    = read-cells P end s in
-                    let g : read_last P (drop last nums) last ≡ bad (number_of x.reason) x.index
-                    = fault-read (read_last P) nums last _ _ c (u.judged P s.version) t in
-                    rw (← s.ending) (record {
-                      answer = rw (d.gave, e.gave, g);
-                      entries_are = rw (d.gave, e.gave, g);
-                      offsets_are = rw (d.gave, e.gave, g);
-                    });
-              }
-
-              -- neither
-              pub lists-fine : (next : ℕ) (l : coded.Lists) → c ≡ Past next → l.store ≡ store
-                  → l.length ≡ last - store
-                  → JudgesLists nums directory ends widths entries starts offsets slots (Ok l)
-              unfolding listing read_store pure ◌>>=◌ and_then listed_of entries_left offsets_left Laid lay_entries lay_offsets
-              lists-fine next l t x y = record {
-                judged = λ P end s known.
-                    let d : Read (EntryListAt P) (read_entries true P) nums (end_of directory) store
-                    = read-entries P end s known in
-                    let e : Read (CellsAt P P.globals) (read_cells P P.globals) nums store last
-                    = read-cells P end s in
-                    let g : Read (LastAt P) (read_last P) nums last next
-                    = past-read nums last next c (placed-last P) (u.judged P s.version) t in
-                    let o : store - store ≡ 0 = omega arith in
-                    let m : last - store ≡ length (slots_of e.value) = omega (arith, e.stands.after) in
-                    rw (← s.ending) (record {
-                      answer = rw (x, y, d.gave, e.gave, g.gave, m, ← d.stands.after);
-                      entries_are = rw (d.gave, e.gave, g.gave) (rw d.gave at (w.judged P end s known).laid);
-                      offsets_are = rw (d.gave, e.gave, g.gave) (rw (e.gave, o) at (store-judged P end s).laid);
-                    });
-              }
+          -- neither
+          pub lists-fine : (next : ℕ) → JudgesLast nums last (Past next)
+              → JudgesLists nums directory ends widths entries starts offsets slots
+              (Ok (record { store = store; length = last - store }))
+          unfolding listing read_store pure ◌>>=◌ and_then listed_of entries_left offsets_left Laid lay_entries lay_offsets
+          lists-fine next u = record {
+            judged = λ P end s known.
+                let d : Read (EntryListAt P) (read_entries true P) nums (end_of directory) store
+                = read-entries P end s known in
+                let e : Read (CellsAt P P.globals) (read_cells P P.globals) nums store last
+                = read-cells P end s in
+                let g : Read (LastAt P) (read_last P) nums last next
+                = past-read nums last next (Past next) (placed-last P) (u.judged P s.version) refl in
+                let o : store - store ≡ 0 = omega arith in
+                let m : last - store ≡ length (slots_of e.value) = omega (arith, e.stands.after) in
+                rw (← s.ending) (record {
+                  answer = rw (d.gave, e.gave, g.gave, m, ← d.stands.after);
+                  entries_are = rw (d.gave, e.gave, g.gave) (rw d.gave at (w.judged P end s known).laid);
+                  offsets_are = rw (d.gave, e.gave, g.gave) (rw (e.gave, o) at (store-judged P end s).laid);
+                });
+          }
 
 pub lists-numbers : (nums directory ends widths : List ℕ) → AsksLists nums directory ends widths → 0 < length nums
 lists-numbers nums directory ends widths h = h.stands.version.inside

@@ -23,7 +23,7 @@ pub returns-in_err-next : goal.returns-in_err-next
 returns-in_err-next c = let p = err_from_is_err_and c.from_residual.result c.from_residual.ensures.1 in rw (p.1, p.2) (search (tables, c.in_err-next.ensures, rules))
 
 pub action_at-requires : goal.action_at-requires
-action_at-requires c = search (tables, c.in_ok-next.ensures, rules)
+action_at-requires c = search (tables, rules)
 
 pub returns : goal.returns
 returns c = search (tables, c.in_ok-next.ensures, rules)

@@ -26,7 +26,7 @@ pub bounds-source-at : goal.bounds-source-at
 bounds-source-at c = search (headers, c.in_ok-next.ensures, rules)
 
 pub fields_at-requires : goal.fields_at-requires
-fields_at-requires c = search (headers, c.in_ok-next.ensures, rules)
+fields_at-requires c = search (headers, rules)
 
 pub returns-in_ok-next : goal.returns-in_ok-next
 returns-in_ok-next c = search (headers, c.in_ok-next.ensures, rules)

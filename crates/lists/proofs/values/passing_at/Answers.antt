@@ -1,6 +1,6 @@
 -- What carries it: a number passes a test, does not, or is missing.
 use Rattle.std.proofs.lemmas.Result.{err_from_is_err_and}
-use Rattle.lists.proofs.Steps.{leaves, passed, failed}
+use Rattle.lists.proofs.Steps.{leaves}
 use borrow.Author.Rules.{rules}
 use Rattle.lists.proofs.values.passing_at.Goals as goal
 
