@@ -39,20 +39,8 @@ pub record Unequal (nums : List ℕ) (at count number i : ℕ) : Type 0 where
 pub equal-start : (nums : List ℕ) (at count number : ℕ) → AsksEqual nums at count → Unequal nums at count number 0
 equal-start nums at count number a = record { asks = a; up = omega arith; before = λ j h. absurd (omega arith) }
 
-pub record PairRoom (nums : List ℕ) (at i : ℕ) : Type 0 where
-  pub few : length nums ≤ most_bytes
-  pub inside : at + 2 * i < length nums
-  pub low : i < most_pairs
-
 module _ (nums : List ℕ) (at count number i : ℕ) (r : Unequal nums at count number i) where
   module _ (h : i < count) where
-    pub pair-room : PairRoom nums at i
-    pair-room = record {
-      few = r.asks.few;
-      inside = r.asks.inside i h;
-      low = omega (arith, r.asks.most);
-    }
-
     pub equal-more : (number ≡ get_or nums (at + 2 * i) 0 → ⊥) → Unequal nums at count number (i + 1)
     equal-more x = record { asks = r.asks; up = omega arith; before = before }
       where
