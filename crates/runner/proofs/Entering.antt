@@ -23,18 +23,8 @@ use Rattle.runner.specs.Runs.{stmt_in, Stage}
 use Rattle.runner.specs.Claims.{AsksStmt, RunsStmt}
 use Rattle.runner.specs.Parsing.{state_in, transition_in, TellsOn, AsksState, RunsState, AsksTransition, RunsTransition}
 use Rattle.runner.proofs.Stages.{store-count, count-asks, stage-counted, going-counted, ran-counted, stage-ran, going-rest}
-use Rattle.runner.proofs.Blocks.{onward-is}
+use Rattle.runner.proofs.Blocks.{onward-is, stops-is}
 use Rattle.runner.proofs.States.{AtState, then_leave, state-found, entered-is, left, left-counted}
-
--- an ending that does not go on stays as it is
-pub over-is : (ended : Ended) (ending : Ending) (m : M State Ending) (s : State) → Ends ended ending
-    → (ended ≡ Onward → ⊥) → and_then_run ending m s ≡ done ending s []
-unfolding and_then_run pure
-over-is ended ending m s ends-onward x = absurd (x refl)
-over-is ended ending m s ends-returned x = refl
-over-is ended ending m s (ends-value v) x = refl
-over-is ended ending m s ends-exited x = refl
-over-is ended ending m s ends-rejected x = refl
 
 pub onward-goes : (ending : Ending) (m : M State Ending) (s : State) → ending ≡ onward → and_then_run ending m s ≡ m s
 unfolding and_then_run
@@ -106,7 +96,7 @@ module _ (P : Program) (n : ℕ) {nums directory ends : List ℕ} {scope : coded
           → Ran nums directory ends scope slots slots₂ frame frame₂ (state_scope P) (state_in P used n s) (Ends ended)
       over-ran q = rw entered (ran-counted st _ c (ran_then (stmt_in (state_scope P) used es x.body)
           (then_leave P used n x) s h (ran-here h.state h.answer h.scene
-          (over-is ended h.answer (transition_in P used n x.transition) h.state h.answers q) h.answers)))
+          (stops-is ended h.answer (transition_in P used n x.transition) h.state h.answers q) h.answers)))
 
 -- from the numbers
 module _ (nums directory ends : List ℕ) (scope : coded.Scope) (slots frame : List ℕ) (n : ℕ) where
