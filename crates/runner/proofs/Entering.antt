@@ -2,7 +2,7 @@
 use Rattle.program.specs.declared.Scope as coded
 use mathlib.Core.Bool.{Bool, true, false, false≢true}
 use mathlib.Core.Path.{◌≡◌, refl, ◌∙◌, sym}
-use mathlib.Core.List.{List, []}
+use mathlib.Core.List.{List}
 use Prim.Native.Nat.{ℕ, ◌+◌, ◌<◌}
 use native.Mathlib.Omega.{arith}
 use lib.ListN.{length, get_or}
@@ -10,14 +10,14 @@ use Rattle.rules.specs.Numbers.{most_bytes}
 use Rattle.rules.specs.Syntax.{ParserState, Program}
 use Rattle.rules.specs.Form.{state_scope}
 use Rattle.rules.specs.Lists.{Entry}
-use Rattle.rules.specs.Running.{State, Ending, onward, done, M, ◌>>=◌, pure, tick, and_then_run}
+use Rattle.rules.specs.Running.{State, Ending, onward, M, ◌>>=◌, tick, and_then_run}
 use Rattle.program.specs.Stands.{StandsState}
 use Rattle.program.specs.Looks.{Has, Finds, states_of, FoundState}
 use Rattle.program.proofs.Found.{member-in}
 use Rattle.program.proofs.Views.{stmt-begins}
 use Rattle.steps.specs.declared.Ended.{Ended}
 use Rattle.steps.specs.declared.Ended.TheVariants.{Onward, Returned, ReturnedValue, Exited, Rejected}
-use Rattle.steps.specs.Outcomes.{Goes, counter_of, Ran, Ends, ends-onward, ends-returned, ends-value, ends-exited, ends-rejected, AsksCount, Counts}
+use Rattle.steps.specs.Outcomes.{Goes, counter_of, Ran, Ends, AsksCount, Counts}
 use Rattle.steps.proofs.Going.{Begun, then-goes, counter-ticked, ran-here, ran_then}
 use Rattle.runner.specs.Runs.{stmt_in, Stage}
 use Rattle.runner.specs.Claims.{AsksStmt, RunsStmt}

@@ -11,7 +11,6 @@ use lib.ListN.{length, get_or}
 use borrow.Author.Tests.{eqb-true, eqb-false, eq-eqb, ne_eqb}
 use Rattle.rules.specs.Numbers.{most_bytes}
 use Rattle.rules.specs.Syntax.{Value, Pair, Transition, Program}
-use Rattle.rules.specs.Reading.{most_pairs}
 use Rattle.rules.specs.Form.{state_scope, values_fit}
 use Rattle.rules.specs.Lists.{Entry}
 use Rattle.rules.specs.Running.{State, Ending, rejected, done, M, ◌>>=◌, pure, must, or_stuck, Worked, worked, is_fine, no_match, selected, run_transition}
@@ -317,7 +316,7 @@ module _ (nums directory ends : List ℕ) (scope : coded.Scope) (slots frame : L
             → RunsTransition nums directory ends scope slots slots₁ frame frame₁ at (Rejected no_match)
         unmatched-runs f =
             let there : FirstEqual nums (get_or ends (at + 1) 0 + 1) (get_or nums (get_or ends (at + 1) 0) 0) y.number
-                (get_or nums (get_or ends (at + 1) 0) 0)
+            (get_or nums (get_or ends (at + 1) 0) 0)
             = rw (q, e) at (found_none f) in
             record {
               runs = λ P used es s n T st w g.
