@@ -1,5 +1,5 @@
 -- The kinds of a table's keys, and whether the longest prefix wins.
-use mathlib.Core.Bool.{Bool, true, false}
+use mathlib.Core.Bool.{Bool, true, false, not}
 use mathlib.Core.Path.{◌≡◌, refl, sym, ◌∙◌}
 use mathlib.Core.List.{List, [], ◌∷◌}
 use Prim.Native.Nat.{ℕ, ◌+◌, ◌-◌, ◌^◌, ◌<◌}
@@ -90,22 +90,15 @@ any-ternary (k ∷ ks) = rw (one k.kind, any-ternary ks) refl
     one ternary = refl
 
 module _ (nums ends : List ℕ) (from count : ℕ) where
-  pub no-lpm : (a : Bool) → TellsAny nums ends 1 from count a → a ≡ false → TellsLongest nums ends from count false
+  pub no-lpm : (a : Bool) → TellsAny nums ends 1 from count a → a ≡ false → TellsLongest nums ends from count a
   unfolding longest_wins
   no-lpm a t e = record { told = λ ks s c. rw (← any-lpm ks, ← t.told ks s c, e) refl }
 
-  pub some-ternary : (a b : Bool) → TellsAny nums ends 1 from count a → a ≡ true → TellsAny nums ends 2 from count b
-      → b ≡ true → TellsLongest nums ends from count false
+  pub some-lpm : (a b : Bool) → TellsAny nums ends 1 from count a → a ≡ true → TellsAny nums ends 2 from count b
+      → TellsLongest nums ends from count (not b)
   unfolding longest_wins
-  some-ternary a b t e u f = record {
-    told = λ ks s c. rw (← any-lpm ks, ← t.told ks s c, e, ← any-ternary ks, ← u.told ks s c, f) refl;
+  some-lpm a b t e u = record {
+    told = λ ks s c. rw (← any-lpm ks, ← t.told ks s c, e, ← any-ternary ks, ← u.told ks s c) refl;
   }
 
-  pub only-lpm : (a b : Bool) → TellsAny nums ends 1 from count a → a ≡ true → TellsAny nums ends 2 from count b
-      → b ≡ false → TellsLongest nums ends from count true
-  unfolding longest_wins
-  only-lpm a b t e u f = record {
-    told = λ ks s c. rw (← any-lpm ks, ← t.told ks s c, e, ← any-ternary ks, ← u.told ks s c, f) refl;
-  }
-
-pub ruleset longest = (no-lpm, some-ternary, only-lpm)
+pub ruleset longest = (no-lpm, some-lpm)

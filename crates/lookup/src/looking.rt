@@ -26,15 +26,7 @@ pub(crate) fn longest_wins(source: &Source, from: usize, count: u64) -> bool
     requires { AsksKeys source.now.nums.now source.now.ends.now from count }
     ensures { TellsLongest source.now.nums.now source.now.ends.now from count result }
 {
-    if any_key(source, LPM, from, count) {
-        if any_key(source, TERNARY, from, count) {
-            false
-        } else {
-            true
-        }
-    } else {
-        false
-    }
+    any_key(source, LPM, from, count) && !any_key(source, TERNARY, from, count)
 }
 
 // The better of what was found and an entry behind it: ties go to the earlier.
@@ -43,12 +35,8 @@ fn better(longest: bool, best: Option<Best>, action: usize, prefix: u64) -> Best
 {
     match best {
         Some(earlier) => {
-            if longest {
-                if earlier.prefix < prefix {
-                    Best { action, prefix }
-                } else {
-                    earlier
-                }
+            if longest && earlier.prefix < prefix {
+                Best { action, prefix }
             } else {
                 earlier
             }

@@ -136,7 +136,8 @@ onward-is ended ending (ends-value v) e = let z : ◌≡◌ {A = ℕ} 0 1 = cc i
 onward-is ended ending ends-exited e = let z : ◌≡◌ {A = ℕ} 0 1 = cc in absurd (omega arith)
 onward-is ended ending ends-rejected e = let z : ◌≡◌ {A = ℕ} 0 1 = cc in absurd (omega arith)
 
-stops-is : (ended : Ended) (ending : Ending) (m : M State Ending) (s : State) → Ends ended ending
+-- an ending that does not go on stays as it is
+pub stops-is : (ended : Ended) (ending : Ending) (m : M State Ending) (s : State) → Ends ended ending
     → (ended ≡ Onward → ⊥) → and_then_run ending m s ≡ done ending s []
 unfolding and_then_run pure
 stops-is ended ending m s ends-onward n = absurd (n refl)

@@ -2,7 +2,7 @@
 use Rattle.program.specs.declared.Scope as coded
 use mathlib.Core.Bool.{Bool, true, false, false≢true}
 use mathlib.Core.Path.{◌≡◌, refl, ◌∙◌, sym}
-use mathlib.Core.List.{List, []}
+use mathlib.Core.List.{List}
 use Prim.Native.Nat.{ℕ, ◌+◌, ◌<◌}
 use native.Mathlib.Omega.{arith}
 use lib.ListN.{length, get_or}
@@ -10,31 +10,21 @@ use Rattle.rules.specs.Numbers.{most_bytes}
 use Rattle.rules.specs.Syntax.{ParserState, Program}
 use Rattle.rules.specs.Form.{state_scope}
 use Rattle.rules.specs.Lists.{Entry}
-use Rattle.rules.specs.Running.{State, Ending, onward, done, M, ◌>>=◌, pure, tick, and_then_run}
+use Rattle.rules.specs.Running.{State, Ending, onward, M, ◌>>=◌, tick, and_then_run}
 use Rattle.program.specs.Stands.{StandsState}
 use Rattle.program.specs.Looks.{Has, Finds, states_of, FoundState}
 use Rattle.program.proofs.Found.{member-in}
 use Rattle.program.proofs.Views.{stmt-begins}
 use Rattle.steps.specs.declared.Ended.{Ended}
 use Rattle.steps.specs.declared.Ended.TheVariants.{Onward, Returned, ReturnedValue, Exited, Rejected}
-use Rattle.steps.specs.Outcomes.{Goes, counter_of, Ran, Ends, ends-onward, ends-returned, ends-value, ends-exited, ends-rejected, AsksCount, Counts}
+use Rattle.steps.specs.Outcomes.{Goes, counter_of, Ran, Ends, AsksCount, Counts}
 use Rattle.steps.proofs.Going.{Begun, then-goes, counter-ticked, ran-here, ran_then}
 use Rattle.runner.specs.Runs.{stmt_in, Stage}
 use Rattle.runner.specs.Claims.{AsksStmt, RunsStmt}
 use Rattle.runner.specs.Parsing.{state_in, transition_in, TellsOn, AsksState, RunsState, AsksTransition, RunsTransition}
 use Rattle.runner.proofs.Stages.{store-count, count-asks, stage-counted, going-counted, ran-counted, stage-ran, going-rest}
-use Rattle.runner.proofs.Blocks.{onward-is}
+use Rattle.runner.proofs.Blocks.{onward-is, stops-is}
 use Rattle.runner.proofs.States.{AtState, then_leave, state-found, entered-is, left, left-counted}
-
--- an ending that does not go on stays as it is
-pub over-is : (ended : Ended) (ending : Ending) (m : M State Ending) (s : State) → Ends ended ending
-    → (ended ≡ Onward → ⊥) → and_then_run ending m s ≡ done ending s []
-unfolding and_then_run pure
-over-is ended ending m s ends-onward x = absurd (x refl)
-over-is ended ending m s ends-returned x = refl
-over-is ended ending m s (ends-value v) x = refl
-over-is ended ending m s ends-exited x = refl
-over-is ended ending m s ends-rejected x = refl
 
 pub onward-goes : (ending : Ending) (m : M State Ending) (s : State) → ending ≡ onward → and_then_run ending m s ≡ m s
 unfolding and_then_run
@@ -106,7 +96,7 @@ module _ (P : Program) (n : ℕ) {nums directory ends : List ℕ} {scope : coded
           → Ran nums directory ends scope slots slots₂ frame frame₂ (state_scope P) (state_in P used n s) (Ends ended)
       over-ran q = rw entered (ran-counted st _ c (ran_then (stmt_in (state_scope P) used es x.body)
           (then_leave P used n x) s h (ran-here h.state h.answer h.scene
-          (over-is ended h.answer (transition_in P used n x.transition) h.state h.answers q) h.answers)))
+          (stops-is ended h.answer (transition_in P used n x.transition) h.state h.answers q) h.answers)))
 
 -- from the numbers
 module _ (nums directory ends : List ℕ) (scope : coded.Scope) (slots frame : List ℕ) (n : ℕ) where

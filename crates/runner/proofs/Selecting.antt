@@ -11,7 +11,6 @@ use lib.ListN.{length, get_or}
 use borrow.Author.Tests.{eqb-true, eqb-false, eq-eqb, ne_eqb}
 use Rattle.rules.specs.Numbers.{most_bytes}
 use Rattle.rules.specs.Syntax.{Value, Pair, Transition, Program}
-use Rattle.rules.specs.Reading.{most_pairs}
 use Rattle.rules.specs.Form.{state_scope, values_fit}
 use Rattle.rules.specs.Lists.{Entry}
 use Rattle.rules.specs.Running.{State, Ending, rejected, done, M, ◌>>=◌, pure, must, or_stuck, Worked, worked, is_fine, no_match, selected, run_transition}
@@ -39,20 +38,8 @@ pub record Unequal (nums : List ℕ) (at count number i : ℕ) : Type 0 where
 pub equal-start : (nums : List ℕ) (at count number : ℕ) → AsksEqual nums at count → Unequal nums at count number 0
 equal-start nums at count number a = record { asks = a; up = omega arith; before = λ j h. absurd (omega arith) }
 
-pub record PairRoom (nums : List ℕ) (at i : ℕ) : Type 0 where
-  pub few : length nums ≤ most_bytes
-  pub inside : at + 2 * i < length nums
-  pub low : i < most_pairs
-
 module _ (nums : List ℕ) (at count number i : ℕ) (r : Unequal nums at count number i) where
   module _ (h : i < count) where
-    pub pair-room : PairRoom nums at i
-    pair-room = record {
-      few = r.asks.few;
-      inside = r.asks.inside i h;
-      low = omega (arith, r.asks.most);
-    }
-
     pub equal-more : (number ≡ get_or nums (at + 2 * i) 0 → ⊥) → Unequal nums at count number (i + 1)
     equal-more x = record { asks = r.asks; up = omega arith; before = before }
       where
@@ -329,7 +316,7 @@ module _ (nums directory ends : List ℕ) (scope : coded.Scope) (slots frame : L
             → RunsTransition nums directory ends scope slots slots₁ frame frame₁ at (Rejected no_match)
         unmatched-runs f =
             let there : FirstEqual nums (get_or ends (at + 1) 0 + 1) (get_or nums (get_or ends (at + 1) 0) 0) y.number
-                (get_or nums (get_or ends (at + 1) 0) 0)
+            (get_or nums (get_or ends (at + 1) 0) 0)
             = rw (q, e) at (found_none f) in
             record {
               runs = λ P used es s n T st w g.

@@ -27,7 +27,8 @@ use Rattle.runner.specs.Parsing.{parser_in, TellsOn, AsksParser, RunsParser}
 use Rattle.runner.specs.Whole.{Ready, program_run, AsksRun, RanWhole, RunsWhole, TellsSignal}
 use Rattle.runner.proofs.Stages.{stage-ran, going-rest}
 use Rattle.runner.proofs.Blocks.{onward-is}
-use Rattle.runner.proofs.Entering.{over-is, onward-goes}
+use Rattle.runner.proofs.Blocks.{stops-is}
+use Rattle.runner.proofs.Entering.{onward-goes}
 
 -- the signal
 signal-told : (ended : Ended) (ending : Ending) → Ends ended ending → (r : Ended) → ended ≡ r → (x : Signal)
@@ -168,7 +169,7 @@ module _ (nums directory ends slots frame : List ℕ) (store size : ℕ) where
             → Ran nums directory ends (apply_slots directory) begin slots₂ frame frame₂ (apply_scope P)
             (whole_run P es cells packet) (Ends parsed)
         over-ran q = ran_then (parser_in P used) (then_body P used es) s h (ran-here h.state h.answer h.scene
-            (over-is parsed h.answer (stmt_in (apply_scope P) used es P.body) h.state h.answers q)
+            (stops-is parsed h.answer (stmt_in (apply_scope P) used es P.body) h.state h.answers q)
             h.answers)
 
       whole-ran : {slots₂ frame₂ : List ℕ} {ended : Ended} {r : Signal}

@@ -39,7 +39,7 @@ pub fn count_step(slots: &mut [u64; STORE])
     requires { AsksCount slots.old }
     ensures { Counts slots.old slots.new }
 {
-    slots[COUNTER] = slots[COUNTER] + 1;
+    slots[COUNTER] += 1;
 }
 
 // A literal, a place, or whether a header is valid.

@@ -53,23 +53,8 @@ fill_start nums slots from count a = record {
   left = λ j h. refl;
 }
 
--- what the indices ask
-pub record FillRoom (nums slots : List ℕ) (from at : ℕ) : Type 0 where
-  pub few : length nums ≤ most_bytes
-  pub inside : from + at < length nums
-  pub slot : at < length slots
-  pub low : at < most_bytes
-
 module _ (nums slots₀ slots : List ℕ) (from count at : ℕ) (f : Filling nums slots₀ slots from count at) where
   module _ (h : at < count) where
-    pub fill-room : FillRoom nums slots from at
-    fill-room = record {
-      few = f.asks.numbers;
-      inside = f.asks.inside at h;
-      slot = omega (arith, f.asks.room, f.same);
-      low = omega (arith, f.asks.inside at h, f.asks.numbers);
-    }
-
     abbrev number : ℕ
     number = get_or nums (from + at) 0
 

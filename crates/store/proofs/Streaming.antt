@@ -2,11 +2,11 @@
 use mathlib.Core.Path.{◌≡◌, refl, sym, ap, ◌∙◌}
 use mathlib.Core.List.{List}
 use Prim.Native.Nat.{ℕ, ◌+◌, ◌-◌, ◌*◌, ◌/◌, ◌%◌, ◌^◌, ◌≤◌, ◌<◌}
-use native.Mathlib.Nat.{mod-lt, lt_of_lt_of_le}
+use native.Mathlib.Nat.{mod-lt}
 use native.Mathlib.Numerals.{add-one}
 use native.Mathlib.Omega.{arith}
 use lib.ListN.{length, get_or, set, take, drop, length-set, length-drop}
-use lib.Pow.{pow_mono, pow-add}
+use lib.Pow.{pow-add}
 use lib.Seq.{get_or-set_same, get_or-set_other, get_or-take, get_or-drop, length-take-le, take-take}
 use Rattle.rules.specs.Numbers.{most_bytes}
 use Rattle.rules.specs.Words.{widest}
@@ -29,22 +29,8 @@ pub read-start : (nums : List ℕ) (from first width : ℕ) → AsksBits nums fr
 unfolding number_of_bits
 read-start nums from first width a = record { asks = a; up = omega arith; small = omega arith; is = refl }
 
-pub record BitRoom (nums : List ℕ) (from bit number at : ℕ) : Type 0 where
-  pub few : length nums ≤ most_bytes
-  pub inside : from * 8 + bit < length nums * 8
-  pub low : at < widest
-  pub small : number < 2 ^ 63
-
 module _ (nums : List ℕ) (from first width number at : ℕ) (r : Reading nums from first width number at) where
   module _ (h : at < width) where
-    pub bit-room : BitRoom nums from (first + at) number at
-    bit-room = record {
-      few = r.asks.few;
-      inside = omega (arith, r.asks.inside);
-      low = omega (arith, r.asks.wide);
-      small = lt_of_lt_of_le r.small (pow_mono (let low : at ≤ 63 = omega (arith, r.asks.wide) in low));
-    }
-
     abbrev bit : ℕ
     bit = get_or nums (from + (first + at) / 8) 0 / 2 ^ (7 - (first + at) % 8) % 2
 

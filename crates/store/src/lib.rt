@@ -24,7 +24,14 @@ pub const POSITION: usize = 545;
 // How many slots the store has.
 pub const STORE: usize = 546;
 
-// What the place holds whose tag stands at an index: 2 a local, 3 a parameter, 4 a variable, 5 a field.
+// The tags of places. The last is that of a field, 5.
+const LOCAL: u64 = 2;
+
+const PARAMETER: u64 = 3;
+
+const VARIABLE: u64 = 4;
+
+// What the place holds whose tag stands at an index.
 pub fn read_place(
     source: &Source,
     scope: &Scope,
@@ -37,9 +44,9 @@ pub fn read_place(
 {
     let tag = source.nums[at];
     match tag {
-        2 => held_local(source.nums, scope, frame, at),
-        3 => held_parameter(source.nums, scope, frame, at),
-        4 => held_variable(source, slots, at),
+        LOCAL => held_local(source.nums, scope, frame, at),
+        PARAMETER => held_parameter(source.nums, scope, frame, at),
+        VARIABLE => held_variable(source, slots, at),
         _ => held_field(source, slots, at),
     }
 }
@@ -58,9 +65,9 @@ pub fn write_place(
 {
     let tag = source.nums[at];
     match tag {
-        2 => put_local(source.nums, scope, at, number, frame),
-        3 => put_parameter(source.nums, scope, at, number, frame),
-        4 => put_variable(source, at, number, slots),
+        LOCAL => put_local(source.nums, scope, at, number, frame),
+        PARAMETER => put_parameter(source.nums, scope, at, number, frame),
+        VARIABLE => put_variable(source, at, number, slots),
         _ => put_field(source, at, number, slots),
     }
 }
