@@ -16,7 +16,7 @@ use Rattle.lists.specs.Stands.{StandsPatterns, on_none, on-pattern}
 use Rattle.lookup.specs.Matching.{StandsAllWorked, widths_of, KeyPattern, AsksOne, prefix_behind, TellsOne, KeyPatterns, AsksMatch, Matched, matched, unmatched, TellsMatch}
 use Rattle.lookup.specs.declared.Match.{Match}
 use Rattle.std.specs.Prelude.{Option, Some, None, is_some, unwrap_or}
-use Rattle.core.specs.Option.{option_or}
+use Rattle.std.specs.Option.{option_or}
 
 -- keys of which some are left have a first
 record First (nums ends directory keys : List ℕ) (from count slot j at : ℕ) (ks : List Key) (ws : List Worked)
