@@ -227,13 +227,13 @@ next_agree p others direction ty t writable types places given d e f g =
 -- the parameters behind the one that comes next, and what weighing an argument against that one comes to
 record Others (nums : List ℕ) (o : Optional coded_parameter.Parameter) (next left : ℕ) (ps : List Parameter) : Type 0
   where
-  wanted : List Parameter
-  stand : StandsParameters nums next wanted
-  left_is : left ≡ length wanted
-  agrees : (t : ℕ) (writable : Bool) (behind : Agreed) (given : List Given) → behind.types ≡ types_agree wanted given
-      → behind.places ≡ places_agree wanted given
-      → told_passed (Ok (weighed o t writable behind))
-      ≡ ok (agreement ps (record { ty = ty_of t; writable = writable } ∷ given))
+    wanted : List Parameter
+    stand : StandsParameters nums next wanted
+    left_is : left ≡ length wanted
+    agrees : (t : ℕ) (writable : Bool) (behind : Agreed) (given : List Given) → behind.types ≡ types_agree wanted given
+        → behind.places ≡ places_agree wanted given
+        → told_passed (Ok (weighed o t writable behind))
+        ≡ ok (agreement ps (record { ty = ty_of t; writable = writable } ∷ given))
 
 others_of : (nums : List ℕ) (o : Optional coded_parameter.Parameter) (next left : ℕ) (ps : List Parameter)
     → WantedIf nums o next left ps → Others nums o next left ps

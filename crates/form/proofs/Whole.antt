@@ -1,6 +1,6 @@
 -- The whole program, in file order: its globals, its callables, its tables, its states, its apply body.
 use mathlib.Core.Bool.{Bool}
-use mathlib.Core.Path.{◌≡◌, sym, ◌∙◌}
+use mathlib.Core.Path.{◌≡◌, refl, sym, ◌∙◌}
 use mathlib.Core.List.{List}
 use Prim.Native.Nat.{ℕ}
 use lib.ListN.{get_or}

@@ -44,11 +44,7 @@ fn values_fit(nums: &[u64], width: u64, at: usize, count: u64) -> Formal
 {
     for i in 0..count as usize {
         let value = at + 2 * i;
-        rule(
-            Reason::Type,
-            value,
-            words::widths::fits(width, nums[value]),
-        )?;
+        rule(Reason::Type, value, words::widths::fits(width, nums[value]))?;
     }
     Ok(())
 }

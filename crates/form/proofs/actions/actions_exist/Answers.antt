@@ -5,22 +5,22 @@ use Rattle.form.proofs.OfActions.{existing}
 use Rattle.form.proofs.actions.actions_exist.Goals as goal
 
 pub overflow_add-action-end : goal.overflow_add-action-end
-overflow_add-action-end t c = search (existing, rules)
+overflow_add-action-end c = search (existing, rules)
 
 pub loop-action-init : goal.loop-action-init
-loop-action-init t c = search (existing, rules)
+loop-action-init c = search (existing, rules)
 
 pub offset_bounds-source-action : goal.offset_bounds-source-action
-offset_bounds-source-action t c = search (existing, rules)
+offset_bounds-source-action c = search (existing, rules)
 
 pub bounds-source-action : goal.bounds-source-action
-bounds-source-action t c = search (existing, rules)
+bounds-source-action c = search (existing, rules)
 
 pub returns-in_err-rule : goal.returns-in_err-rule
-returns-in_err-rule t c = let p = err_from_is_err_and c.from_residual.result c.from_residual.ensures.1 in rw (p.1, p.2) (search (existing, c.in_err-rule.ensures, rules))
+returns-in_err-rule c = let p = err_from_is_err_and c.from_residual.result c.from_residual.ensures.1 in rw (p.1, p.2) (search (existing, c.in_err-rule.ensures, rules))
 
 pub loop-action-preserved : goal.loop-action-preserved
-loop-action-preserved t c = search (existing, c.in_ok-rule.ensures, rules)
+loop-action-preserved c = search (existing, c.in_ok-rule.ensures, rules)
 
 pub returns : goal.returns
-returns t c = search (existing, rules)
+returns c = search (existing, rules)

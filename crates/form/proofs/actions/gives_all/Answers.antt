@@ -4,25 +4,25 @@ use Rattle.form.proofs.OfActions.{giving}
 use Rattle.form.proofs.actions.gives_all.Goals as goal
 
 pub loop-i-init : goal.loop-i-init
-loop-i-init t c = search (giving, rules)
+loop-i-init c = search (giving, rules)
 
 pub overflow_mul-i : goal.overflow_mul-i
-overflow_mul-i t c = search (giving, rules)
+overflow_mul-i c = search (giving, rules)
 
 pub overflow_add-at : goal.overflow_add-at
-overflow_add-at t c = search (giving, rules)
+overflow_add-at c = search (giving, rules)
 
 pub offset_bounds-nums-at : goal.offset_bounds-nums-at
-offset_bounds-nums-at t c = search (giving, rules)
+offset_bounds-nums-at c = search (giving, rules)
 
 pub bounds-nums-at : goal.bounds-nums-at
-bounds-nums-at t c = search (giving, rules)
+bounds-nums-at c = search (giving, rules)
 
 pub returns-then-nums-at-ne-NO_DIRECTION : goal.returns-then-nums-at-ne-NO_DIRECTION
-returns-then-nums-at-ne-NO_DIRECTION t c = search (giving, rules)
+returns-then-nums-at-ne-NO_DIRECTION c = search (giving, rules)
 
 pub loop-i-preserved : goal.loop-i-preserved
-loop-i-preserved t c = search (giving, rules)
+loop-i-preserved c = search (giving, rules)
 
 pub returns : goal.returns
-returns t c = search (giving, rules)
+returns c = search (giving, rules)

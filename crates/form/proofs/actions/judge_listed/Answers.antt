@@ -5,28 +5,28 @@ use Rattle.form.proofs.OfActions.{listing}
 use Rattle.form.proofs.actions.judge_listed.Goals as goal
 
 pub overflow_add-action-end : goal.overflow_add-action-end
-overflow_add-action-end t c = search (listing, rules)
+overflow_add-action-end c = search (listing, rules)
 
 pub loop-action-init : goal.loop-action-init
-loop-action-init t c = search (listing, rules)
+loop-action-init c = search (listing, rules)
 
 pub offset_bounds-source-action : goal.offset_bounds-source-action
-offset_bounds-source-action t c = search (listing, rules)
+offset_bounds-source-action c = search (listing, rules)
 
 pub bounds-source-action : goal.bounds-source-action
-bounds-source-action t c = search (listing, rules)
+bounds-source-action c = search (listing, rules)
 
 pub head_of-head-requires : goal.head_of-head-requires
-head_of-head-requires t c = search (listing, rules)
+head_of-head-requires c = search (listing, rules)
 
 pub gives_all-given-requires : goal.gives_all-given-requires
-gives_all-given-requires t c = search (listing, rules)
+gives_all-given-requires c = search (listing, rules)
 
 pub returns-in_err-rule : goal.returns-in_err-rule
-returns-in_err-rule t c = let p = err_from_is_err_and c.from_residual.result c.from_residual.ensures.1 in rw (p.1, p.2) (search (listing, c.in_err-rule.ensures, rules))
+returns-in_err-rule c = let p = err_from_is_err_and c.from_residual.result c.from_residual.ensures.1 in rw (p.1, p.2) (search (listing, c.in_err-rule.ensures, rules))
 
 pub loop-action-preserved : goal.loop-action-preserved
-loop-action-preserved t c = search (listing, c.in_ok-rule.ensures, rules)
+loop-action-preserved c = search (listing, c.in_ok-rule.ensures, rules)
 
 pub returns : goal.returns
-returns t c = search (listing, rules)
+returns c = search (listing, rules)

@@ -5,28 +5,28 @@ use Rattle.form.proofs.OfKinds.{kinds}
 use Rattle.form.proofs.keys.one_lpm.Goals as goal
 
 pub loop-init : goal.loop-init
-loop-init t c = search (kinds, rules)
+loop-init c = search (kinds, rules)
 
 pub offset_bounds-source-next : goal.offset_bounds-source-next
-offset_bounds-source-next t c = search (kinds, rules)
+offset_bounds-source-next c = search (kinds, rules)
 
 pub bounds-source-next : goal.bounds-source-next
-bounds-source-next t c = search (kinds, rules)
+bounds-source-next c = search (kinds, rules)
 
 pub returns-in_err-rule : goal.returns-in_err-rule
-returns-in_err-rule t c = let p = err_from_is_err_and c.from_residual.result c.from_residual.ensures.1 in rw (p.1, p.2) (search (kinds, c.in_err-rule.ensures, rules))
+returns-in_err-rule c = let p = err_from_is_err_and c.from_residual.result c.from_residual.ensures.1 in rw (p.1, p.2) (search (kinds, c.in_err-rule.ensures, rules))
 
 pub overflow_add-next : goal.overflow_add-next
-overflow_add-next t c = search (kinds, c.in_ok-rule.ensures, rules)
+overflow_add-next c = search (kinds, c.in_ok-rule.ensures, rules)
 
 pub offset_bounds-source-next-in-loop : goal.offset_bounds-source-next-in-loop
-offset_bounds-source-next-in-loop t c = search (kinds, c.in_ok-rule.ensures, rules)
+offset_bounds-source-next-in-loop c = search (kinds, c.in_ok-rule.ensures, rules)
 
 pub bounds-source-next-in-loop : goal.bounds-source-next-in-loop
-bounds-source-next-in-loop t c = search (kinds, c.in_ok-rule.ensures, rules)
+bounds-source-next-in-loop c = search (kinds, c.in_ok-rule.ensures, rules)
 
 pub loop-preserved : goal.loop-preserved
-loop-preserved t c = search (kinds, c.in_ok-rule.ensures, rules)
+loop-preserved c = search (kinds, c.in_ok-rule.ensures, rules)
 
 pub returns : goal.returns
-returns t c = search (kinds, rules)
+returns c = search (kinds, rules)

@@ -16,7 +16,7 @@ pub head_of-head-requires : goal.head_of-head-requires
 head_of-head-requires c = search (defaults, rules)
 
 pub literals_fit-requires : goal.literals_fit-requires
-literals_fit-requires c = literals-ask _ _ _ _ _ _ _ _ _ _ c.requires c.head_of-head.ensures c.if-nums-default.true
+literals_fit-requires c = literals-ask _ _ _ _ _ _ _ _ _ _ c.requires c.head_of-head.ensures c.if-source-default.true
 
 pub returns-then-source-default : goal.returns-then-source-default
 returns-then-source-default c = search (defaults, rules)
