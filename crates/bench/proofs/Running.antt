@@ -330,7 +330,7 @@ module _ (bytes nums results working : List ℕ) (reads : stream_of bytes ≡ nu
   module _ (a : Verdict) (e : v ≡ Ok a) where
     leaves : Leaves nums directory ends widths entries offsets a.ceiling a.store a.length
     leaves = accepted-leaves nums (replicate 217 0) directory (replicate 4096 0) ends (replicate 32 0) widths
-        (replicate 65 0) entries (replicate 33 0) offsets a.ceiling a.store a.length (rw e at j) (record {
+        (replicate 65 0) entries (replicate 33 0) offsets a (rw e at j) (record {
           lent = record { few = numbers-few bytes nums reads; slots = refl; room = refl };
           keys = refl;
         }) refl refl
