@@ -26,8 +26,13 @@ body_is kind returns (some t) k e =
 -- a callable's scope
 abbrev pub callable_scope : ℕ → ℕ → ℕ → ℕ → ℕ → ℕ → ℕ → coded.Scope
 callable_scope n parameters count locals local_count kind returns = record {
-  reach = n; parameters = parameters; parameter_count = count; locals = locals; local_count = local_count; kind = kind;
-  returns = returns
+  reach = n;
+  parameters = parameters;
+  parameter_count = count;
+  locals = locals;
+  local_count = local_count;
+  kind = kind;
+  returns = returns;
 }
 
 pub callable-scope : (nums directory ends : List ℕ) (n kind returns parameters count locals local_count body : ℕ)

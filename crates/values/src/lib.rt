@@ -48,10 +48,7 @@ pub struct Value {
 fn typed(ty: u64, number: u64) -> Value
     ensures { Made ty number result.ty result.number }
 {
-    Value {
-        ty,
-        number,
-    }
+    Value { ty, number }
 }
 
 // A truth as a value.
