@@ -10,9 +10,9 @@ use Rattle.form.specs.Claims.{Formal, told_form, JudgesForm}
 
 same-told : (r s : Formal) → told_form r ≡ told_form s → r ≡ s
 unfolding told_form
-same-told (Ok tt) (Ok tt) e = refl
-same-told (Ok tt) (Err f) e = let z : ◌≡◌ {A = ℕ} 0 1 = cc in absurd (omega arith)
-same-told (Err f) (Ok tt) e = let z : ◌≡◌ {A = ℕ} 0 1 = cc in absurd (omega arith)
+same-told (Ok a) (Ok b) e = refl
+same-told (Ok a) (Err f) e = let z : ◌≡◌ {A = ℕ} 0 1 = cc in absurd (omega arith)
+same-told (Err f) (Ok b) e = let z : ◌≡◌ {A = ℕ} 0 1 = cc in absurd (omega arith)
 same-told (Err f) (Err g) e = ap Err (fault-once f g e)
 
 -- the answer, and what the widths are left with
