@@ -2,7 +2,7 @@
 -- judgement.
 use Rattle.program.specs.declared.Scope as coded
 use mathlib.Core.Bool.{Bool, true, false}
-use mathlib.Core.Path.{◌≡◌, refl, sym, ap, ◌∙◌}
+use mathlib.Core.Path.{◌≡◌, refl, sym, ◌∙◌}
 use mathlib.Core.List.{List, [], ◌∷◌}
 use Prim.Native.Nat.{ℕ, ◌+◌, ◌-◌, ◌*◌, ◌%◌, ◌≤◌, ◌<◌}
 use native.Mathlib.Omega.{arith}
@@ -10,9 +10,9 @@ use mir.Syntax.{w64}
 use mir.Val.{Fits}
 use lib.ListN.{length, get_or}
 use lib.Dec.{eqb}
-use Rattle.std.specs.Prelude.{Some, None}
-use Rattle.std.specs.Prelude.{Option as Optional}
+use Rattle.std.specs.Prelude.{Ok, Err}
 use Rattle.rules.specs.declared.Reason.TheVariants as reason
+use Rattle.rules.specs.declared.Fault.{Fault}
 use Rattle.rules.specs.Numbers.{most_bytes}
 use Rattle.rules.specs.Words.{widest}
 use Rattle.rules.specs.Form.{ok, ◌>>=◌, named, need, global_at, Body, in_function, in_action, in_apply, in_state, sees_globals, bits_in, whole_bytes, judge_extracted, judge_global, is_state}
@@ -20,9 +20,9 @@ use Rattle.program.specs.Stands.{Holds, HoldsWithin, StandsWidths}
 use Rattle.bodies.specs.declared.Found.{Found}
 use Rattle.bodies.specs.declared.Found.TheVariants.{Variable, Header}
 use Rattle.bodies.specs.Claims.{Formed, refused, told_stmt}
-use Rattle.bodies.specs.Leaves.{AsksName, HeaderFound, FoundShape, FindsGlobal, AsksWidths, IsWhole}
+use Rattle.bodies.specs.Leaves.{AsksName, HeaderFound, FoundShape, NamesGlobal, AsksWidths, IsWhole}
 use Rattle.bodies.specs.Forms.{ruled, ruled_both, FormsIn, parsed_in, ExtractsIn}
-use Rattle.bodies.proofs.Plain.{shape_of, header-found, nothing-found, name-program}
+use Rattle.bodies.proofs.Plain.{shape_of, header-found, nothing-found, name-global}
 use Rattle.bodies.proofs.Forming.{unnamed}
 
 -- what is left of the widths: those from an index to an end, and the bits of those before them
@@ -150,38 +150,40 @@ in-state at true in_action = refl
 in-state at true in_apply = refl
 in-state at true in_state = refl
 
-module _ (nums directory ends : List ℕ) (scope : coded.Scope) (at : ℕ) (x : Optional Found)
-    (f : FindsGlobal nums directory ends (get_or nums (at + 1) 0) x) where
-  pub extract-of-variable : (y : Found) → x ≡ Some y → (t : ℕ) → y ≡ Variable t
-      → ExtractsIn nums directory ends scope at (refused reason.Type at)
-  unfolding FoundShape judge_global judge_extracted named ◌>>=◌ told_stmt
-  extract-of-variable y p t k = record {
-    judged = λ Γ s. rw (shape_of nums directory ends scope at x (Some (Variable t)) f (p ∙ ap Some k) Γ s).1;
-  }
-
-  pub extract-none : x ≡ None → ExtractsIn nums directory ends scope at (refused reason.Unnamed (at + 1))
+module _ (nums directory ends : List ℕ) (scope : coded.Scope) (at : ℕ) where
+  pub extract-none : (wrong : Fault) → NamesGlobal nums directory ends at (Err wrong)
+      → ExtractsIn nums directory ends scope at (Err wrong)
   unfolding judge_global named ◌>>=◌
-  extract-none e = record {
-    judged = λ Γ s. unnamed at ∙ rw (nothing-found nums directory ends scope at x f e Γ s);
+  extract-none wrong f = record {
+    judged = λ Γ s.
+        rw (nothing-found nums directory ends scope at wrong f Γ s).1
+        (unnamed at ∙ rw (nothing-found nums directory ends scope at wrong f Γ s).0);
   }
 
-  module _ (y : Found) (p : x ≡ Some y) (h : ℕ) (e : y ≡ Header h) where
-    pub extract-widths : AsksName nums directory ends scope at → AsksWidths nums h
-    extract-widths asks =
-        let q : HeaderFound nums h (global_at asks.scope_of.program (get_or nums (at + 1) 0))
-        = header-found nums directory ends scope at x f y p h e asks.scope_of asks.seen in
-        record { numbers = asks.seen.program.numbers; widths = q.widths; count = q.count; stand = q.stand }
-
-    pub extract-header : (whole : Bool) → IsWhole nums h whole → (r : Formed) → FormsIn scope (parsed_in at whole) r
-        → ExtractsIn nums directory ends scope at r
-    unfolding judge_global judge_extracted named ◌>>=◌
-    extract-header whole i r q = record {
-      judged = λ Γ s.
-          let k : HeaderFound nums h (global_at Γ.program (get_or nums (at + 1) 0))
-          = header-found nums directory ends scope at x f y p h e Γ s in
-          q.judged Γ.body s.body
-          ∙ in-state at whole Γ.body
-          ∙ rw (k.is, i.is k.widths k.count k.stand);
+  module _ (y : Found) (f : NamesGlobal nums directory ends at (Ok y)) where
+    pub extract-of-variable : (t : ℕ) → y ≡ Variable t → ExtractsIn nums directory ends scope at (refused reason.Type at)
+    unfolding FoundShape judge_global judge_extracted named ◌>>=◌ told_stmt
+    extract-of-variable t e = record {
+      judged = λ Γ s. rw (shape_of nums directory ends scope at y f (Variable t) e Γ s).1;
     }
 
-pub ruleset extracting = (name-program, extract-of-variable, extract-none, extract-widths, extract-header)
+    module _ (h : ℕ) (e : y ≡ Header h) where
+      pub extract-widths : AsksName nums directory ends scope at → AsksWidths nums h
+      extract-widths asks =
+          let q : HeaderFound nums h (global_at asks.scope_of.program (get_or nums (at + 1) 0))
+          = header-found nums directory ends scope at y f h e asks.scope_of asks.seen in
+          record { numbers = asks.seen.program.numbers; widths = q.widths; count = q.count; stand = q.stand }
+
+      pub extract-header : (whole : Bool) → IsWhole nums h whole → (r : Formed) → FormsIn scope (parsed_in at whole) r
+          → ExtractsIn nums directory ends scope at r
+      unfolding judge_global judge_extracted named ◌>>=◌
+      extract-header whole i r q = record {
+        judged = λ Γ s.
+            let k : HeaderFound nums h (global_at Γ.program (get_or nums (at + 1) 0))
+            = header-found nums directory ends scope at y f h e Γ s in
+            q.judged Γ.body s.body
+            ∙ in-state at whole Γ.body
+            ∙ rw (k.is, i.is k.widths k.count k.stand);
+      }
+
+pub ruleset extracting = (name-global, extract-of-variable, extract-none, extract-widths, extract-header)

@@ -2,14 +2,15 @@
 use Rattle.program.specs.declared.Scope as coded
 use mathlib.Core.Bool.{Bool, true, false}
 use mathlib.Core.Option.{none}
-use mathlib.Core.Path.{◌≡◌, refl, ap, ◌∙◌}
+use mathlib.Core.Path.{◌≡◌, refl, ◌∙◌}
 use mathlib.Core.List.{List}
 use Prim.Native.Nat.{ℕ, ◌+◌, ◌≤◌, ◌<◌}
 use native.Mathlib.Omega.{arith}
 use lib.ListN.{length, get_or}
-use Rattle.std.specs.Prelude.{Some, None}
+use Rattle.std.specs.Prelude.{Ok, Err, Some, None}
 use Rattle.std.specs.Prelude.{Option as Optional}
 use Rattle.rules.specs.declared.Reason.TheVariants as reason
+use Rattle.rules.specs.declared.Fault.{Fault}
 use Rattle.rules.specs.Numbers.{most_bytes}
 use Rattle.rules.specs.Words.{widest}
 use Rattle.rules.specs.Syntax.{bool, Place, local, parameter, global, field, Expr, read_of, place_in}
@@ -21,7 +22,7 @@ use Rattle.program.proofs.Views.{ExprView, BoolView, BitsView, PlaceView, ValidV
 use Rattle.bodies.specs.declared.Found.{Found}
 use Rattle.bodies.specs.declared.Found.TheVariants.{Variable, Header}
 use Rattle.bodies.specs.Claims.{Typed, refused, told_ty, TyMost}
-use Rattle.bodies.specs.Leaves.{Tells, IsWidth, bool_ty, bits_ty, AsksName, AsksFieldName, TypedIn, AsksSlot, SlotTyped, local_ty, parameter_ty, variable_ty, field_ty, header_ty, AsksProgram, HeaderFound, FoundShape, FindsGlobal, SeenTyped, AsksField, FieldTyped, AsksWritable, IsWritableParameter, IsWritable, AsksLeaf, JudgesLeaf}
+use Rattle.bodies.specs.Leaves.{Tells, IsWidth, bool_ty, bits_ty, AsksName, AsksFieldName, TypedIn, AsksSlot, SlotTyped, local_ty, parameter_ty, variable_ty, field_ty, header_ty, HeaderFound, FoundShape, FindsGlobal, AsksGlobal, NamedShape, NamesGlobal, SeenTyped, AsksField, FieldTyped, AsksWritable, IsWritableParameter, IsWritable, AsksLeaf, JudgesLeaf}
 use Rattle.bodies.proofs.Naming.{none_found}
 
 -- a bool behind what is asked alone
@@ -32,48 +33,44 @@ marked (fault number index) = refl
 
 -- a global by what it was found to be
 module _ (nums directory ends : List ℕ) (scope : coded.Scope) (at : ℕ) where
-  pub name-program : AsksName nums directory ends scope at → AsksProgram nums directory ends
-  name-program asks =
-      record { program = asks.scope_of.program; end = asks.seen.end; stands = asks.seen.program }
+  pub name-global : AsksName nums directory ends scope at → AsksGlobal nums directory ends at
+  name-global asks = record {
+    program = record { program = asks.scope_of.program; end = asks.seen.end; stands = asks.seen.program };
+    inside = asks.inside;
+  }
 
-  module _ (x y : Optional Found) (f : FindsGlobal nums directory ends (get_or nums (at + 1) 0) x) (e : x ≡ y) (Γ : Scope)
-      (s : StandsScope nums directory ends scope Γ) where
-    pub shape_of : FoundShape nums y (global_at Γ.program (get_or nums (at + 1) 0))
-    shape_of = rw e at (f.found Γ.program s.end s.program)
+  module _ (y : Found) (f : NamesGlobal nums directory ends at (Ok y)) where
+    pub shape_of : (z : Found) → y ≡ z → (Γ : Scope) → StandsScope nums directory ends scope Γ
+        → FoundShape nums (Some z) (global_at Γ.program (get_or nums (at + 1) 0))
+    unfolding NamedShape
+    shape_of z e Γ s = rw e at (f.named Γ.program s.end s.program)
 
-  module _ (x : Optional Found) (f : FindsGlobal nums directory ends (get_or nums (at + 1) 0) x) where
-    module _ (y : Found) (p : x ≡ Some y) (t : ℕ) (k : y ≡ Variable t) where
-      abbrev a_variable_found : x ≡ Some (Variable t)
-      a_variable_found = p ∙ ap Some k
-
+    module _ (t : ℕ) (e : y ≡ Variable t) where
       pub variable-most : AsksName nums directory ends scope at → t ≤ widest
       unfolding FoundShape
-      variable-most asks = (shape_of x (Some (Variable t)) f a_variable_found asks.scope_of asks.seen).0
+      variable-most asks = (shape_of (Variable t) e asks.scope_of asks.seen).0
 
       pub variable-seen : (r : Typed) → SeenTyped scope at t r
           → TypedIn nums directory ends scope (variable_ty nums at) r
       unfolding FoundShape variable_ty judge_place judge_global judge_variable named ◌>>=◌
       variable-seen r q = record {
-        judged = λ Γ s. rw (shape_of x (Some (Variable t)) f a_variable_found Γ s).1 (q.judged Γ.body s.body);
+        judged = λ Γ s. rw (shape_of (Variable t) e Γ s).1 (q.judged Γ.body s.body);
         most = q.most;
       }
 
       pub field-of-variable : TypedIn nums directory ends scope (field_ty nums at) (refused reason.Type at)
       unfolding FoundShape field_ty judge_place judge_global judge_field named ◌>>=◌ told_ty TyMost
-      field-of-variable = record { judged = λ Γ s. rw (shape_of x (Some (Variable t)) f a_variable_found Γ s).1; most = tt }
+      field-of-variable = record { judged = λ Γ s. rw (shape_of (Variable t) e Γ s).1; most = tt }
 
       pub header-of-variable : TypedIn nums directory ends scope (header_ty nums at) (refused reason.Type at)
       unfolding FoundShape header_ty judge_header_at judge_global judge_header named ◌>>=◌ told_ty TyMost
-      header-of-variable = record { judged = λ Γ s. rw (shape_of x (Some (Variable t)) f a_variable_found Γ s).1; most = tt }
+      header-of-variable = record { judged = λ Γ s. rw (shape_of (Variable t) e Γ s).1; most = tt }
 
-    module _ (y : Found) (p : x ≡ Some y) (h : ℕ) (k : y ≡ Header h) where
-      abbrev a_header_found : x ≡ Some (Header h)
-      a_header_found = p ∙ ap Some k
-
+    module _ (h : ℕ) (e : y ≡ Header h) where
       pub header-found : (Γ : Scope) → StandsScope nums directory ends scope Γ
           → HeaderFound nums h (global_at Γ.program (get_or nums (at + 1) 0))
       unfolding FoundShape
-      header-found Γ s = shape_of x (Some (Header h)) f a_header_found Γ s
+      header-found Γ s = shape_of (Header h) e Γ s
 
       pub variable-of-header : TypedIn nums directory ends scope (variable_ty nums at) (refused reason.Type at)
       unfolding variable_ty judge_place judge_global judge_variable named ◌>>=◌ told_ty TyMost
@@ -109,26 +106,48 @@ module _ (nums directory ends : List ℕ) (scope : coded.Scope) (at : ℕ) where
         most = q.most;
       }
 
-    module _ (e : x ≡ None) where
-      pub nothing-found : (Γ : Scope) → StandsScope nums directory ends scope Γ
-          → global_at Γ.program (get_or nums (at + 1) 0) ≡ none
-      unfolding FoundShape
-      nothing-found Γ s = shape_of x None f e Γ s
+  module _ (wrong : Fault) (f : NamesGlobal nums directory ends at (Err wrong)) where
+    pub nothing-found : (Γ : Scope) → StandsScope nums directory ends scope Γ
+        → (global_at Γ.program (get_or nums (at + 1) 0) ≡ none) × (wrong ≡ record { reason = reason.Unnamed; index = at + 1 })
+    unfolding NamedShape
+    nothing-found Γ s = f.named Γ.program s.end s.program
 
-      pub variable-none : TypedIn nums directory ends scope (variable_ty nums at) (refused reason.Unnamed (at + 1))
-      unfolding variable_ty judge_place judge_global named ◌>>=◌ TyMost
-      variable-none = record { judged = λ Γ s. none_found at ∙ rw (nothing-found Γ s); most = tt }
+    pub variable-none : TypedIn nums directory ends scope (variable_ty nums at) (Err wrong)
+    unfolding variable_ty judge_place judge_global named ◌>>=◌ TyMost
+    variable-none = record {
+      judged = λ Γ s. rw (nothing-found Γ s).1 (none_found at ∙ rw (nothing-found Γ s).0);
+      most = tt;
+    }
 
-      pub field-none : TypedIn nums directory ends scope (field_ty nums at) (refused reason.Unnamed (at + 1))
-      unfolding field_ty judge_place judge_global named ◌>>=◌ TyMost
-      field-none = record { judged = λ Γ s. none_found at ∙ rw (nothing-found Γ s); most = tt }
+    pub field-none : TypedIn nums directory ends scope (field_ty nums at) (Err wrong)
+    unfolding field_ty judge_place judge_global named ◌>>=◌ TyMost
+    field-none = record {
+      judged = λ Γ s. rw (nothing-found Γ s).1 (none_found at ∙ rw (nothing-found Γ s).0);
+      most = tt;
+    }
 
-      pub header-none : TypedIn nums directory ends scope (header_ty nums at) (refused reason.Unnamed (at + 1))
-      unfolding header_ty judge_header_at judge_global named ◌>>=◌ TyMost
-      header-none = record { judged = λ Γ s. none_found at ∙ rw (nothing-found Γ s); most = tt }
+    pub header-none : TypedIn nums directory ends scope (header_ty nums at) (Err wrong)
+    unfolding header_ty judge_header_at judge_global named ◌>>=◌ TyMost
+    header-none = record {
+      judged = λ Γ s. rw (nothing-found Γ s).1 (none_found at ∙ rw (nothing-found Γ s).0);
+      most = tt;
+    }
+
+-- the global whose number stands behind the tag
+module _ (nums directory ends : List ℕ) (at : ℕ) (x : Optional Found)
+    (f : FindsGlobal nums directory ends (get_or nums (at + 1) 0) x) where
+  pub global-named : (y : Found) → x ≡ Some y → NamesGlobal nums directory ends at (Ok y)
+  unfolding NamedShape
+  global-named y e = record { named = λ P end s. rw e at (f.found P end s) }
+
+  pub global-unnamed : x ≡ None → NamesGlobal nums directory ends at (refused reason.Unnamed (at + 1))
+  unfolding NamedShape FoundShape
+  global-unnamed e = record { named = λ P end s. (rw e at (f.found P end s), refl) }
+
+pub ruleset naming = (global-named, global-unnamed)
 
 pub ruleset shapes = (
-  name-program,
+  name-global,
   variable-most,
   variable-seen,
   variable-of-header,

@@ -1,8 +1,10 @@
 -- What the functions below the passes ask and promise: literals, operators, places and names.
 use Rattle.program.specs.declared.Scope as coded
-use Rattle.std.specs.Prelude.{Bool, true, false, ◌||◌, ◌≡◌, List, ℕ, ◌+◌, ◌≤◌, ◌<◌, eqb, length, get_or, Some, None}
+use Rattle.std.specs.Prelude.{Bool, true, false, ◌||◌, ◌≡◌, List, ℕ, ◌+◌, ◌≤◌, ◌<◌, eqb, length, get_or, Result, Ok, Err, Some, None}
 use Rattle.std.specs.Prelude.{Option as Optional}
 use Rattle.std.proofs.Math.Option.{Option, none, some}
+use Rattle.rules.specs.declared.Reason.TheVariants.{Unnamed}
+use Rattle.rules.specs.declared.Fault.{Fault}
 use Rattle.rules.specs.Numbers.{most_bytes}
 use Rattle.rules.specs.Words.{widest, slice_fits, slice_width, join_fits}
 use Rattle.rules.specs.Syntax.{Ty, bool, bits, Operator, local, parameter, global, field, header, Expr, Program, place_in}
@@ -186,6 +188,19 @@ FoundShape nums None s = s ≡ none
 
 pub record FindsGlobal (nums directory ends : List ℕ) (g : ℕ) (r : Optional Found) : Type 0 where
   pub found : (P : Program) (end : ℕ) → StandsProgram nums directory ends P end → FoundShape nums r (global_at P g)
+
+-- the global whose number stands behind the tag
+pub record AsksGlobal (nums directory ends : List ℕ) (at : ℕ) : Type 0 where
+  pub program : AsksProgram nums directory ends
+  pub inside : at + 1 < length nums
+
+unfoldable pub NamedShape : List ℕ → ℕ → Result Found Fault → Option Shape → Type 0
+NamedShape nums at (Ok found) s = FoundShape nums (Some found) s
+NamedShape nums at (Err f) s = (s ≡ none) × (f ≡ record { reason = Unnamed; index = at + 1 })
+
+pub record NamesGlobal (nums directory ends : List ℕ) (at : ℕ) (r : Result Found Fault) : Type 0 where
+  pub named : (P : Program) (end : ℕ) → StandsProgram nums directory ends P end
+      → NamedShape nums at r (global_at P (get_or nums (at + 1) 0))
 
 pub record FindsHeader (nums directory ends : List ℕ) (h : ℕ) (r : Optional Found) : Type 0 where
   pub found : (P : Program) (end : ℕ) → StandsProgram nums directory ends P end

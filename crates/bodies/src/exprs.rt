@@ -64,15 +64,8 @@ fn judge_args(
         let t = judge_expr(source, scope, depth, at)?;
         let wanted = wanted_at(source.nums, parameters, left);
         let next = source.ends[at] as usize;
-        let behind = judge_args(
-            source,
-            scope,
-            depth,
-            next,
-            count - 1,
-            wanted.next,
-            wanted.left,
-        )?;
+        let rest = count - 1;
+        let behind = judge_args(source, scope, depth, next, rest, wanted.next, wanted.left)?;
         let writable = writable_at(source.nums, scope, at);
         Ok(weigh(wanted, t, writable, behind))
     }

@@ -1,7 +1,7 @@
 // Names: locals, parameters, globals, fields and headers, and which places may be written.
 ghost use Rattle.std.specs.Prelude.{◌≤◌};
 ghost use Rattle.rules.specs.Words.{widest};
-ghost use Rattle.bodies.specs.Leaves.{AsksName, TypedIn, AsksSlot, SlotTyped, local_ty, parameter_ty, variable_ty, field_ty, header_ty, AsksProgram, FindsGlobal, FindsHeader, SeenTyped, AsksField, FieldTyped, AsksFieldName, AsksWidths, IsWhole, AsksWritable, IsWritable, AsksLeaf, JudgesLeaf, IsWritableParameter};
+ghost use Rattle.bodies.specs.Leaves.{AsksName, TypedIn, AsksSlot, SlotTyped, local_ty, parameter_ty, variable_ty, field_ty, header_ty, AsksProgram, FindsGlobal, AsksGlobal, NamesGlobal, FindsHeader, SeenTyped, AsksField, FieldTyped, AsksFieldName, AsksWidths, IsWhole, AsksWritable, IsWritable, AsksLeaf, JudgesLeaf, IsWritableParameter};
 ghost use Rattle.program.specs.In.{In};
 
 use super::types::{bits_type, bool_type};
@@ -72,6 +72,20 @@ pub fn global_at(source: &Source, g: usize) -> Option<Found>
     }
 }
 
+// The global whose number stands behind the tag.
+pub(crate) fn global_named(source: &Source, at: usize) -> Result<Found, Fault>
+    requires { In AsksGlobal source.now at }
+    ensures { In NamesGlobal source.now at result }
+{
+    match global_at(source, source.nums[at + 1] as usize) {
+        Some(found) => Ok(found),
+        None => Err(Fault {
+            reason: Reason::Unnamed,
+            index: at + 1,
+        }),
+    }
+}
+
 // A type behind a global, where globals are seen.
 fn seen_type(scope: &Scope, at: usize, t: u64) -> Typed
     requires { t ≤ widest }
@@ -92,15 +106,11 @@ fn variable_type(source: &Source, scope: &Scope, at: usize) -> Typed
     requires { In AsksName source.now scope.now at }
     ensures { TypedIn source.now.nums.now source.now.directory.now source.now.ends.now scope.now (variable_ty source.now.nums.now at) result }
 {
-    match global_at(source, source.nums[at + 1] as usize) {
-        Some(Found::Variable(t)) => seen_type(scope, at, t),
-        Some(Found::Header(_)) => Err(Fault {
+    match global_named(source, at)? {
+        Found::Variable(t) => seen_type(scope, at, t),
+        Found::Header(_) => Err(Fault {
             reason: Reason::Type,
             index: at,
-        }),
-        None => Err(Fault {
-            reason: Reason::Unnamed,
-            index: at + 1,
         }),
     }
 }
@@ -139,16 +149,12 @@ fn field_type(source: &Source, scope: &Scope, at: usize) -> Typed
     requires { In AsksFieldName source.now scope.now at }
     ensures { TypedIn source.now.nums.now source.now.directory.now source.now.ends.now scope.now (field_ty source.now.nums.now at) result }
 {
-    match global_at(source, source.nums[at + 1] as usize) {
-        Some(Found::Variable(_)) => Err(Fault {
+    match global_named(source, at)? {
+        Found::Variable(_) => Err(Fault {
             reason: Reason::Type,
             index: at,
         }),
-        Some(Found::Header(header)) => width_type(source.nums, scope, at, header),
-        None => Err(Fault {
-            reason: Reason::Unnamed,
-            index: at + 1,
-        }),
+        Found::Header(header) => width_type(source.nums, scope, at, header),
     }
 }
 
@@ -157,16 +163,12 @@ pub fn header_type(source: &Source, scope: &Scope, at: usize) -> Typed
     requires { In AsksName source.now scope.now at }
     ensures { TypedIn source.now.nums.now source.now.directory.now source.now.ends.now scope.now (header_ty source.now.nums.now at) result }
 {
-    match global_at(source, source.nums[at + 1] as usize) {
-        Some(Found::Variable(_)) => Err(Fault {
+    match global_named(source, at)? {
+        Found::Variable(_) => Err(Fault {
             reason: Reason::Type,
             index: at,
         }),
-        Some(Found::Header(_)) => seen_type(scope, at, 0),
-        None => Err(Fault {
-            reason: Reason::Unnamed,
-            index: at + 1,
-        }),
+        Found::Header(_) => seen_type(scope, at, 0),
     }
 }
 

@@ -7,7 +7,7 @@ ghost use Rattle.program.specs.In.{In};
 
 use super::exprs::{judge_call, judge_expr};
 use super::forms::{applied, called, left, parsed, returned, rules};
-use super::places::{global_at, header_type, judge_leaf, whole_bytes, writable_at};
+use super::places::{global_named, header_type, judge_leaf, whole_bytes, writable_at};
 use super::{Callee, Formed, Found};
 use program::{Scope, Source};
 use rules::{Fault, Reason};
@@ -71,19 +71,15 @@ fn judge_extract(source: &Source, scope: &Scope, at: usize) -> Formed
     requires { In AsksName source.now scope.now at }
     ensures { In ExtractsIn source.now scope.now at result }
 {
-    match global_at(source, source.nums[at + 1] as usize) {
-        Some(Found::Variable(_)) => Err(Fault {
+    match global_named(source, at)? {
+        Found::Variable(_) => Err(Fault {
             reason: Reason::Type,
             index: at,
         }),
-        Some(Found::Header(header)) => {
+        Found::Header(header) => {
             let whole = whole_bytes(source.nums, header);
             parsed(scope, at, whole)
         }
-        None => Err(Fault {
-            reason: Reason::Unnamed,
-            index: at + 1,
-        }),
     }
 }
 

@@ -14,19 +14,19 @@ pub judge_args-returns-in_err-t : goal.judge_args-returns-in_err-t
 judge_args-returns-in_err-t t c = let p = err_from_is_err_and c.from_residual.result c.from_residual.ensures.1 in rw (p.1, p.2) (search (judging, operating, calling, passing, descending, c.in_err-t.ensures, rules))
 
 pub judge_args-offset_bounds-source-at : goal.judge_args-offset_bounds-source-at
-judge_args-offset_bounds-source-at t c = search (judging, operating, calling, passing, descending, c.in_ok-t.ensures, rules)
+judge_args-offset_bounds-source-at t c = search (judging, operating, calling, passing, descending, rules)
 
 pub judge_args-bounds-source-at : goal.judge_args-bounds-source-at
-judge_args-bounds-source-at t c = search (judging, operating, calling, passing, descending, c.in_ok-t.ensures, rules)
+judge_args-bounds-source-at t c = search (judging, operating, calling, passing, descending, rules)
 
 pub judge_args-judge_args-requires : goal.judge_args-judge_args-requires
-judge_args-judge_args-requires t c = search (judging, operating, calling, passing, descending, c.in_ok-t.ensures, rules)
+judge_args-judge_args-requires t c = search (judging, operating, calling, passing, descending, rules)
 
 pub judge_args-returns-in_err-behind : goal.judge_args-returns-in_err-behind
 judge_args-returns-in_err-behind t c = let p = err_from_is_err_and c.from_residual-in_err-behind.result c.from_residual-in_err-behind.ensures.1 in rw (p.1, p.2) (search (judging, operating, calling, passing, descending, c.in_ok-t.ensures, c.in_err-behind.ensures, rules))
 
 pub judge_args-writable_at-writable-requires : goal.judge_args-writable_at-writable-requires
-judge_args-writable_at-writable-requires t c = search (judging, operating, calling, passing, descending, c.in_ok-t.ensures, c.in_ok-behind.ensures, rules)
+judge_args-writable_at-writable-requires t c = search (judging, operating, calling, passing, descending, rules)
 
 pub judge_args-returns-then-count-eq0 : goal.judge_args-returns-then-count-eq0
 judge_args-returns-then-count-eq0 t c = search (judging, operating, calling, passing, descending, rules)
@@ -44,7 +44,7 @@ pub judge_call-returns-in_err-agreed : goal.judge_call-returns-in_err-agreed
 judge_call-returns-in_err-agreed t c = let p = err_from_is_err_and c.from_residual.result c.from_residual.ensures.1 in rw (p.1, p.2) (search (judging, operating, calling, passing, descending, c.in_err-agreed.ensures, rules))
 
 pub judge_call-settle-requires : goal.judge_call-settle-requires
-judge_call-settle-requires t c = search (judging, operating, calling, passing, descending, c.in_ok-agreed.ensures, rules)
+judge_call-settle-requires t c = search (judging, operating, calling, passing, descending, rules)
 
 pub judge_call-returns-in_ok-agreed : goal.judge_call-returns-in_ok-agreed
 judge_call-returns-in_ok-agreed t c = search (judging, operating, calling, passing, descending, c.in_ok-agreed.ensures, rules)
@@ -77,13 +77,13 @@ pub judge_operands-returns-in_err-t : goal.judge_operands-returns-in_err-t
 judge_operands-returns-in_err-t t c = let p = err_from_is_err_and c.from_residual.result c.from_residual.ensures.1 in rw (p.1, p.2) (search (judging, operating, calling, passing, descending, c.in_err-t.ensures, rules))
 
 pub judge_operands-offset_bounds-source-first : goal.judge_operands-offset_bounds-source-first
-judge_operands-offset_bounds-source-first t c = search (judging, operating, calling, passing, descending, c.in_ok-t.ensures, rules)
+judge_operands-offset_bounds-source-first t c = search (judging, operating, calling, passing, descending, rules)
 
 pub judge_operands-bounds-source-first : goal.judge_operands-bounds-source-first
-judge_operands-bounds-source-first t c = search (judging, operating, calling, passing, descending, c.in_ok-t.ensures, rules)
+judge_operands-bounds-source-first t c = search (judging, operating, calling, passing, descending, rules)
 
 pub judge_operands-judge_expr-requires-then-operands : goal.judge_operands-judge_expr-requires-then-operands
-judge_operands-judge_expr-requires-then-operands t c = search (judging, operating, calling, passing, descending, c.in_ok-t.ensures, rules)
+judge_operands-judge_expr-requires-then-operands t c = search (judging, operating, calling, passing, descending, rules)
 
 pub judge_operands-returns-in_err-u : goal.judge_operands-returns-in_err-u
 judge_operands-returns-in_err-u t c = let p = err_from_is_err_and c.from_residual-in_err-u.result c.from_residual-in_err-u.ensures.1 in rw (p.1, p.2) (search (judging, operating, calling, passing, descending, c.in_ok-t.ensures, c.in_err-u.ensures, rules))

@@ -14,7 +14,7 @@ pub returns-in_err-u : goal.returns-in_err-u
 returns-in_err-u c = let p = err_from_is_err_and c.from_residual-in_err-u.result c.from_residual-in_err-u.ensures.1 in rw (p.1, p.2) (search (assigning, c.in_ok-t.ensures, c.in_err-u.ensures, rules))
 
 pub writable_at-writable-requires : goal.writable_at-writable-requires
-writable_at-writable-requires c = search (assigning, c.in_ok-t.ensures, c.in_ok-u.ensures, rules)
+writable_at-writable-requires c = search (assigning, rules)
 
 pub returns : goal.returns
 returns c = search (assigning, c.in_ok-t.ensures, c.in_ok-u.ensures, rules)

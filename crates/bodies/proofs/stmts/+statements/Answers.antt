@@ -12,7 +12,7 @@ pub judge_branches-returns-in_err-a : goal.judge_branches-returns-in_err-a
 judge_branches-returns-in_err-a t c = let p = err_from_is_err_and c.from_residual.result c.from_residual.ensures.1 in rw (p.1, p.2) (search (stating, branching, choosing, pending, sinking, c.in_err-a.ensures, rules))
 
 pub judge_branches-judge_stmt-requires-2 : goal.judge_branches-judge_stmt-requires-2
-judge_branches-judge_stmt-requires-2 t c = search (stating, branching, choosing, pending, sinking, c.in_ok-a.ensures, rules)
+judge_branches-judge_stmt-requires-2 t c = search (stating, branching, choosing, pending, sinking, rules)
 
 pub judge_branches-returns-in_err-b : goal.judge_branches-returns-in_err-b
 judge_branches-returns-in_err-b t c = let p = err_from_is_err_and c.from_residual-in_err-b.result c.from_residual-in_err-b.ensures.1 in rw (p.1, p.2) (search (stating, branching, choosing, pending, sinking, c.in_ok-a.ensures, c.in_err-b.ensures, rules))
@@ -27,7 +27,7 @@ pub judge_if-bounds-source-at : goal.judge_if-bounds-source-at
 judge_if-bounds-source-at t c = search (stating, branching, choosing, pending, sinking, c.in_ok-t.ensures, rules)
 
 pub judge_if-judge_branches-branches-requires : goal.judge_if-judge_branches-branches-requires
-judge_if-judge_branches-branches-requires t c = search (stating, branching, choosing, pending, sinking, c.in_ok-t.ensures, rules)
+judge_if-judge_branches-branches-requires t c = search (stating, branching, choosing, pending, sinking, rules)
 
 pub judge_if-returns : goal.judge_if-returns
 judge_if-returns t c = search (stating, branching, choosing, pending, sinking, c.in_ok-t.ensures, rules)

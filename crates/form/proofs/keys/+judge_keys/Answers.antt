@@ -14,19 +14,19 @@ pub returns-in_err-t : goal.returns-in_err-t
 returns-in_err-t t c = let p = err_from_is_err_and c.from_residual.result c.from_residual.ensures.1 in rw (p.1, p.2) (search (keyed, c.in_err-t.ensures, rules))
 
 pub overflow_add-next : goal.overflow_add-next
-overflow_add-next t c = search (keyed, c.in_ok-t.ensures, rules)
+overflow_add-next t c = search (keyed, rules)
 
 pub offset_bounds-source-at : goal.offset_bounds-source-at
-offset_bounds-source-at t c = search (keyed, c.in_ok-t.ensures, rules)
+offset_bounds-source-at t c = search (keyed, rules)
 
 pub bounds-source-at : goal.bounds-source-at
-bounds-source-at t c = search (keyed, c.in_ok-t.ensures, rules)
+bounds-source-at t c = search (keyed, rules)
 
 pub judge_keys-rest-requires : goal.judge_keys-rest-requires
 judge_keys-rest-requires t c = search (keyed, c.in_ok-t.ensures, rules)
 
 pub overflow_add-at-else-count-eq0 : goal.overflow_add-at-else-count-eq0
-overflow_add-at-else-count-eq0 t c = search (keyed, c.in_ok-t.ensures, rules)
+overflow_add-at-else-count-eq0 t c = search (keyed, rules)
 
 pub returns-then-count-eq0 : goal.returns-then-count-eq0
 returns-then-count-eq0 t c = search (keyed, rules)

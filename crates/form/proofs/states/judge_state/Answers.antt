@@ -17,7 +17,7 @@ pub bounds-source-at : goal.bounds-source-at
 bounds-source-at c = search (states, c.in_ok-judge_stmt.ensures, rules)
 
 pub judge_transition-requires : goal.judge_transition-requires
-judge_transition-requires c = search (states, c.in_ok-judge_stmt.ensures, rules)
+judge_transition-requires c = search (states, rules)
 
 pub returns : goal.returns
 returns c = search (states, c.in_ok-judge_stmt.ensures, rules)
