@@ -2,8 +2,10 @@
 use mathlib.Core.Bool.{Bool, true, false}
 use mathlib.Core.Path.{◌≡◌, refl, sym, ◌∙◌}
 use mathlib.Core.List.{List, [], ◌∷◌}
-use Prim.Native.Nat.{ℕ, zero, suc, ◌+◌, ◌-◌, ◌^◌, ◌≤◌, ◌<◌}
+use Prim.Native.Nat.{ℕ, zero, suc, ◌+◌, ◌-◌, ◌*◌, ◌^◌, ◌≤◌, ◌<◌, max}
+use native.Mathlib.Nat.{sub-zero}
 use native.Mathlib.Omega.{arith}
+use Rattle.std.specs.Ordering.{ord_max, nat_cmp}
 use lib.Dec.{eqb}
 use lib.ListN.{length, get_or, set, drop, length-set, replicate, get_or-replicate, drop_of_length-le}
 use lib.Seq.{get_or-set_same, get_or-set_other}
@@ -19,7 +21,7 @@ use Rattle.program.proofs.Members.{drop-member}
 use Rattle.ceiling.specs.Cut.{cut}
 use Rattle.ceiling.specs.Claims.{callee_below, applied_in, TablesKept, Setting, Counted, AsksExpr, CountsExpr, AsksStmt, CountsStmt}
 use Rattle.ceiling.specs.StateClaims.{Later, CountsLed, AsksDearest, CountsDearest, AsksTransition, CountsTransition, later_from, AsksState, CountsState, AsksStates, Worked, CountsStates, AsksParser, CountsParser}
-use Rattle.ceiling.proofs.Sums.{one-low, cut_low, cut-zero, cut-own, cut-both, cut-larger, cut-not-larger}
+use Rattle.ceiling.proofs.Sums.{larger-is, one-low, cut_low, cut-zero, cut-own, cut-both, cut-max}
 use Rattle.ceiling.proofs.Counting.{resumed}
 use Rattle.ceiling.proofs.CountingTables.{count-falls}
 
@@ -37,16 +39,10 @@ module _ (nums filled : List ℕ) (at count : ℕ) (a : AsksDearest nums filled 
   pair_of : PairView nums at count a.pairs
   pair_of = pair-view a.pairs a.stand a.counts n
 
-  pub pair_inside : at + 1 < length nums
+  pair_inside : at + 1 < length nums
   pair_inside = pair_of.state.holds.inside
 
-  pub pair-next : at + 1 < 2 ^ 64
-  pair-next = omega (arith, pair_inside, a.numbers)
-
-  pub pair-behind : at + 2 < 2 ^ 64
-  pair-behind = omega (arith, pair_inside, a.numbers)
-
-  pub pairs-rest : AsksDearest nums filled (at + 2) (count - 1)
+  pairs-rest : AsksDearest nums filled (at + 2) (count - 1)
   pairs-rest = record {
     later = a.later;
     fills = a.fills;
@@ -61,46 +57,72 @@ module _ (nums filled : List ℕ) (at count : ℕ) where
   no_pairs [] e = refl
   no_pairs (p ∷ ps) e = absurd (omega arith)
 
-  pub pairs-none : count ≡ 0 → CountsDearest nums filled at count 0
+  pairs-none : count ≡ 0 → CountsDearest nums filled at count 0
   unfolding largest_of
   pairs-none e = record {
     low = omega arith;
     counted = λ later ps f s k. rw (no_pairs ps (sym k ∙ e)) cut-zero;
   }
 
-  module _ (a : AsksDearest nums filled at count) (n : count ≡ 0 → ⊥) (one others : ℕ)
-      (c : CountsLed filled (get_or nums (at + 1) 0) one)
-      (d : CountsDearest nums filled (at + 2) (count - 1) others) where
-    pub dearer-others : one < others → CountsDearest nums filled at count others
-    unfolding largest_of
-    dearer-others l = record {
-      low = d.low;
-      counted = λ later ps f s k.
-          let v : PairView nums at count ps = pair-view ps s k n in
-          rw v.same (cut-larger one others _ _ (rw v.state.holds.is at (c.counted later f))
-          (d.counted later v.others f v.rest v.fewer) l);
+  pairs-more : (one others : ℕ) → AsksDearest nums filled at count → (count ≡ 0 → ⊥)
+      → CountsLed filled (get_or nums (at + 1) 0) one → CountsDearest nums filled (at + 2) (count - 1) others
+      → CountsDearest nums filled at count (max one others)
+  unfolding largest_of
+  pairs-more one others a n c d = record {
+    low = omega (arith, cut_low one _ (c.counted a.later a.fills), d.low);
+    counted = λ later ps f s k.
+        let v : PairView nums at count ps = pair-view ps s k n in
+        rw v.same (cut-max one others _ _ (rw v.state.holds.is at (c.counted later f))
+        (d.counted later v.others f v.rest v.fewer));
+  }
+
+-- so many pairs, of which some are done
+pub record PairsLeft (nums filled : List ℕ) (at count most done : ℕ) : Type 0 where
+  pub asks : AsksDearest nums filled (at + 2 * done) (count - done)
+  pub rest : (others r : ℕ) → CountsDearest nums filled (at + 2 * done) (count - done) others → r ≡ max most others
+      → CountsDearest nums filled at count r
+
+pub pairs-begin : (nums filled : List ℕ) (at count : ℕ) → AsksDearest nums filled at count
+    → PairsLeft nums filled at count 0 0
+pairs-begin nums filled at count a =
+    let o : at + 2 * 0 ≡ at = omega arith in
+    record {
+      asks = rw (sub-zero, o) a;
+      rest = λ others r c e. let same : r ≡ others = omega (arith, e) in rw same (rw (sub-zero, o) at c);
     }
 
-    pub dearer-one : others ≤ one → CountsDearest nums filled at count one
-    unfolding largest_of
-    dearer-one l = record {
-      low = cut_low one _ (c.counted a.later a.fills);
-      counted = λ later ps f s k.
-          let v : PairView nums at count ps = pair-view ps s k n in
-          rw v.same (cut-not-larger one others _ _ (rw v.state.holds.is at (c.counted later f))
-          (d.counted later v.others f v.rest v.fewer) l);
+module _ (nums filled : List ℕ) (at count most done : ℕ) (w : PairsLeft nums filled at count most done) where
+  module _ (m : done < count) where
+    more : count - done ≡ 0 → ⊥
+    more e = omega (arith, e)
+
+    fewer : count - done - 1 ≡ count - (done + 1)
+    fewer = omega arith
+
+    further : at + 2 * done + 2 ≡ at + 2 * (done + 1)
+    further = omega arith
+
+    pub pairs-inside_of : at + 2 * done + 1 < length nums
+    pairs-inside_of = pair_inside nums filled (at + 2 * done) (count - done) w.asks more
+
+    pub pairs-next : at + 2 * done + 1 < 2 ^ 64
+    pairs-next = omega (arith, pairs-inside_of, w.asks.numbers)
+
+    pub pairs-again : (one most₁ : ℕ) → CountsLed filled (get_or nums (at + 2 * done + 1) 0) one
+        → most₁ ≡ ord_max nat_cmp most one
+        → PairsLeft nums filled at count most₁ (done + 1)
+    pairs-again one most₁ c e = record {
+      asks = rw (← further, ← fewer) (pairs-rest nums filled (at + 2 * done) (count - done) w.asks more);
+      rest = λ others r d f.
+          w.rest (max one others) r
+          (pairs-more nums filled (at + 2 * done) (count - done) one others w.asks more c (rw (← further, ← fewer) at d))
+          (omega (arith, larger-is most one most₁ e, f));
     }
 
-pub ruleset pairs_counted = (
-  count-falls,
-  pair_inside,
-  pair-next,
-  pair-behind,
-  pairs-rest,
-  pairs-none,
-  dearer-others,
-  dearer-one,
-)
+  pub pairs-end : count ≤ done → CountsDearest nums filled at count most
+  pairs-end m = w.rest 0 most (pairs-none nums filled (at + 2 * done) (count - done) (omega arith)) (omega arith)
+
+pub ruleset pairs_counted = (pairs-inside_of, pairs-next, pairs-begin, pairs-again, pairs-end)
 
 -- a transition, by its tag
 module _ {nums ends : List ℕ} {at : ℕ} where

@@ -2,14 +2,16 @@
 use mathlib.Core.Bool.{Bool, true, false}
 use mathlib.Core.Path.{◌≡◌, refl, sym, ◌∙◌}
 use mathlib.Core.List.{List, [], ◌∷◌}
-use Prim.Native.Nat.{ℕ, zero, suc, ◌+◌, ◌-◌, ◌≤◌, ◌<◌}
+use Prim.Native.Nat.{ℕ, zero, suc, ◌+◌, ◌-◌, ◌≤◌, ◌<◌, ◌^◌, max}
+use native.Mathlib.Nat.{add-zero, sub-zero}
 use native.Mathlib.Omega.{arith}
+use Rattle.std.specs.Ordering.{ord_max, nat_cmp}
 use lib.Dec.{eqb}
 use lib.ListN.{length, get_or, get_elem?, set, length-set}
 use lib.Seq.{get_or-set_same, get_or-set_other}
 use borrow.Author.Tests.{eqb-true, eqb-false}
 use Rattle.rules.specs.Syntax.{Numeral, Key, Table, Program}
-use Rattle.rules.specs.Ceiling.{ceiling_expr, ceiling_keys, largest_of, ceiling_table}
+use Rattle.rules.specs.Ceiling.{most_steps, ceiling_expr, ceiling_keys, largest_of, ceiling_table}
 use Rattle.program.specs.Stands.{StandsNumerals}
 use Rattle.program.specs.Looks.{Has, Finds, tables_of, FoundTable}
 use Rattle.program.proofs.Views.{expr-begins}
@@ -18,7 +20,7 @@ use Rattle.program.proofs.Found.{At, member-at}
 use Rattle.ceiling.specs.Cut.{cut}
 use Rattle.ceiling.specs.Claims.{callee_below, Counted, AsksExpr, CountsExpr, AsksCall, CountsCall}
 use Rattle.ceiling.specs.Claims.{AsksKeys, CountsKeys, AsksLargest, CountsLargest, AsksTable, CountsTable, FilledTo, AsksTables, CountsTables}
-use Rattle.ceiling.proofs.Sums.{cut_low, cut-zero, cut-both, cut-larger, cut-not-larger, below}
+use Rattle.ceiling.proofs.Sums.{larger-is, cut_low, cut-zero, cut-both, cut-max, cut-again, cut-only, cut-alone, below}
 use Rattle.ceiling.proofs.Counting.{resumed}
 
 pub count-falls : (t count : ℕ) → count ≡ t → (count ≡ 0 → ⊥) → count - 1 < t
@@ -35,14 +37,14 @@ module _ (nums directory ends kept : List ℕ) (reach at count : ℕ) (a : AsksK
   asked-key : FirstKey nums ends at count a.keys
   asked-key = first_key nums ends at count a.keys a.stand a.counts n
 
-  pub key-room : KeyRoom nums ends at
+  key-room : KeyRoom nums ends at
   key-room = record {
     inside = (expr-begins asked-key.stands).inside;
     numbers = a.setting.stands.numbers;
     room = a.setting.stands.room;
   }
 
-  pub key-asks : AsksExpr nums directory ends kept reach 32 (at + 1)
+  key-asks : AsksExpr nums directory ends kept reach 32 (at + 1)
   key-asks = record {
     program = a.program;
     expr = asked-key.first.expr;
@@ -51,7 +53,7 @@ module _ (nums directory ends kept : List ℕ) (reach at count : ℕ) (a : AsksK
     deep = omega arith;
   }
 
-  pub keys-rest : (kept₁ : List ℕ) (one : ℕ) → CountsExpr nums directory ends kept kept₁ reach 32 (at + 1) one
+  keys-rest : (kept₁ : List ℕ) (one : ℕ) → CountsExpr nums directory ends kept kept₁ reach 32 (at + 1) one
       → AsksKeys nums directory ends kept₁ reach (get_or ends (at + 1) 0) (count - 1)
   keys-rest kept₁ one c = record {
     program = a.program;
@@ -66,14 +68,14 @@ module _ (nums directory ends kept : List ℕ) (reach at count : ℕ) where
   no_keys [] e = refl
   no_keys (k ∷ ks) e = absurd (omega arith)
 
-  pub keys_none : count ≡ 0 → CountsKeys nums directory ends kept kept reach at count 0
+  keys_none : count ≡ 0 → CountsKeys nums directory ends kept kept reach at count 0
   unfolding ceiling_keys
   keys_none e = record {
     low = omega arith;
     counted = λ P ks s w k. rw (no_keys ks (sym k ∙ e)) (record { is = cut-zero; keeps = s.keeps });
   }
 
-  pub keys-counted : (kept₁ kept₂ : List ℕ) (one others r : ℕ) → (count ≡ 0 → ⊥)
+  keys-counted : (kept₁ kept₂ : List ℕ) (one others r : ℕ) → (count ≡ 0 → ⊥)
       → CountsExpr nums directory ends kept kept₁ reach 32 (at + 1) one
       → CountsKeys nums directory ends kept₁ kept₂ reach (get_or ends (at + 1) 0) (count - 1) others
       → r ≡ cut (one + others) → CountsKeys nums directory ends kept kept₂ reach at count r
@@ -89,7 +91,58 @@ module _ (nums directory ends kept : List ℕ) (reach at count : ℕ) where
         rw v.same (record { is = cut-both one others r _ _ p.is q.is e; keeps = q.keeps });
   }
 
-pub ruleset counting_keys = (cut_low, count-falls, key-asks, keys-rest, keys_none, keys-counted)
+-- so many keys, of which some are summed
+pub record KeysSummed (nums directory ends kept : List ℕ) (reach at count : ℕ) (kept₁ : List ℕ) (total here done : ℕ)
+    : Type 0 where
+  pub low : total ≤ suc most_steps
+  pub asks : AsksKeys nums directory ends kept₁ reach here (count - done)
+  pub rest : (kept₂ : List ℕ) (others r : ℕ)
+      → CountsKeys nums directory ends kept₁ kept₂ reach here (count - done) others → r ≡ cut (total + others)
+      → CountsKeys nums directory ends kept kept₂ reach at count r
+
+pub keys-begin : (nums directory ends kept : List ℕ) (reach at count : ℕ)
+    → AsksKeys nums directory ends kept reach at count
+    → KeysSummed nums directory ends kept reach at count kept 0 at 0
+keys-begin nums directory ends kept reach at count a = record {
+  low = omega arith;
+  asks = rw sub-zero a;
+  rest = λ kept₂ others r c e. rw (e ∙ cut-only others c.low) (rw sub-zero at c);
+}
+
+module _ (nums directory ends kept : List ℕ) (reach at count : ℕ) (kept₁ : List ℕ) (total here done : ℕ)
+    (w : KeysSummed nums directory ends kept reach at count kept₁ total here done)
+  where
+    module _ (m : done < count) where
+      more : count - done ≡ 0 → ⊥
+      more e = omega (arith, e)
+
+      fewer : count - done - 1 ≡ count - (done + 1)
+      fewer = omega arith
+
+      pub keys-room : KeyRoom nums ends here
+      keys-room = key-room nums directory ends kept₁ reach here (count - done) w.asks more
+
+      pub keys-asks : AsksExpr nums directory ends kept₁ reach 32 (here + 1)
+      keys-asks = key-asks nums directory ends kept₁ reach here (count - done) w.asks more
+
+      pub keys-again : (kept₂ : List ℕ) (one total₁ : ℕ)
+          → CountsExpr nums directory ends kept₁ kept₂ reach 32 (here + 1) one → total₁ ≡ cut (total + one)
+          → KeysSummed nums directory ends kept reach at count kept₂ total₁ (get_or ends (here + 1) 0) (done + 1)
+      keys-again kept₂ one total₁ c e = record {
+        low = cut_low total₁ (total + one) e;
+        asks = rw (← fewer) (keys-rest nums directory ends kept₁ reach here (count - done) w.asks more kept₂ one c);
+        rest = λ kept₃ others r d f.
+            w.rest kept₃ (cut (one + others)) r
+            (keys-counted nums directory ends kept₁ reach here (count - done) kept₂ kept₃ one others
+            (cut (one + others)) more c (rw (← fewer) at d) refl)
+            (cut-again total one total₁ others r e f);
+      }
+
+    pub keys-end : count ≤ done → CountsKeys nums directory ends kept kept₁ reach at count total
+    keys-end m = w.rest kept₁ 0 total (keys_none nums directory ends kept₁ reach here (count - done) (omega arith))
+        (cut-alone total w.low)
+
+pub ruleset counting_keys = (cut_low, keys-begin, keys-asks, keys-again, keys-end)
 
 pub record ActionRoom (nums : List ℕ) (at : ℕ) : Type 0 where
   pub inside : at < length nums
@@ -101,13 +154,13 @@ module _ (nums directory ends kept : List ℕ) (reach at count : ℕ)
   first-action : FirstNumeral nums at count a.actions
   first-action = first-numeral nums at count a.actions a.stand a.counts n
 
-  pub action-room : ActionRoom nums at
+  action-room : ActionRoom nums at
   action-room = record { inside = first-action.stands.holds.inside; numbers = a.setting.stands.numbers }
 
-  pub action-asks : AsksCall nums directory ends kept reach
+  action-asks : AsksCall nums directory ends kept reach
   action-asks = record { program = a.program; setting = a.setting }
 
-  pub actions-rest : (kept₁ : List ℕ) (f one : ℕ) → CountsCall nums directory ends kept kept₁ reach f one
+  actions-rest : (kept₁ : List ℕ) (f one : ℕ) → CountsCall nums directory ends kept kept₁ reach f one
       → AsksLargest nums directory ends kept₁ reach (at + 1) (count - 1)
   actions-rest kept₁ f one c = record {
     program = a.program;
@@ -122,43 +175,98 @@ module _ (nums directory ends kept : List ℕ) (reach at count : ℕ) where
   no-actions [] e = refl
   no-actions (k ∷ ks) e = absurd (omega arith)
 
-  pub actions-none : count ≡ 0 → CountsLargest nums directory ends kept kept reach at count 0
+  actions-none : count ≡ 0 → CountsLargest nums directory ends kept kept reach at count 0
   unfolding largest_of
   actions-none e = record {
     low = omega arith;
     counted = λ P ns s w k. rw (no-actions ns (sym k ∙ e)) (record { is = cut-zero; keeps = s.keeps });
   }
 
-  module _ (kept₁ kept₂ : List ℕ) (one others : ℕ) (n : count ≡ 0 → ⊥)
-      (c : CountsCall nums directory ends kept kept₁ reach (get_or nums at 0) one)
-      (d : CountsLargest nums directory ends kept₁ kept₂ reach (at + 1) (count - 1) others) where
-    pub larger-others : one < others → CountsLargest nums directory ends kept kept₂ reach at count others
-    unfolding largest_of
-    larger-others l = record {
-      low = d.low;
-      counted = λ P ns s w k.
-          let v : FirstNumeral nums at count ns = first-numeral nums at count ns w k n in
-          let p : Counted P (callee_below P reach v.first.number) one kept₁ = rw v.stands.holds.is at
-          (c.counted P s) in
-          let q : Counted P (largest_of (callee_below P reach) v.others) others kept₂
-          = d.counted P v.others (resumed s p) v.rest v.fewer in
-          rw v.same (record { is = cut-larger one others _ _ p.is q.is l; keeps = q.keeps });
-    }
+  actions-more : (kept₁ kept₂ : List ℕ) (one others : ℕ) → (count ≡ 0 → ⊥)
+      → CountsCall nums directory ends kept kept₁ reach (get_or nums at 0) one
+      → CountsLargest nums directory ends kept₁ kept₂ reach (at + 1) (count - 1) others
+      → CountsLargest nums directory ends kept kept₂ reach at count (max one others)
+  unfolding largest_of
+  actions-more kept₁ kept₂ one others n c d = record {
+    low = omega (arith, c.low, d.low);
+    counted = λ P ns s w k.
+        let v : FirstNumeral nums at count ns = first-numeral nums at count ns w k n in
+        let p : Counted P (callee_below P reach v.first.number) one kept₁ = rw v.stands.holds.is at
+        (c.counted P s) in
+        let q : Counted P (largest_of (callee_below P reach) v.others) others kept₂
+        = d.counted P v.others (resumed s p) v.rest v.fewer in
+        rw v.same (record { is = cut-max one others _ _ p.is q.is; keeps = q.keeps });
+  }
 
-    pub larger-one : others ≤ one → CountsLargest nums directory ends kept kept₂ reach at count one
-    unfolding largest_of
-    larger-one l = record {
-      low = c.low;
-      counted = λ P ns s w k.
-          let v : FirstNumeral nums at count ns = first-numeral nums at count ns w k n in
-          let p : Counted P (callee_below P reach v.first.number) one kept₁ = rw v.stands.holds.is at
-          (c.counted P s) in
-          let q : Counted P (largest_of (callee_below P reach) v.others) others kept₂
-          = d.counted P v.others (resumed s p) v.rest v.fewer in
-          rw v.same (record { is = cut-not-larger one others _ _ p.is q.is l; keeps = q.keeps });
-    }
+-- so many actions, of which some are done
+pub record ActionsLeft (nums directory ends kept : List ℕ) (reach at count : ℕ) (kept₁ : List ℕ) (most done : ℕ)
+    : Type 0 where
+  pub asks : AsksLargest nums directory ends kept₁ reach (at + done) (count - done)
+  pub rest : (kept₂ : List ℕ) (others r : ℕ)
+      → CountsLargest nums directory ends kept₁ kept₂ reach (at + done) (count - done) others → r ≡ max most others
+      → CountsLargest nums directory ends kept kept₂ reach at count r
 
-pub ruleset counting_actions = (count-falls, action-asks, actions-rest, actions-none, larger-others, larger-one)
+pub actions-begin : (nums directory ends kept : List ℕ) (reach at count : ℕ)
+    → AsksLargest nums directory ends kept reach at count
+    → ActionsLeft nums directory ends kept reach at count kept 0 0
+actions-begin nums directory ends kept reach at count a = record {
+  asks = rw (sub-zero, add-zero) a;
+  rest = λ kept₂ others r c e.
+      let same : r ≡ others = omega (arith, e) in rw same (rw (sub-zero, add-zero) at c);
+}
+
+module _ (nums directory ends kept : List ℕ) (reach at count : ℕ) (kept₁ : List ℕ) (most done : ℕ)
+    (w : ActionsLeft nums directory ends kept reach at count kept₁ most done)
+  where
+    module _ (m : done < count) where
+      more-actions : count - done ≡ 0 → ⊥
+      more-actions e = omega (arith, e)
+
+      fewer-actions : count - done - 1 ≡ count - (done + 1)
+      fewer-actions = omega arith
+
+      further : at + done + 1 ≡ at + (done + 1)
+      further = omega arith
+
+      pub actions-inside : at + done < length nums
+      actions-inside = (action-room nums directory ends kept₁ reach (at + done) (count - done) w.asks more-actions).inside
+
+      pub actions-next : at + done < 2 ^ 64
+      actions-next = omega (
+        arith,
+        actions-inside,
+        (action-room nums directory ends kept₁ reach (at + done) (count - done) w.asks more-actions).numbers,
+      )
+
+      pub actions-asks : AsksCall nums directory ends kept₁ reach
+      actions-asks = action-asks nums directory ends kept₁ reach (at + done) (count - done) w.asks more-actions
+
+      pub actions-again : (kept₂ : List ℕ) (one most₁ : ℕ)
+          → CountsCall nums directory ends kept₁ kept₂ reach (get_or nums (at + done) 0) one
+          → most₁ ≡ ord_max nat_cmp most one
+          → ActionsLeft nums directory ends kept reach at count kept₂ most₁ (done + 1)
+      actions-again kept₂ one most₁ c e = record {
+        asks = rw (← further, ← fewer-actions)
+            (actions-rest nums directory ends kept₁ reach (at + done) (count - done) w.asks more-actions kept₂ _ one c);
+        rest = λ kept₃ others r d f.
+            w.rest kept₃ (max one others) r
+            (actions-more nums directory ends kept₁ reach (at + done) (count - done) kept₂ kept₃ one others more-actions
+            c (rw (← further, ← fewer-actions) at d))
+            (omega (arith, larger-is most one most₁ e, f));
+      }
+
+    pub actions-end : count ≤ done → CountsLargest nums directory ends kept kept₁ reach at count most
+    actions-end m = w.rest kept₁ 0 most
+        (actions-none nums directory ends kept₁ reach (at + done) (count - done) (omega arith)) (omega arith)
+
+pub ruleset counting_actions = (
+  actions-inside,
+  actions-next,
+  actions-begin,
+  actions-asks,
+  actions-again,
+  actions-end,
+)
 
 -- a table
 found-actions : (nums ends : List ℕ) (at actions default : ℕ) (T : Table) → FoundTable nums ends at actions default T
@@ -242,10 +350,10 @@ pub ruleset counting_table = (table-has, table-keys, table-actions, table_counte
 module _ (nums directory ends kept filled : List ℕ) (reach t : ℕ)
     (a : AsksTables nums directory ends kept filled reach t)
     (m : t < get_or directory 59 0) where
-  pub tables-slot : t < 8
+  tables-slot : t < 8
   tables-slot = omega (arith, a.setting.stands.tables.count, a.setting.stands.tables.few)
 
-  pub tables-asks : AsksTable nums directory ends kept reach t
+  tables-asks : AsksTable nums directory ends kept reach t
   tables-asks = record {
     program = a.program;
     setting = a.setting;
@@ -268,7 +376,7 @@ filled_more P reach filled t v f few e = record {
     go u l i false q =
         get_or-set_other filled t u v 0 (eqb-false u t q) ∙ f.slot u (below u t (omega arith) (eqb-false u t q)) i
 
-pub tables-rest : (nums directory ends kept filled kept₁ : List ℕ) (reach t one : ℕ)
+tables-rest : (nums directory ends kept filled kept₁ : List ℕ) (reach t one : ℕ)
     → AsksTables nums directory ends kept filled reach t → t < get_or directory 59 0
     → CountsTable nums directory ends kept kept₁ reach t one
     → AsksTables nums directory ends kept₁ (set filled t one) reach (t + 1)
@@ -284,7 +392,7 @@ tables-rest nums directory ends kept filled kept₁ reach t one a m c =
           (omega (arith, a.setting.stands.tables.count, a.setting.stands.tables.few)) (λ i. p.is);
     }
 
-pub tables-counted : (nums directory ends kept filled kept₁ kept₂ filled₂ : List ℕ) (reach t one : ℕ)
+tables-counted : (nums directory ends kept filled kept₁ kept₂ filled₂ : List ℕ) (reach t one : ℕ)
     → t < get_or directory 59 0 → CountsTable nums directory ends kept kept₁ reach t one
     → CountsTables nums directory ends kept₁ kept₂ (set filled t one) filled₂ reach (t + 1)
     → CountsTables nums directory ends kept kept₂ filled filled₂ reach t
@@ -296,7 +404,7 @@ tables-counted nums directory ends kept filled kept₁ kept₂ filled₂ reach t
       (filled_more P reach filled t one f (omega (arith, l, s.stands.tables.few)) (λ i. p.is));
 }
 
-pub tables-done : (nums directory ends kept filled : List ℕ) (reach t : ℕ) → get_or directory 59 0 ≤ t
+tables-done : (nums directory ends kept filled : List ℕ) (reach t : ℕ) → get_or directory 59 0 ≤ t
     → CountsTables nums directory ends kept kept filled filled reach t
 tables-done nums directory ends kept filled reach t h = record {
   counted = λ P s f. record {
@@ -305,4 +413,38 @@ tables-done nums directory ends kept filled reach t h = record {
   };
 }
 
-pub ruleset counting_tables = (tables-slot, tables-asks, tables-rest, tables-counted, tables-done)
+-- so many tables, of which some are done: what the rest leaves, all do
+pub record TablesLeft (nums directory ends kept filled : List ℕ) (reach t : ℕ) (kept₁ filled₁ : List ℕ) : Type 0 where
+  pub asks : AsksTables nums directory ends kept₁ filled₁ reach t
+  pub rest : (kept₂ filled₂ : List ℕ) → CountsTables nums directory ends kept₁ kept₂ filled₁ filled₂ reach t
+      → CountsTables nums directory ends kept kept₂ filled filled₂ reach 0
+
+pub tables-begin : (nums directory ends kept filled : List ℕ) (reach : ℕ)
+    → AsksTables nums directory ends kept filled reach 0
+    → TablesLeft nums directory ends kept filled reach 0 kept filled
+tables-begin nums directory ends kept filled reach a = record { asks = a; rest = λ kept₂ filled₂ c. c }
+
+module _ (nums directory ends kept filled : List ℕ) (reach t : ℕ) (kept₁ filled₁ : List ℕ)
+    (w : TablesLeft nums directory ends kept filled reach t kept₁ filled₁)
+  where
+    module _ (m : t < get_or directory 59 0) where
+      pub table-slot : t < 8
+      table-slot = tables-slot nums directory ends kept₁ filled₁ reach t w.asks m
+
+      pub table-asks : AsksTable nums directory ends kept₁ reach t
+      table-asks = tables-asks nums directory ends kept₁ filled₁ reach t w.asks m
+
+      pub tables-again : (kept₂ : List ℕ) (one : ℕ) → CountsTable nums directory ends kept₁ kept₂ reach t one
+          → TablesLeft nums directory ends kept filled reach (t + 1) kept₂ (set filled₁ t one)
+      tables-again kept₂ one c = record {
+        asks = tables-rest nums directory ends kept₁ filled₁ kept₂ reach t one w.asks m c;
+        rest = λ kept₃ filled₃ d.
+            w.rest kept₃ filled₃
+            (tables-counted nums directory ends kept₁ filled₁ kept₂ kept₃ filled₃ reach t one m c d);
+      }
+
+    pub tables-end : get_or directory 59 0 ≤ t
+        → CountsTables nums directory ends kept kept₁ filled filled₁ reach 0
+    tables-end h = w.rest kept₁ filled₁ (tables-done nums directory ends kept₁ filled₁ reach t h)
+
+pub ruleset counting_tables = (tables-begin, table-slot, table-asks, tables-again, tables-end)

@@ -5,6 +5,8 @@ use mathlib.Core.Path.{◌≡◌, refl, ◌∙◌}
 use mathlib.Core.List.{[]}
 use Prim.Native.Nat.{ℕ, zero, suc, ◌+◌, ◌≤◌, ◌<◌, max}
 use native.Mathlib.Omega.{arith}
+use Rattle.std.specs.Ordering.{ord_max, nat_cmp}
+use Rattle.std.proofs.lemmas.Bool.Decides.{nat_tests}
 use lib.Dec.{eqb, ltb}
 use lib.ListN.{length, get_or, get_elem?, get_or-append, get_or-eq_default}
 use lib.Seq.{get_or_at}
@@ -45,6 +47,27 @@ pub cut-not-larger : (one other exact second : ℕ) → one ≡ cut exact → ot
     → one ≡ cut (max exact second)
 unfolding cut
 cut-not-larger one other exact second e f h = omega (arith, e, f)
+
+pub larger-is : (a b r : ℕ) → r ≡ ord_max nat_cmp a b → r ≡ max a b
+larger-is a b r e = grind (arith, nat_tests)
+
+pub cut-max : (one other exact second : ℕ) → one ≡ cut exact → other ≡ cut second
+    → max one other ≡ cut (max exact second)
+unfolding cut
+cut-max one other exact second e f = omega (arith, e, f)
+
+pub cut-again : (total one total' rest r : ℕ) → total' ≡ cut (total + one) → r ≡ cut (total' + rest)
+    → r ≡ cut (total + cut (one + rest))
+unfolding cut
+cut-again total one total' rest r e f = omega (arith, e, f)
+
+pub cut-only : (total : ℕ) → total ≤ suc most_steps → cut (0 + total) ≡ total
+unfolding cut
+cut-only total h = omega (arith, h)
+
+pub cut-alone : (total : ℕ) → total ≤ suc most_steps → total ≡ cut (total + 0)
+unfolding cut
+cut-alone total h = omega (arith, h)
 
 pub cut-more : (total one total' exact rest all : ℕ) → one ≡ cut exact → total' ≡ cut (total + one)
     → cut all ≡ cut (total + (exact + rest)) → cut all ≡ cut (total' + rest)

@@ -28,7 +28,7 @@ pub fn ceiling_of(source: &Source) -> u64
     let none = [0u64; 8];
     let mut kept = [0u64; 16];
     let mut tables = [0u64; 8];
-    tables::count_tables(source, &none, reach, 0, &mut kept, &mut tables);
+    tables::count_tables(source, &none, reach, &mut kept, &mut tables);
     let parser = states::count_parser(source, &none, reach, &mut kept);
     let depth = shape::limits::DEEPEST;
     let run = count::count_stmt(source, &tables, reach, depth, body, &mut kept);

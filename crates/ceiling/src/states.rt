@@ -29,13 +29,12 @@ fn dearest(nums: &[u64], filled: &[u64; MOST_STATES], at: usize, count: u64) -> 
     requires { AsksDearest nums.now filled.now at count }
     ensures { CountsDearest nums.now filled.now at count result }
 {
-    if count == 0 {
-        0
-    } else {
-        let one = led_to(filled, nums[at + 1]);
-        let others = dearest(nums, filled, at + 2, count - 1);
-        if one < others { others } else { one }
+    let mut most = 0;
+    for i in 0..count as usize {
+        let one = led_to(filled, nums[at + 2 * i + 1]);
+        most = most.max(one);
     }
+    most
 }
 
 // The transition at `at`: its expression, and the dearest of the states that it names.
@@ -84,7 +83,8 @@ fn count_state(
     operands::add(own, on)
 }
 
-// The states below number s, each into its slot.
+// The states below number s, each into its slot, from the last one on. A recursion, since the library's laws don't say
+// what a range yields that is walked backwards.
 fn count_states(
     source: &Source,
     tables: &[u64; 8],

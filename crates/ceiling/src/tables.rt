@@ -5,6 +5,7 @@ ghost use Rattle.program.specs.In.{In};
 
 use crate::{count, operands};
 use program::Source;
+use shape::limits::DEEPEST;
 
 // So many keys, one behind the other.
 fn count_keys(
@@ -18,15 +19,15 @@ fn count_keys(
     requires { In AsksKeys source.now kept.old reach at count }
     ensures { In CountsKeys source.now kept.old kept.new reach at count result }
 {
-    if count == 0 {
-        0
-    } else {
-        let depth = shape::limits::DEEPEST;
-        let one = count::count_expr(source, tables, reach, depth, at + 1, kept);
-        let next = source.ends[at + 1] as usize;
-        let others = count_keys(source, tables, reach, next, count - 1, kept);
-        operands::add(one, others)
+    let mut total = 0;
+    let mut here = at;
+    for _ in 0..count {
+        let key = here + 1;
+        let one = count::count_expr(source, tables, reach, DEEPEST, key, kept);
+        total = operands::add(total, one);
+        here = source.ends[key] as usize;
     }
+    total
 }
 
 // The largest of so many callables' bodies.
@@ -41,13 +42,12 @@ fn largest(
     requires { In AsksLargest source.now kept.old reach at count }
     ensures { In CountsLargest source.now kept.old kept.new reach at count result }
 {
-    if count == 0 {
-        0
-    } else {
-        let one = count::count_call(source, tables, reach, source.nums[at], kept);
-        let others = largest(source, tables, reach, at + 1, count - 1, kept);
-        if one < others { others } else { one }
+    let mut most = 0;
+    for i in 0..count as usize {
+        let one = count::count_call(source, tables, reach, source.nums[at + i], kept);
+        most = most.max(one);
     }
+    most
 }
 
 // Table t: its keys, and the largest of its actions.
@@ -76,21 +76,18 @@ fn count_table(
     operands::add(keys, run)
 }
 
-// The tables from number t on, each into its slot.
+// The tables, each into its slot.
 pub(crate) fn count_tables(
     source: &Source,
     tables: &[u64; 8],
     reach: usize,
-    t: usize,
     kept: &mut [u64; 16],
     filled: &mut [u64; 8],
 )
-    requires { In AsksTables source.now kept.old filled.old reach t }
-    ensures { In CountsTables source.now kept.old kept.new filled.old filled.new reach t }
+    requires { In AsksTables source.now kept.old filled.old reach 0 }
+    ensures { In CountsTables source.now kept.old kept.new filled.old filled.new reach 0 }
 {
-    if t < source.directory[shape::TABLES] as usize {
-        let one = count_table(source, tables, reach, t, kept);
-        filled[t] = one;
-        count_tables(source, tables, reach, t + 1, kept, filled);
+    for t in 0..source.directory[shape::TABLES] as usize {
+        filled[t] = count_table(source, tables, reach, t, kept);
     }
 }

@@ -17,13 +17,13 @@ pub returns-in_err-next : goal.returns-in_err-next
 returns-in_err-next c = let p = err_from_is_err_and c.from_residual.result c.from_residual.ensures.1 in rw (p.1, p.2) (search (keys, c.in_err-next.ensures, rules))
 
 pub overflow_add-here : goal.overflow_add-here
-overflow_add-here c = search (keys, c.in_ok-next.ensures, rules)
+overflow_add-here c = search (keys, rules)
 
 pub offset_bounds-source-here-in-loop-i : goal.offset_bounds-source-here-in-loop-i
-offset_bounds-source-here-in-loop-i c = search (keys, c.in_ok-next.ensures, rules)
+offset_bounds-source-here-in-loop-i c = search (keys, rules)
 
 pub bounds-source-here-in-loop-i : goal.bounds-source-here-in-loop-i
-bounds-source-here-in-loop-i c = search (keys, c.in_ok-next.ensures, rules)
+bounds-source-here-in-loop-i c = search (keys, rules)
 
 pub loop-i-preserved : goal.loop-i-preserved
 loop-i-preserved c = search (keys, c.in_ok-next.ensures, rules)
