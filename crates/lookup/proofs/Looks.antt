@@ -66,11 +66,11 @@ own-fits P T widths e es h =
     let a : (patterns_fit widths e.patterns ≡ true) × _ = and_both (patterns_fit widths e.patterns) _ h in
     (a.0, and_both (arguments_given (action_at P T e.position) e.arguments) _ a.1)
 
-module _ (nums ends directory keys : List ℕ) (t table at : ℕ) where
+module _ (nums directory ends keys : List ℕ) (t table at : ℕ) where
   -- an entry of the table asks of its keys
   own-patterns : {P : Program} {T : Table} {ws : List Worked} {e : Lists.Entry}
-      → Sought nums ends directory keys t table at P T ws e → get_or nums at 0 ≡ t
-      → KeyPatterns nums ends directory keys (table + 1) (get_or nums table 0) (185 + 4 * t) 0 (at + 1) T.keys ws e.patterns
+      → Sought nums directory ends keys t table at P T ws e → get_or nums at 0 ≡ t
+      → KeyPatterns nums directory ends keys (table + 1) (get_or nums table 0) (185 + 4 * t) 0 (at + 1) T.keys ws e.patterns
   own-patterns {P = P} {T = T} {ws = ws} {e = e} h q =
       let own : e.table ≡ t = sym h.entry_stands.number.is ∙ q in
       let same : h.entry_stands.table ≡ T
@@ -83,7 +83,7 @@ module _ (nums ends directory keys : List ℕ) (t table at : ℕ) where
         fits = (own-fits P T (widths_of ws) e [] (rw (own_alone t e own) at h.fits)).0;
       }
 
-  module _ (h : AsksStep nums ends directory keys t table at) where
+  module _ (h : AsksStep nums directory ends keys t table at) where
     pub entry-inside : at < length nums
     entry-inside = h.sought.entry_stands.number.inside
 
@@ -99,7 +99,7 @@ module _ (nums ends directory keys : List ℕ) (t table at : ℕ) where
     pub entry_next : at + 1 < 2 ^ 64
     entry_next = omega (arith, entry-inside, h.numbers)
 
-    pub match-asked : AsksMatch nums ends directory keys (table + 1) (get_or nums table 0) (185 + 4 * t) 0 (at + 1)
+    pub match-asked : AsksMatch nums directory ends keys (table + 1) (get_or nums table 0) (185 + 4 * t) 0 (at + 1)
     match-asked = record {
       key_list = h.table_at.keys;
       worked = h.worked;
@@ -112,25 +112,25 @@ module _ (nums ends directory keys : List ℕ) (t table at : ℕ) where
     }
 
   module _ (longest : Bool) (best : Option Best) where
-    step_other : (get_or nums at 0 ≡ t → ⊥) → TellsStep nums ends directory keys t table longest at best best
+    step_other : (get_or nums at 0 ≡ t → ⊥) → TellsStep nums directory ends keys t table longest at best best
     step_other n = record {
       told = λ P T ws e h f s. rw (other-alone t e (λ q. n (h.entry_stands.number.is ∙ q)), look_none longest ws f) s;
     }
 
-    module _ (h : AsksStep nums ends directory keys t table at) (m : Option Match)
-        (u : TellsMatch nums ends directory keys (table + 1) (get_or nums table 0) (185 + 4 * t) 0 (at + 1) m)
+    module _ (h : AsksStep nums directory ends keys t table at) (m : Option Match)
+        (u : TellsMatch nums directory ends keys (table + 1) (get_or nums table 0) (185 + 4 * t) 0 (at + 1) m)
       where
         abbrev q : get_or nums at 0 ≡ t
         q = h.own
 
-        pub step-unmatched : m ≡ None → TellsStep nums ends directory keys t table longest at best best
+        pub step-unmatched : m ≡ None → TellsStep nums directory ends keys t table longest at best best
         step-unmatched n = record { told = go }
           where
             missed : {ws : List Worked} {ps : List Pattern} → Matched (at + 1) ws ps None → matches_all ws ps ≡ false
             missed (unmatched k) = k
 
             go : (P : Program) (T : Table) (ws : List Worked) (e : Lists.Entry)
-                → Sought nums ends directory keys t table at P T ws e → (f : rules.Found) → BestStands nums f best
+                → Sought nums directory ends keys t table at P T ws e → (f : rules.Found) → BestStands nums f best
                 → BestStands nums (look_up longest ws f (entries_of t (e ∷ []))) best
             go P T ws e k f s =
                 let own : e.table ≡ t = sym k.entry_stands.number.is ∙ q in
@@ -139,7 +139,7 @@ module _ (nums ends directory keys : List ℕ) (t table at : ℕ) where
                 rw (own_alone t e own, look-unmatched longest ws f e [] m, look_none longest ws f) s
 
         pub step-matched : (z : Match) (r : Best) → m ≡ Some z → TellsBetter longest best z.next z.prefix r
-            → TellsStep nums ends directory keys t table longest at best (Some r)
+            → TellsStep nums directory ends keys t table longest at best (Some r)
         step-matched z r n b = record { told = go }
           where
             all : {ws : List Worked} {ps : List Pattern} → Matched (at + 1) ws ps (Some z)
@@ -147,7 +147,7 @@ module _ (nums ends directory keys : List ℕ) (t table at : ℕ) where
             all (matched k p l) = (k, (p, l))
 
             go : (P : Program) (T : Table) (ws : List Worked) (e : Lists.Entry)
-                → Sought nums ends directory keys t table at P T ws e → (f : rules.Found) → BestStands nums f best
+                → Sought nums directory ends keys t table at P T ws e → (f : rules.Found) → BestStands nums f best
                 → BestStands nums (look_up longest ws f (entries_of t (e ∷ []))) (Some r)
             go P T ws e k f s =
                 let own : e.table ≡ t = sym k.entry_stands.number.is ∙ q in
@@ -174,13 +174,13 @@ pub ruleset steps = (
 )
 
 -- entries of which some are left have a first
-record First (nums ends directory keys : List ℕ) (t table i left : ℕ) (P : Program) (T : Table)
+record First (nums directory ends keys : List ℕ) (t table i left : ℕ) (P : Program) (T : Table)
     (ws : List Worked) (es : List Lists.Entry) : Type 0 where
   pub entry : Lists.Entry
   pub others : List Lists.Entry
   pub same : es ≡ entry ∷ others
-  pub first : Sought nums ends directory keys t table (get_or directory i 0) P T ws entry
-  pub rest : SoughtIn nums ends directory keys t table (i + 1) (left - 1) P T ws others
+  pub first : Sought nums directory ends keys t table (get_or directory i 0) P T ws entry
+  pub rest : SoughtIn nums directory ends keys t table (i + 1) (left - 1) P T ws others
 
 -- what fits one behind the other fits apart
 fit_apart : (P : Program) (T : Table) (widths : List ℕ) (t : ℕ) (e : Lists.Entry) (es : List Lists.Entry)
@@ -198,12 +198,12 @@ fit_apart P T widths t e es h = go (eqb e.table t) h
         (rw (entries_fit, f.0, f.1.0) refl, f.1.1)
     go false k = (refl, k)
 
-first_of : (nums ends directory keys : List ℕ) (t table i left : ℕ) (P : Program) (T : Table) (ws : List Worked)
-    (es : List Lists.Entry) → SoughtIn nums ends directory keys t table i left P T ws es → (left ≡ 0 → ⊥)
-    → First nums ends directory keys t table i left P T ws es
+first_of : (nums directory ends keys : List ℕ) (t table i left : ℕ) (P : Program) (T : Table) (ws : List Worked)
+    (es : List Lists.Entry) → SoughtIn nums directory ends keys t table i left P T ws es → (left ≡ 0 → ⊥)
+    → First nums directory ends keys t table i left P T ws es
 unfolding StandsEntries
-first_of nums ends directory keys t table i left P T ws [] h more = absurd (more h.counts)
-first_of nums ends directory keys t table i left P T ws (e ∷ es) h more =
+first_of nums directory ends keys t table i left P T ws [] h more = absurd (more h.counts)
+first_of nums directory ends keys t table i left P T ws (e ∷ es) h more =
     let f : _ = fit_apart P T (widths_of ws) t e es h.fits in
     record {
       entry = e;
@@ -265,11 +265,11 @@ look-on longest ws f t e es = go (eqb e.table t)
     go true = own (matches_all ws e.patterns)
     go false = refl
 
-module _ (nums ends directory keys : List ℕ) (t table i left : ℕ) where
-  module _ (h : AsksLook nums ends directory keys t table i left) (more : left ≡ 0 → ⊥) where
-    asked-first : First nums ends directory keys t table i left h.program h.table_at h.worked h.entry_list
+module _ (nums directory ends keys : List ℕ) (t table i left : ℕ) where
+  module _ (h : AsksLook nums directory ends keys t table i left) (more : left ≡ 0 → ⊥) where
+    asked-first : First nums directory ends keys t table i left h.program h.table_at h.worked h.entry_list
     asked-first =
-        first_of nums ends directory keys t table i left h.program h.table_at h.worked h.entry_list
+        first_of nums directory ends keys t table i left h.program h.table_at h.worked h.entry_list
         h.sought more
 
     slot-inside : i < 217
@@ -279,7 +279,7 @@ module _ (nums ends directory keys : List ℕ) (t table i left : ℕ) where
     entry-held = asked-first.first.entry_stands.number.inside
 
     step-asked : get_or nums (get_or directory i 0) 0 ≡ t
-        → AsksStep nums ends directory keys t table (get_or directory i 0)
+        → AsksStep nums directory ends keys t table (get_or directory i 0)
     step-asked q = record {
       program = h.program;
       table_at = h.table_at;
@@ -292,7 +292,7 @@ module _ (nums ends directory keys : List ℕ) (t table i left : ℕ) where
       few = h.few;
     }
 
-    look-asked : AsksLook nums ends directory keys t table (i + 1) (left - 1)
+    look-asked : AsksLook nums directory ends keys t table (i + 1) (left - 1)
     look-asked = record {
       program = h.program;
       table_at = h.table_at;
@@ -306,7 +306,7 @@ module _ (nums ends directory keys : List ℕ) (t table i left : ℕ) where
     }
 
   module _ (longest : Bool) (best : Option Best) where
-    look-ended : left ≡ 0 → TellsLook nums ends directory keys t table longest i left best best
+    look-ended : left ≡ 0 → TellsLook nums directory ends keys t table longest i left best best
     unfolding look_up entries_of
     look-ended e = record { told = λ P T ws es h f s. go ws es h.counts f s }
       where
@@ -316,13 +316,13 @@ module _ (nums ends directory keys : List ℕ) (t table i left : ℕ) where
         go ws (x ∷ es) c f s = absurd (omega (arith, e, c))
 
     look-settled : (a : Option Best) (b : Bool) → (left ≡ 0 → ⊥)
-        → TellsStep nums ends directory keys t table longest (get_or directory i 0) best a → b ≡ settled_as longest a
-        → b ≡ true → TellsLook nums ends directory keys t table longest i left best a
+        → TellsStep nums directory ends keys t table longest (get_or directory i 0) best a → b ≡ settled_as longest a
+        → b ≡ true → TellsLook nums directory ends keys t table longest i left best a
     look-settled a b more u q k =
         record { told = λ P T ws es h f s. go (first_of _ _ _ _ _ _ _ _ P T ws es h more) f s }
       where
         go : {P : Program} {T : Table} {ws : List Worked} {es : List Lists.Entry}
-            → First nums ends directory keys t table i left P T ws es → (f : rules.Found)
+            → First nums directory ends keys t table i left P T ws es → (f : rules.Found)
             → BestStands nums f best → BestStands nums (look_up longest ws f (entries_of t es)) a
         go {P = P} {T = T} {ws = ws} o f s =
             let here : BestStands nums (look_up longest ws f (entries_of t (o.entry ∷ []))) a
@@ -335,14 +335,14 @@ module _ (nums ends directory keys : List ℕ) (t table i left : ℕ) where
             here
 
     look-further : (a r : Option Best) → (left ≡ 0 → ⊥)
-        → TellsStep nums ends directory keys t table longest (get_or directory i 0) best a
-        → TellsLook nums ends directory keys t table longest (i + 1) (left - 1) a r
-        → TellsLook nums ends directory keys t table longest i left best r
+        → TellsStep nums directory ends keys t table longest (get_or directory i 0) best a
+        → TellsLook nums directory ends keys t table longest (i + 1) (left - 1) a r
+        → TellsLook nums directory ends keys t table longest i left best r
     look-further a r more u v =
         record { told = λ P T ws es h f s. go (first_of _ _ _ _ _ _ _ _ P T ws es h more) f s }
       where
         go : {P : Program} {T : Table} {ws : List Worked} {es : List Lists.Entry}
-            → First nums ends directory keys t table i left P T ws es → (f : rules.Found)
+            → First nums directory ends keys t table i left P T ws es → (f : rules.Found)
             → BestStands nums f best → BestStands nums (look_up longest ws f (entries_of t es)) r
         go {P = P} {T = T} {ws = ws} o f s =
             rw (o.same, look-on longest ws f t o.entry o.others)
@@ -350,64 +350,64 @@ module _ (nums ends directory keys : List ℕ) (t table i left : ℕ) where
             (u.told P T ws o.entry o.first f s))
 
 -- the loop: what is told of the entries from a slot on is told of all
-pub record Looking (nums ends directory keys : List ℕ) (t table : ℕ) (longest : Bool) (i left : ℕ) (best : Option Best)
+pub record Looking (nums directory ends keys : List ℕ) (t table : ℕ) (longest : Bool) (i left : ℕ) (best : Option Best)
     (slot : ℕ) (found : Option Best) : Type 0 where
-  pub asks : AsksLook nums ends directory keys t table slot (i + left - slot)
-  pub on : (r : Option Best) → TellsLook nums ends directory keys t table longest slot (i + left - slot) found r
-      → TellsLook nums ends directory keys t table longest i left best r
+  pub asks : AsksLook nums directory ends keys t table slot (i + left - slot)
+  pub on : (r : Option Best) → TellsLook nums directory ends keys t table longest slot (i + left - slot) found r
+      → TellsLook nums directory ends keys t table longest i left best r
 
-module _ (nums ends directory keys : List ℕ) (t table : ℕ) (longest : Bool) (i left : ℕ) (best : Option Best) where
-  pub looking-start : AsksLook nums ends directory keys t table i left
-      → Looking nums ends directory keys t table longest i left best i best
+module _ (nums directory ends keys : List ℕ) (t table : ℕ) (longest : Bool) (i left : ℕ) (best : Option Best) where
+  pub looking-start : AsksLook nums directory ends keys t table i left
+      → Looking nums directory ends keys t table longest i left best i best
   looking-start a =
       let all : i + left - i ≡ left = omega arith in
       record { asks = rw all a; on = λ r h. rw all at h }
 
-  pub looking-low : AsksLook nums ends directory keys t table i left → i + left < 2 ^ 64
+  pub looking-low : AsksLook nums directory ends keys t table i left → i + left < 2 ^ 64
   looking-low a = omega (arith, a.slots)
 
   module _ (slot : ℕ) (found : Option Best)
-      (h : Looking nums ends directory keys t table longest i left best slot found) where
-    pub looking-ended : i + left ≤ slot → TellsLook nums ends directory keys t table longest i left best found
+      (h : Looking nums directory ends keys t table longest i left best slot found) where
+    pub looking-ended : i + left ≤ slot → TellsLook nums directory ends keys t table longest i left best found
     looking-ended e =
-        h.on found (look-ended nums ends directory keys t table slot (i + left - slot) longest found (omega arith))
+        h.on found (look-ended nums directory ends keys t table slot (i + left - slot) longest found (omega arith))
 
     module _ (l : slot < i + left) where
       abbrev more : i + left - slot ≡ 0 → ⊥
       more = λ e. absurd (omega (arith, e))
 
       pub looking-inside : slot < 217
-      looking-inside = slot-inside nums ends directory keys t table slot (i + left - slot) h.asks more
+      looking-inside = slot-inside nums directory ends keys t table slot (i + left - slot) h.asks more
 
       pub looking-held : get_or directory slot 0 < length nums
-      looking-held = entry-held nums ends directory keys t table slot (i + left - slot) h.asks more
+      looking-held = entry-held nums directory ends keys t table slot (i + left - slot) h.asks more
 
       pub looking-step : get_or nums (get_or directory slot 0) 0 ≡ t
-          → AsksStep nums ends directory keys t table (get_or directory slot 0)
-      looking-step q = step-asked nums ends directory keys t table slot (i + left - slot) h.asks more q
+          → AsksStep nums directory ends keys t table (get_or directory slot 0)
+      looking-step q = step-asked nums directory ends keys t table slot (i + left - slot) h.asks more q
 
       pub looking-on : (a : Option Best)
-          → TellsStep nums ends directory keys t table longest (get_or directory slot 0) found a
-          → Looking nums ends directory keys t table longest i left best (slot + 1) a
+          → TellsStep nums directory ends keys t table longest (get_or directory slot 0) found a
+          → Looking nums directory ends keys t table longest i left best (slot + 1) a
       looking-on a u =
           let fewer : i + left - (slot + 1) ≡ i + left - slot - 1 = omega arith in
           record {
-            asks = rw fewer (look-asked nums ends directory keys t table slot (i + left - slot) h.asks more);
+            asks = rw fewer (look-asked nums directory ends keys t table slot (i + left - slot) h.asks more);
             on = λ r k. h.on r
-                (look-further nums ends directory keys t table slot (i + left - slot) longest found a r more u
+                (look-further nums directory ends keys t table slot (i + left - slot) longest found a r more u
                 (rw fewer at k));
           }
 
       pub looking-other : (get_or nums (get_or directory slot 0) 0 ≡ t → ⊥)
-          → Looking nums ends directory keys t table longest i left best (slot + 1) found
+          → Looking nums directory ends keys t table longest i left best (slot + 1) found
       looking-other n = looking-on found
-          (step_other nums ends directory keys t table (get_or directory slot 0) longest found n)
+          (step_other nums directory ends keys t table (get_or directory slot 0) longest found n)
 
       pub looking-settled : (a : Option Best) (b : Bool)
-          → TellsStep nums ends directory keys t table longest (get_or directory slot 0) found a
-          → b ≡ settled_as longest a → b ≡ true → TellsLook nums ends directory keys t table longest i left best a
+          → TellsStep nums directory ends keys t table longest (get_or directory slot 0) found a
+          → b ≡ settled_as longest a → b ≡ true → TellsLook nums directory ends keys t table longest i left best a
       looking-settled a b u q k =
-          h.on a (look-settled nums ends directory keys t table slot (i + left - slot) longest found a b more u q k)
+          h.on a (look-settled nums directory ends keys t table slot (i + left - slot) longest found a b more u q k)
 
 pub ruleset looks = (
   looking-start,
@@ -422,8 +422,8 @@ pub ruleset looks = (
 )
 
 -- the whole look-up
-module _ (nums ends directory keys : List ℕ) (t table : ℕ) where
-  module _ (h : AsksLook nums ends directory keys t table (entries_slot + 1) (get_or directory entries_slot 0)) where
+module _ (nums directory ends keys : List ℕ) (t table : ℕ) where
+  module _ (h : AsksLook nums directory ends keys t table (entries_slot + 1) (get_or directory entries_slot 0)) where
     pub count-inside : table < length nums
     count-inside = h.sought.stands.key_count.holds.inside
 
@@ -440,9 +440,9 @@ module _ (nums ends directory keys : List ℕ) (t table : ℕ) where
     }
 
   looked-up : (longest : Bool) (best b : Option Best) → TellsLongest nums ends (table + 1) (get_or nums table 0) longest
-      → best ≡ None → TellsLook nums ends directory keys t table longest (entries_slot + 1) (get_or directory entries_slot 0) best b
+      → best ≡ None → TellsLook nums directory ends keys t table longest (entries_slot + 1) (get_or directory entries_slot 0) best b
       → (P : Program) (T : Table) (ws : List Worked) (es : List Lists.Entry)
-      → SoughtIn nums ends directory keys t table (entries_slot + 1) (get_or directory entries_slot 0) P T ws es
+      → SoughtIn nums directory ends keys t table (entries_slot + 1) (get_or directory entries_slot 0) P T ws es
       → BestStands nums (look_up (longest_wins T.keys) ws rules.nothing (entries_of t es)) b
   looked-up longest best b l n u P T ws es h =
       let same : longest ≡ longest_wins T.keys
@@ -450,10 +450,10 @@ module _ (nums ends directory keys : List ℕ) (t table : ℕ) where
       rw (← same) (u.told P T ws es h rules.nothing (rw n none))
 
   module _ (longest : Bool) (best b : Option Best) (l : TellsLongest nums ends (table + 1) (get_or nums table 0) longest)
-      (n : best ≡ None) (u : TellsLook nums ends directory keys t table longest (entries_slot + 1) (get_or directory entries_slot 0) best b)
+      (n : best ≡ None) (u : TellsLook nums directory ends keys t table longest (entries_slot + 1) (get_or directory entries_slot 0) best b)
     where
       pub found-told : (found : Best) → b ≡ Some found
-          → TellsLookUp nums ends directory keys t table (Found found.action)
+          → TellsLookUp nums directory ends keys t table (Found found.action)
       found-told found q = record {
         told = λ P T ws es h. go (rw q at (looked-up longest best b l n u P T ws es h));
       }
@@ -461,7 +461,7 @@ module _ (nums ends directory keys : List ℕ) (t table : ℕ) where
           go : {f : rules.Found} → BestStands nums f (Some found) → Looked nums f (Found found.action)
           go (entry p a k) = entry_found p a
 
-      pub nothing-told : b ≡ None → TellsLookUp nums ends directory keys t table Lookups.Nothing
+      pub nothing-told : b ≡ None → TellsLookUp nums directory ends keys t table Lookups.Nothing
       nothing-told q = record {
         told = λ P T ws es h. go (rw q at (looked-up longest best b l n u P T ws es h));
       }

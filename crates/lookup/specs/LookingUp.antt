@@ -48,7 +48,7 @@ pub record TellsBetter (longest : Bool) (best : Option Best) (action prefix : �
       → BestStands nums (better longest f e) (Some r)
 
 -- a table, its keys as they were worked out, and an entry
-pub record Sought (nums ends directory keys : List ℕ) (t table at : ℕ) (P : Program) (T : Table) (ws : List Worked)
+pub record Sought (nums directory ends keys : List ℕ) (t table at : ℕ) (P : Program) (T : Table) (ws : List Worked)
     (e : Lists.Entry) : Type 0 where
   pub table_is : get_elem? P.tables t ≡ some T
   pub stands : StandsTable nums ends table T
@@ -56,21 +56,21 @@ pub record Sought (nums ends directory keys : List ℕ) (t table at : ℕ) (P : 
   pub entry_stands : StandsEntry P nums at e
   pub fits : entries_fit P T (widths_of ws) (entries_of t (e ∷ [])) ≡ true
 
-pub record AsksStep (nums ends directory keys : List ℕ) (t table at : ℕ) : Type 0 where
+pub record AsksStep (nums directory ends keys : List ℕ) (t table at : ℕ) : Type 0 where
   pub program : Program
   pub table_at : Table
   pub worked : List Worked
   pub entry : Lists.Entry
-  pub sought : Sought nums ends directory keys t table at program table_at worked entry
+  pub sought : Sought nums directory ends keys t table at program table_at worked entry
   pub own : get_or nums at 0 ≡ t
   pub numbers : length nums ≤ most_bytes
   pub room : length nums ≤ length ends
   pub few : t + 1 ≤ most_tables
 
-pub record TellsStep (nums ends directory keys : List ℕ) (t table : ℕ) (longest : Bool) (at : ℕ) (best r : Option Best)
+pub record TellsStep (nums directory ends keys : List ℕ) (t table : ℕ) (longest : Bool) (at : ℕ) (best r : Option Best)
     : Type 0 where
   pub told : (P : Program) (T : Table) (ws : List Worked) (e : Lists.Entry)
-      → Sought nums ends directory keys t table at P T ws e → (f : rules.Found) → BestStands nums f best
+      → Sought nums directory ends keys t table at P T ws e → (f : rules.Found) → BestStands nums f best
       → BestStands nums (look_up longest ws f (entries_of t (e ∷ []))) r
 
 -- no later entry changes what is found
@@ -84,7 +84,7 @@ StandsEntries P nums slots i [] = Unit
 StandsEntries P nums slots i (e ∷ es) =
     StandsEntry P nums (get_or slots i 0) e × StandsEntries P nums slots (i + 1) es
 
-pub record SoughtIn (nums ends directory keys : List ℕ) (t table i left : ℕ) (P : Program) (T : Table)
+pub record SoughtIn (nums directory ends keys : List ℕ) (t table i left : ℕ) (P : Program) (T : Table)
     (ws : List Worked) (es : List Lists.Entry) : Type 0 where
   pub table_is : get_elem? P.tables t ≡ some T
   pub stands : StandsTable nums ends table T
@@ -93,21 +93,21 @@ pub record SoughtIn (nums ends directory keys : List ℕ) (t table i left : ℕ)
   pub counts : left ≡ length es
   pub fits : entries_fit P T (widths_of ws) (entries_of t es) ≡ true
 
-pub record AsksLook (nums ends directory keys : List ℕ) (t table i left : ℕ) : Type 0 where
+pub record AsksLook (nums directory ends keys : List ℕ) (t table i left : ℕ) : Type 0 where
   pub program : Program
   pub table_at : Table
   pub worked : List Worked
   pub entry_list : List Lists.Entry
-  pub sought : SoughtIn nums ends directory keys t table i left program table_at worked entry_list
+  pub sought : SoughtIn nums directory ends keys t table i left program table_at worked entry_list
   pub numbers : length nums ≤ most_bytes
   pub room : length nums ≤ length ends
   pub few : t + 1 ≤ most_tables
   pub slots : i + left ≤ slot_count
 
-pub record TellsLook (nums ends directory keys : List ℕ) (t table : ℕ) (longest : Bool) (i left : ℕ)
+pub record TellsLook (nums directory ends keys : List ℕ) (t table : ℕ) (longest : Bool) (i left : ℕ)
     (best r : Option Best) : Type 0 where
   pub told : (P : Program) (T : Table) (ws : List Worked) (es : List Lists.Entry)
-      → SoughtIn nums ends directory keys t table i left P T ws es → (f : rules.Found)
+      → SoughtIn nums directory ends keys t table i left P T ws es → (f : rules.Found)
       → BestStands nums f best → BestStands nums (look_up longest ws f (entries_of t es)) r
 
 -- what the look-up answers, without the prefix
@@ -117,7 +117,7 @@ pub data Looked (nums : List ℕ) : rules.Found → Lookup → Type 0 where
   nothing-found : Looked nums rules.nothing Lookups.Nothing
 
 -- the whole look-up: the count of the entries stands in the first of their slots
-pub record TellsLookUp (nums ends directory keys : List ℕ) (t table : ℕ) (r : Lookup) : Type 0 where
+pub record TellsLookUp (nums directory ends keys : List ℕ) (t table : ℕ) (r : Lookup) : Type 0 where
   pub told : (P : Program) (T : Table) (ws : List Worked) (es : List Lists.Entry)
-      → SoughtIn nums ends directory keys t table (entries_slot + 1) (get_or directory entries_slot 0) P T ws es
+      → SoughtIn nums directory ends keys t table (entries_slot + 1) (get_or directory entries_slot 0) P T ws es
       → Looked nums (look_up (longest_wins T.keys) ws rules.nothing (entries_of t es)) r

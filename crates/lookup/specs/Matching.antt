@@ -61,7 +61,7 @@ pub record TellsOne (nums directory keys : List ℕ) (key_at slot j at : ℕ) (m
   pub no_prefix : has_prefix ≡ false → prefix ≡ 0
 
 -- all keys of a table and the patterns of an entry
-pub record KeyPatterns (nums ends directory keys : List ℕ) (key_at count slot j at : ℕ) (ks : List Key) (ws : List Worked)
+pub record KeyPatterns (nums directory ends keys : List ℕ) (key_at count slot j at : ℕ) (ks : List Key) (ws : List Worked)
     (ps : List Pattern) : Type 0 where
   pub keys_stand : StandsKeys nums ends key_at ks
   pub counts : count ≡ length ks
@@ -69,11 +69,11 @@ pub record KeyPatterns (nums ends directory keys : List ℕ) (key_at count slot 
   pub patterns : StandsPatterns nums at ks ps
   pub fits : patterns_fit (widths_of ws) ps ≡ true
 
-pub record AsksMatch (nums ends directory keys : List ℕ) (key_at count slot j at : ℕ) : Type 0 where
+pub record AsksMatch (nums directory ends keys : List ℕ) (key_at count slot j at : ℕ) : Type 0 where
   pub key_list : List Key
   pub worked : List Worked
   pub patterns : List Pattern
-  pub stand : KeyPatterns nums ends directory keys key_at count slot j at key_list worked patterns
+  pub stand : KeyPatterns nums directory ends keys key_at count slot j at key_list worked patterns
   pub numbers : length nums ≤ most_bytes
   pub room : length nums ≤ length ends
   pub slots : slot + count ≤ slot_count
@@ -85,6 +85,6 @@ pub data Matched (at : ℕ) (ws : List Worked) (ps : List Pattern) : Option Matc
       → Matched at ws ps (Some m)
   unmatched : matches_all ws ps ≡ false → Matched at ws ps None
 
-pub record TellsMatch (nums ends directory keys : List ℕ) (key_at count slot j at : ℕ) (r : Option Match) : Type 0 where
+pub record TellsMatch (nums directory ends keys : List ℕ) (key_at count slot j at : ℕ) (r : Option Match) : Type 0 where
   pub told : (ks : List Key) (ws : List Worked) (ps : List Pattern)
-      → KeyPatterns nums ends directory keys key_at count slot j at ks ws ps → Matched at ws ps r
+      → KeyPatterns nums directory ends keys key_at count slot j at ks ws ps → Matched at ws ps r

@@ -4,6 +4,7 @@
 
 ghost use Rattle.std.specs.Prelude.{◌+◌, get_or};
 ghost use Rattle.shape.specs.Directory.{entries_slot};
+ghost use Rattle.program.specs.In.{In};
 ghost use Rattle.lookup.specs.LookingUp.{AsksLook, TellsLookUp};
 
 use looking::{longest_wins, look_from};
@@ -37,8 +38,8 @@ pub enum Lookup {
 
 // The entry that table `t`, which stands at `table`, finds by its keys' numbers.
 pub fn look_up(source: &Source, keys: &[u64; MOST_KEYS], t: u64, table: usize) -> Lookup
-    requires { AsksLook source.now.nums.now source.now.ends.now source.now.directory.now keys.now t table (entries_slot + 1) (get_or source.now.directory.now entries_slot 0) }
-    ensures { TellsLookUp source.now.nums.now source.now.ends.now source.now.directory.now keys.now t table result }
+    requires { In AsksLook source.now keys.now t table (entries_slot + 1) (get_or source.now.directory.now entries_slot 0) }
+    ensures { In TellsLookUp source.now keys.now t table result }
 {
     let longest = longest_wins(source, table + 1, source.nums[table]);
     let best = look_from(

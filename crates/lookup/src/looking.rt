@@ -1,5 +1,6 @@
 // The look-up among the entries of a table.
 ghost use Rattle.std.specs.Prelude.{◌≡◌};
+ghost use Rattle.program.specs.In.{In};
 ghost use Rattle.lookup.specs.LookingUp.{AsksKeys, TellsAny, TellsLongest, TellsBetter, AsksStep, TellsStep, settled_as, AsksLook, TellsLook};
 
 use super::matching::match_from;
@@ -55,8 +56,8 @@ fn step(
     at: usize,
     best: Option<Best>,
 ) -> Option<Best>
-    requires { AsksStep source.now.nums.now source.now.ends.now source.now.directory.now keys.now t table at }
-    ensures { TellsStep source.now.nums.now source.now.ends.now source.now.directory.now keys.now t table longest at best result }
+    requires { In AsksStep source.now keys.now t table at }
+    ensures { In TellsStep source.now keys.now t table longest at best result }
 {
     let slot = WIDTHS + MOST_KEYS * t as usize;
     let keyed = match_from(source, keys, table + 1, source.nums[table], slot, at + 1);
@@ -88,8 +89,8 @@ pub(crate) fn look_from(
     left: u64,
     best: Option<Best>,
 ) -> Option<Best>
-    requires { AsksLook source.now.nums.now source.now.ends.now source.now.directory.now keys.now t table i left }
-    ensures { TellsLook source.now.nums.now source.now.ends.now source.now.directory.now keys.now t table longest i left best result }
+    requires { In AsksLook source.now keys.now t table i left }
+    ensures { In TellsLook source.now keys.now t table longest i left best result }
 {
     let mut found = best;
     for slot in i..i + left as usize {

@@ -1,5 +1,6 @@
 // The keys of a table against the patterns of an entry.
 ghost use Rattle.std.specs.Prelude.{is_some, unwrap_or};
+ghost use Rattle.program.specs.In.{In};
 ghost use Rattle.lookup.specs.Matching.{AsksOne, TellsOne, AsksMatch, TellsMatch};
 
 use crate::Match;
@@ -60,8 +61,8 @@ pub(crate) fn match_from(
     slot: usize,
     at: usize,
 ) -> Option<Match>
-    requires { AsksMatch source.now.nums.now source.now.ends.now source.now.directory.now keys.now from count slot 0 at }
-    ensures { TellsMatch source.now.nums.now source.now.ends.now source.now.directory.now keys.now from count slot 0 at result }
+    requires { In AsksMatch source.now keys.now from count slot 0 at }
+    ensures { In TellsMatch source.now keys.now from count slot 0 at result }
 {
     let mut key = from;
     let mut next = at;

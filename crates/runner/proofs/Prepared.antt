@@ -61,42 +61,42 @@ pub ruleset lays = (lay-low, lay-copies, lay-laid)
 
 -- one after the other
 module _ (offsets entries widths directory : List ℕ) where
-  pub lay-offsets : AsksPrepare offsets entries widths directory → AsksLay offsets directory 33 87
+  pub lay-offsets : AsksPrepare offsets entries widths directory → AsksLay offsets directory (length offsets) 87
   lay-offsets a = record {
     few = omega (arith, a.globals);
-    inside = omega (arith, a.globals);
+    inside = omega arith;
     slots = a.slots;
-    room = omega arith;
+    room = omega (arith, a.globals);
   }
 
-  module _ (a : AsksPrepare offsets entries widths directory) (directory₁ : List ℕ) (x : Lays offsets directory directory₁ 33 87)
+  module _ (a : AsksPrepare offsets entries widths directory) (directory₁ : List ℕ) (x : Lays offsets directory directory₁ (length offsets) 87)
     where
-      pub lay-entries : AsksLay entries directory₁ 65 120
+      pub lay-entries : AsksLay entries directory₁ (length entries) 120
       lay-entries = record {
         few = omega (arith, a.entry);
-        inside = omega (arith, a.entry);
+        inside = omega arith;
         slots = x.same ∙ a.slots;
-        room = omega arith;
+        room = omega (arith, a.entry);
       }
 
-      module _ (directory₂ : List ℕ) (y : Lays entries directory₁ directory₂ 65 120) where
-        pub lay-widths : AsksLay widths directory₂ 32 185
+      module _ (directory₂ : List ℕ) (y : Lays entries directory₁ directory₂ (length entries) 120) where
+        pub lay-widths : AsksLay widths directory₂ (length widths) 185
         lay-widths = record {
           few = omega (arith, a.keys);
-          inside = omega (arith, a.keys);
+          inside = omega arith;
           slots = y.same ∙ (x.same ∙ a.slots);
-          room = omega arith;
+          room = omega (arith, a.keys);
         }
 
-        pub all_laid : (directory₃ : List ℕ) → Lays widths directory₂ directory₃ 32 185
+        pub all_laid : (directory₃ : List ℕ) → Lays widths directory₂ directory₃ (length widths) 185
             → Prepares offsets entries widths directory directory₃
         all_laid directory₃ z = record {
           same = z.same ∙ (y.same ∙ x.same);
           parts = λ i h. z.before i (omega arith) ∙ (y.before i (omega arith) ∙ x.before i h);
           offset = λ i h. z.before (offsets_slot + i) (omega arith)
-              ∙ (y.before (offsets_slot + i) (omega arith) ∙ x.laid i (omega arith));
-          entry = λ i h. z.before (entries_slot + i) (omega arith) ∙ y.laid i (omega arith);
-          width = λ i h. z.laid i h;
+              ∙ (y.before (offsets_slot + i) (omega arith) ∙ x.laid i (omega (arith, a.globals)));
+          entry = λ i h. z.before (entries_slot + i) (omega arith) ∙ y.laid i (omega (arith, a.entry));
+          width = λ i h. z.laid i (omega (arith, a.keys));
         }
 
 pub ruleset preparing = (lay-offsets, lay-entries, lay-widths, all_laid)

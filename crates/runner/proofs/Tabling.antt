@@ -202,7 +202,7 @@ module _ (P : Program) {nums directory ends : List ℕ} {scope : coded.Scope} {s
         st.scene.fits h.is)
         (λ i k q. st.tables.wide t i T k this.is q) h.answers
 
-    sought : SoughtIn nums ends directory keys₁ t at (entries_slot + 1) (get_or directory entries_slot 0) P T h.answer es
+    sought : SoughtIn nums directory ends keys₁ t at (entries_slot + 1) (get_or directory entries_slot 0) P T h.answer es
     unfolding apply_scope
     sought = record {
       table_is = this.is;
@@ -213,7 +213,7 @@ module _ (P : Program) {nums directory ends : List ℕ} {scope : coded.Scope} {s
       fits = look.fits;
     }
 
-    look-asks : AsksLook nums ends directory keys₁ t at (entries_slot + 1) (get_or directory entries_slot 0)
+    look-asks : AsksLook nums directory ends keys₁ t at (entries_slot + 1) (get_or directory entries_slot 0)
     unfolding apply_scope
     look-asks = record {
       program = P;
@@ -227,7 +227,7 @@ module _ (P : Program) {nums directory ends : List ℕ} {scope : coded.Scope} {s
       slots = omega (arith, st.tables.count, st.tables.few);
     }
 
-    module _ {r : Lookup} (told : TellsLookUp nums ends directory keys₁ t at r) where
+    module _ {r : Lookup} (told : TellsLookUp nums directory ends keys₁ t at r) where
       looked : Looked nums (look_up (longest_wins T.keys) h.answer rules.nothing (entries_of t es)) r
       looked = told.told P T h.answer es sought
 
@@ -343,10 +343,10 @@ module _ (nums directory ends : List ℕ) (scope : coded.Scope) (slots frame : L
             (KeyNumbers keys₁ 0)
         h = keys-ran a.program a.used a.entry_list a.state a.stage a.going
 
-        pub table-look : AsksLook nums ends directory keys₁ t at (entries_slot + 1) (get_or directory entries_slot 0)
+        pub table-look : AsksLook nums directory ends keys₁ t at (entries_slot + 1) (get_or directory entries_slot 0)
         table-look = look-asks a.program found a.stage a.going keys₁ h
 
-        module _ (x : Lookup) (told : TellsLookUp nums ends directory keys₁ t at x) where
+        module _ (x : Lookup) (told : TellsLookUp nums directory ends keys₁ t at x) where
           pub entry-action : (entry : ℕ) → x ≡ Lookups.Found entry
               → AsksAction nums directory ends slots₁ frame₁ actions entry (entry + 1)
           entry-action entry q =
@@ -389,7 +389,7 @@ module _ (nums directory ends : List ℕ) (scope : coded.Scope) (slots frame : L
                     (default-same a.program found a.stage a.going keys₁ h told q));
               }
 
-      module _ (x : Lookup) (told : TellsLookUp nums ends directory keys₁ t at x) (slots₂ frame₂ : List ℕ)
+      module _ (x : Lookup) (told : TellsLookUp nums directory ends keys₁ t at x) (slots₂ frame₂ : List ℕ)
           (y : Ended) where
         entry-ran : (entry : ℕ) → x ≡ Lookups.Found entry
             → RunsAction nums directory ends slots₁ slots₂ frame₁ frame₂ actions entry (entry + 1) y

@@ -3,6 +3,7 @@
 // packet's next unread byte. Frames stand in the working slots that are lent.
 #![tactic(auto)]
 
+ghost use Rattle.std.specs.Prelude.{length};
 ghost use Rattle.runner.specs.Prepares.{AsksLay, Lays, AsksPrepare, Prepares};
 ghost use Rattle.runner.specs.Whole.{AsksRun, RunsWhole, TellsSignal};
 ghost use Rattle.program.specs.In.{In};
@@ -30,12 +31,12 @@ fn signal_of(ended: Ended) -> Signal
     }
 }
 
-// So many numbers are put into the slots of the directory from one on.
-fn lay(numbers: &[u64], count: usize, slot: usize, directory: &mut [u64])
-    requires { AsksLay numbers.now directory.old count slot }
-    ensures { Lays numbers.now directory.old directory.new count slot }
+// Numbers are put into the slots of the directory from one on.
+fn lay(numbers: &[u64], slot: usize, directory: &mut [u64])
+    requires { AsksLay numbers.now directory.old (length numbers.now) slot }
+    ensures { Lays numbers.now directory.old directory.new (length numbers.now) slot }
 {
-    copy(numbers, 0, count, &mut directory[slot..]);
+    copy(numbers, 0, numbers.len(), &mut directory[slot..]);
 }
 
 // What a run looks up is put behind the parts that the directory has: where the globals stand in the store, where the
@@ -49,9 +50,9 @@ pub fn prepare(
     requires { AsksPrepare offsets.now entries.now widths.now directory.old }
     ensures { Prepares offsets.now entries.now widths.now directory.old directory.new }
 {
-    lay(offsets, lists::OFFSETS, shape::OFFSETS, directory);
-    lay(entries, lists::ENTRIES, shape::ENTRIES, directory);
-    lay(widths, program::WIDTHS, shape::WIDTHS, directory);
+    lay(offsets, shape::OFFSETS, directory);
+    lay(entries, shape::ENTRIES, directory);
+    lay(widths, shape::WIDTHS, directory);
 }
 
 // The run of an accepted file that is prepared, whose store has so many numbers from an index on; where there are
