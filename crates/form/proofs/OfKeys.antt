@@ -1,7 +1,7 @@
 -- Keys: the type of each, one after the other, and that each is bits.
 use mathlib.Core.Path.{◌≡◌, refl, sym, ◌∙◌}
 use mathlib.Core.List.{List, [], ◌∷◌}
-use Prim.Native.Nat.{ℕ, zero, suc, ◌+◌, ◌-◌, ◌^◌, ◌<◌}
+use Prim.Native.Nat.{ℕ, zero, suc, ◌+◌, ◌-◌, ◌^◌, ◌≤◌, ◌<◌}
 use native.Mathlib.Omega.{arith}
 use native.Mathlib.Numerals.{add-one}
 use lib.ListN.{length, get_or, set}
@@ -19,7 +19,7 @@ use Rattle.program.proofs.Firsts.{FirstKey, first_key}
 use Rattle.program.proofs.Views.{expr-begins}
 use Rattle.bodies.specs.Claims.{Typed, told_ty, AsksExpr, JudgesExpr}
 use Rattle.form.specs.Claims.{key_widths}
-use Rattle.form.specs.Parts.{AsksKey, JudgesKey, Keyed, told_keys, WithFirst, KeysAt, AsksKeys, JudgesKeys}
+use Rattle.form.specs.Parts.{AsksKey, JudgesKey, Keyed, told_keys, first_bool_of, WithFirst, KeysAt, AsksKeys, JudgesKeys}
 use Rattle.program.proofs.Seen.{apply_slots, apply-scope}
 
 -- the type of a key
@@ -51,7 +51,7 @@ some-width at zero later x = absurd (x refl)
 some-width at (suc t) later x = refl
 
 module _ (at t : ℕ) (rest : Keyed) where
-  pub with-bool : (b : Optional ℕ) → rest ≡ Ok b → t ≡ 0 → WithFirst at t rest (Ok (Some at))
+  with-bool : (b : Optional ℕ) → rest ≡ Ok b → t ≡ 0 → WithFirst at t rest (Ok (Some at))
   unfolding told_keys ◌>>=◌
   with-bool b k e = record { judged = rw k (go b) }
     where
@@ -60,7 +60,7 @@ module _ (at t : ℕ) (rest : Keyed) where
       go None = rw (no-width at t (ok tt) e)
       go (Some index) = rw (no-width at t (fault 7 index) e)
 
-  pub with-bits : (b : Optional ℕ) → rest ≡ Ok b → (t ≡ 0 → ⊥) → WithFirst at t rest (Ok b)
+  with-bits : (b : Optional ℕ) → rest ≡ Ok b → (t ≡ 0 → ⊥) → WithFirst at t rest (Ok b)
   unfolding told_keys ◌>>=◌
   with-bits b k x = record { judged = rw k (go b) }
     where
@@ -69,7 +69,7 @@ module _ (at t : ℕ) (rest : Keyed) where
       go None = rw (some-width at t (ok tt) x)
       go (Some index) = rw (some-width at t (fault 7 index) x)
 
-  pub then-unkeyed : (wrong : Fault) → rest ≡ Err wrong → WithFirst at t rest (Err wrong)
+  then-unkeyed : (wrong : Fault) → rest ≡ Err wrong → WithFirst at t rest (Err wrong)
   unfolding told_keys ◌>>=◌
   then-unkeyed wrong k = record { judged = rw k }
 
@@ -88,44 +88,52 @@ module _ (at t : ℕ) (rest : Keyed) where
           split (fault number i) q = let z : ◌≡◌ {A = ℕ} 0 1 = cc in absurd (omega arith)
       go (Err wrong) q = let z : ◌≡◌ {A = ℕ} 0 1 = cc in absurd (omega arith)
 
-pub ruleset firsts = (with-bool, with-bits, then-unkeyed)
+-- what is known of the keys before, with an answer for those behind
+unfoldable joined : Optional ℕ → Keyed → Keyed
+joined None r = r
+joined (Some index) (Ok b) = Ok (Some index)
+joined (Some index) (Err wrong) = Err wrong
+
+with-next : (at t : ℕ) (r : Keyed) → WithFirst at t r (joined (first_bool_of None at t) r)
+unfolding joined first_bool_of
+with-next at zero (Ok b) = with-bool at 0 (Ok b) b refl refl
+with-next at zero (Err wrong) = then-unkeyed at 0 (Err wrong) wrong refl
+with-next at (suc t) (Ok b) = with-bits at (suc t) (Ok b) b refl (λ e. absurd (omega (arith, e)))
+with-next at (suc t) (Err wrong) = then-unkeyed at (suc t) (Err wrong) wrong refl
+
+joined-next : (b : Optional ℕ) (at t : ℕ) (r : Keyed)
+    → joined b (joined (first_bool_of None at t) r) ≡ joined (first_bool_of b at t) r
+unfolding joined first_bool_of
+joined-next None at t r = refl
+joined-next (Some index) at zero (Ok b) = refl
+joined-next (Some index) at zero (Err wrong) = refl
+joined-next (Some index) at (suc t) (Ok b) = refl
+joined-next (Some index) at (suc t) (Err wrong) = refl
+
+-- the first of two, by whether there is one before
+module _ (before : Optional ℕ) (at t : ℕ) where
+  pub first-before : (index : ℕ) → before ≡ Some index → Some index ≡ first_bool_of before at t
+  unfolding first_bool_of
+  first-before index e = rw e
+
+  pub first-here : before ≡ None → t ≡ 0 → Some at ≡ first_bool_of before at t
+  unfolding first_bool_of
+  first-here e z = rw (e, z)
+
+  pub first-none : before ≡ None → (t ≡ 0 → ⊥) → None ≡ first_bool_of before at t
+  unfolding first_bool_of
+  first-none e x = rw e (go t x)
+    where
+      go : (t : ℕ) → (t ≡ 0 → ⊥) → None ≡ first_bool_of None at t
+      go zero x = absurd (x refl)
+      go (suc t) x = refl
+
+pub ruleset firsts = (first-before, first-here, first-none)
 
 -- the keys behind the first
 pub keys-behind : {nums ends : List ℕ} {at count : ℕ} {ks : List Key} → (o : FirstKey nums ends at count ks)
     → KeysAt nums ends (get_or ends (at + 1) 0) (count - 1) o.others
 keys-behind o = record { stand = o.rest; counted = o.fewer }
-
--- what the step over a key asks
-module _ (nums directory ends : List ℕ) (at count slot : ℕ) (h : AsksKeys nums directory ends at count slot)
-    (more : count ≡ 0 → ⊥)
-  where
-    asked : FirstKey nums ends at count h.keys
-    asked = first_key nums ends at count h.keys h.keys_stand.stand h.keys_stand.counted more
-
-    pub key-next : at + 1 < 2 ^ 64
-    key-next = omega (arith, expr-begins asked.stands, h.stands.numbers)
-
-    pub key-ends : at + 1 < length ends
-    key-ends = omega (arith, expr-begins asked.stands, h.stands.room)
-
-    pub key_here : AsksKey nums directory ends (at + 1)
-    key_here = record {
-      program = h.program;
-      end = h.end;
-      expr = asked.first.expr;
-      stands = h.stands;
-      expr_stands = asked.stands;
-    }
-
-    pub keys-left : AsksKeys nums directory ends (get_or ends (at + 1) 0) (count - 1) (slot + 1)
-    keys-left = record {
-      program = h.program;
-      end = h.end;
-      keys = asked.others;
-      stands = h.stands;
-      keys_stand = keys-behind asked;
-      slots = omega (arith, h.slots, more);
-    }
 
 -- a type's width
 width-of : (t : ℕ) → width_of (ok (ty_of t)) ≡ t
@@ -135,7 +143,7 @@ width-of (suc t) = refl
 
 -- the keys, one after the other
 module _ (nums directory ends : List ℕ) (at count slot : ℕ) (widths : List ℕ) where
-  pub keys_none : count ≡ 0 → JudgesKeys nums directory ends at count slot widths widths (Ok None)
+  keys_none : count ≡ 0 → JudgesKeys nums directory ends at count slot widths widths (Ok None)
   unfolding told_keys judge_keys keys_are_bits key_widths ◌>>=◌
   keys_none e = record { judged = λ P end ks s h. go P ks h; laid = λ k P end ks s h. lay P ks h }
     where
@@ -149,10 +157,10 @@ module _ (nums directory ends : List ℕ) (at count slot : ℕ) (widths : List �
       lay P (k ∷ ks) h = absurd (omega (arith, e, h.counted))
 
   module _ (more : count ≡ 0 → ⊥) where
-    pub keys-fault : (wrong : Fault) → JudgesKey nums directory ends (at + 1) (Err wrong)
+    fault-here : (wrong : Fault) → JudgesKey nums directory ends (at + 1) (Err wrong)
         → JudgesKeys nums directory ends at count slot widths widths (Err wrong)
     unfolding told_keys told_ty judge_keys ◌>>=◌
-    keys-fault wrong j = record {
+    fault-here wrong j = record {
       judged = λ P end ks s h.
           let o : FirstKey nums ends at count ks = first_key nums ends at count ks h.stand h.counted more in
           let e : judge_expr (apply_scope P) o.first.expr ≡ fault (number_of wrong.reason) wrong.index
@@ -175,11 +183,11 @@ module _ (nums directory ends : List ℕ) (at count slot : ℕ) (widths : List �
       both-judged (ok ts) first others b i e = rw (e, i, add-one at)
       both-judged (fault number index) first others b i e = rw e
 
-      pub keys-judged : (b r : Keyed) (widths' : List ℕ)
+      judged-here : (b r : Keyed) (widths' : List ℕ)
           → JudgesKeys nums directory ends (get_or ends (at + 1) 0) (count - 1) (slot + 1) (set widths slot t) widths' b
           → WithFirst (at + 1) t b r → JudgesKeys nums directory ends at count slot widths widths' r
       unfolding judge_keys key_widths key_width ◌>>=◌
-      keys-judged b r widths' l w = record {
+      judged-here b r widths' l w = record {
         judged = λ P end ks s h.
             let o : FirstKey nums ends at count ks = first_key nums ends at count ks h.stand h.counted more in
             w.judged
@@ -192,4 +200,88 @@ module _ (nums directory ends : List ℕ) (at count slot : ℕ) (widths : List �
             (rw (add-one slot) at (l.laid (rest-bits (at + 1) t b r w q) P end o.others s (keys-behind o)));
       }
 
-pub ruleset keyed = (key-next, key-ends, key_here, keys-left, keys_none, keys-fault, keys-judged)
+-- so many keys are judged: those from an index on are left, and the first bool before them is known, if there is one
+pub record Keying (nums directory ends : List ℕ) (at count slot : ℕ) (found : List ℕ) (done next : ℕ)
+    (before : Optional ℕ) (now : List ℕ) : Type 0 where
+  asks : AsksKeys nums directory ends next (count - done) (slot + done)
+  rest : (r : Keyed) (last : List ℕ) → JudgesKeys nums directory ends next (count - done) (slot + done) now last r
+      → JudgesKeys nums directory ends at count slot found last (joined before r)
+
+module _ (nums directory ends : List ℕ) (at count slot : ℕ) (found : List ℕ) where
+  pub keys-first : AsksKeys nums directory ends at count slot
+      → Keying nums directory ends at count slot found 0 at None found
+  unfolding joined
+  keys-first h =
+      let c : count - 0 ≡ count = omega arith in
+      let s : slot + 0 ≡ slot = omega arith in
+      record { asks = rw (c, s) h; rest = λ r last j. rw (c, s) at j }
+
+  module _ (done next : ℕ) (before : Optional ℕ) (now : List ℕ)
+      (e : Keying nums directory ends at count slot found done next before now) where
+    pub keys-done : count ≤ done → JudgesKeys nums directory ends at count slot found now (Ok before)
+    unfolding joined
+    keys-done l = go before (e.rest (Ok None) now
+        (keys_none nums directory ends next (count - done) (slot + done) now (omega (arith, l))))
+      where
+        go : (b : Optional ℕ) → JudgesKeys nums directory ends at count slot found now (joined b (Ok None))
+            → JudgesKeys nums directory ends at count slot found now (Ok b)
+        go None j = j
+        go (Some index) j = j
+
+    module _ (l : done < count) where
+      abbrev some_left : count - done ≡ 0 → ⊥
+      some_left z = omega (arith, z, l)
+
+      asked : FirstKey nums ends next (count - done) e.asks.keys
+      asked =
+          first_key nums ends next (count - done) e.asks.keys e.asks.keys_stand.stand e.asks.keys_stand.counted some_left
+
+      pub key-next : next + 1 < 2 ^ 64
+      key-next = omega (arith, expr-begins asked.stands, e.asks.stands.numbers)
+
+      pub key-ends : next + 1 < length ends
+      key-ends = omega (arith, expr-begins asked.stands, e.asks.stands.room)
+
+      pub key_here : AsksKey nums directory ends (next + 1)
+      key_here = record {
+        program = e.asks.program;
+        end = e.asks.end;
+        expr = asked.first.expr;
+        stands = e.asks.stands;
+        expr_stands = asked.stands;
+      }
+
+      pub keys-fault : (wrong : Fault) → JudgesKey nums directory ends (next + 1) (Err wrong)
+          → JudgesKeys nums directory ends at count slot found now (Err wrong)
+      unfolding joined
+      keys-fault wrong j = go before (e.rest (Err wrong) now
+          (fault-here nums directory ends next (count - done) (slot + done) now some_left wrong j))
+        where
+          go : (b : Optional ℕ) → JudgesKeys nums directory ends at count slot found now (joined b (Err wrong))
+              → JudgesKeys nums directory ends at count slot found now (Err wrong)
+          go None j = j
+          go (Some index) j = j
+
+      pub keys-judged : (t : ℕ) → JudgesKey nums directory ends (next + 1) (Ok t) → (first : Optional ℕ)
+          → first ≡ first_bool_of before (next + 1) t
+          → Keying nums directory ends at count slot found (done + 1) (get_or ends (next + 1) 0) first
+          (set now (slot + done) t)
+      keys-judged t j first f =
+          let c : count - (done + 1) ≡ count - done - 1 = omega arith in
+          let s : slot + (done + 1) ≡ slot + done + 1 = omega arith in
+          record {
+            asks = rw (c, s) (record {
+              program = e.asks.program;
+              end = e.asks.end;
+              keys = asked.others;
+              stands = e.asks.stands;
+              keys_stand = keys-behind asked;
+              slots = omega (arith, e.asks.slots, l);
+            });
+            rest = λ r last m. rw (f, ← joined-next before (next + 1) t r) (e.rest
+                (joined (first_bool_of None (next + 1) t) r) last
+                (judged-here nums directory ends next (count - done) (slot + done) now some_left t j r
+                (joined (first_bool_of None (next + 1) t) r) last (rw (c, s) at m) (with-next (next + 1) t r)));
+          }
+
+pub ruleset keyed = (keys-first, keys-done, key-next, key-ends, key_here, keys-fault, keys-judged)

@@ -1,6 +1,6 @@
 -- What the functions below the judgement of a program ask and promise one another: each answers what the rules' page
 -- Form says of the part that stands where the function looks, whatever part and program stand there.
-use Rattle.std.specs.Prelude.{Bool, false, ◌≡◌, List, [], ◌∷◌, ℕ, ◌+◌, ◌*◌, ◌≤◌, ◌<◌, eqb, length, drop, Result, Ok, Err, Some, None}
+use Rattle.std.specs.Prelude.{Bool, false, ◌≡◌, List, [], ◌∷◌, ℕ, zero, suc, ◌+◌, ◌*◌, ◌≤◌, ◌<◌, eqb, length, drop, Result, Ok, Err, Some, None}
 use Rattle.std.specs.Prelude.{Option as Optional}
 use Rattle.std.proofs.Math.Option.{some}
 use Rattle.std.proofs.Math.ListN.{get_elem?}
@@ -63,6 +63,12 @@ unfoldable pub told_keys : Keyed → Res (Res (Unit {0}))
 told_keys (Ok None) = ok (ok tt)
 told_keys (Ok (Some index)) = ok (fault 7 index)
 told_keys (Err f) = fault (number_of f.reason) f.index
+
+-- where the first key stands that is a bool, of those before one and that one
+unfoldable pub first_bool_of : Optional ℕ → ℕ → ℕ → Optional ℕ
+first_bool_of (Some index) at t = Some index
+first_bool_of None at zero = Some at
+first_bool_of None at (suc width) = None
 
 pub record WithFirst (at t : ℕ) (rest r : Keyed) : Type 0 where
   pub judged : told_keys r ≡ (told_keys rest >>= λ later. ok (width_at at (ty_of t) >>= λ _. later))

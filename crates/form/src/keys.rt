@@ -1,6 +1,6 @@
 // The keys of a table: the expression of each in the scope of the apply body, that each is bits, and their kinds.
-ghost use Rattle.std.specs.Prelude.{false};
-ghost use Rattle.form.specs.Parts.{AsksKey, JudgesKey, WithFirst, AsksKeys, JudgesKeys, AsksKinds, JudgesKinds};
+ghost use Rattle.std.specs.Prelude.{◌≡◌, false};
+ghost use Rattle.form.specs.Parts.{AsksKey, JudgesKey, first_bool_of, AsksKeys, JudgesKeys, AsksKinds, JudgesKinds};
 ghost use Rattle.program.specs.In.{In};
 
 use super::{Formal, rule};
@@ -23,12 +23,14 @@ fn key_type(source: &Source, at: usize) -> Typed
     judge_expr(source, &scope, DEEPEST, at)
 }
 
-// The keys from one on, whose expression stands at an index and has a type, where the others are judged.
-fn with_first(at: usize, t: u64, rest: Keyed) -> Keyed
-    ensures { WithFirst at t rest result }
+// Where the first key stands that is a bool: one before, if there is one, else the one at an index, if its type is bool.
+fn first_bool(before: Option<usize>, at: usize, t: u64) -> Option<usize>
+    ensures { result ≡ first_bool_of before at t }
 {
-    let boolean = rest?;
-    if t == 0 { Ok(Some(at)) } else { Ok(boolean) }
+    match before {
+        Some(index) => Some(index),
+        None => { if t == 0 { Some(at) } else { None } }
+    }
 }
 
 // So many keys. Their widths go into the slots from `slot` on.
@@ -42,15 +44,16 @@ pub fn judge_keys(
     requires { In AsksKeys source.now at count slot }
     ensures { In JudgesKeys source.now at count slot widths.old widths.new result }
 {
-    if count == 0 {
-        Ok(None)
-    } else {
-        let t = key_type(source, at + 1)?;
-        widths[slot] = t;
-        let next = source.ends[at + 1] as usize;
-        let rest = judge_keys(source, next, count - 1, slot + 1, widths);
-        with_first(at + 1, t, rest)
+    let mut boolean = None;
+    let mut next = at;
+    for i in 0..count as usize {
+        let key = next + 1;
+        let t = key_type(source, key)?;
+        widths[slot + i] = t;
+        boolean = first_bool(boolean, key, t);
+        next = source.ends[key] as usize;
     }
+    Ok(boolean)
 }
 
 // At most one of so many keys is lpm.
