@@ -164,7 +164,7 @@ fn count_branches(
 {
     let one = count_stmt(source, tables, reach, depth, first, kept);
     let other = count_stmt(source, tables, reach, depth, second, kept);
-    if one < other { other } else { one }
+    one.max(other)
 }
 
 // So many statements, one behind the other.

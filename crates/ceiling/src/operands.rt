@@ -79,12 +79,7 @@ pub(crate) fn add(a: u64, b: u64) -> u64
     requires { (a ≤ suc most_steps) × (b ≤ suc most_steps) }
     ensures { result ≡ cut (a + b) }
 {
-    let sum = a + b;
-    if MOST_STEPS < sum {
-        MOST_STEPS + 1
-    } else {
-        sum
-    }
+    (a + b).min(MOST_STEPS + 1)
 }
 
 // The operands of an expression whose tag calls nothing.

@@ -10,11 +10,8 @@ count_branches-count_stmt-one-requires t c = search (counting, counting_stmts, r
 pub count_branches-count_stmt-other-requires : goal.count_branches-count_stmt-other-requires
 count_branches-count_stmt-other-requires t c = search (counting, counting_stmts, rules)
 
-pub count_branches-returns-then-one-other : goal.count_branches-returns-then-one-other
-count_branches-returns-then-one-other t c = search (counting, counting_stmts, rules)
-
-pub count_branches-returns-else-one-other : goal.count_branches-returns-else-one-other
-count_branches-returns-else-one-other t c = search (counting, counting_stmts, rules)
+pub count_branches-returns : goal.count_branches-returns
+count_branches-returns t c = search (counting, counting_stmts, rules)
 
 pub count_call-frame_of-frame-requires : goal.count_call-frame_of-frame-requires
 count_call-frame_of-frame-requires t c = search (counting, counting_stmts, rules)
