@@ -35,11 +35,12 @@ pub(crate) fn count_expr(
         source, tables, reach, held.lower, held.first, held.count, kept,
     );
     let own = operands::add(1, inside);
-    if held.calls {
-        let called = count_call(source, tables, reach, held.callable, kept);
-        operands::add(own, called)
-    } else {
-        own
+    match held.callable {
+        Some(f) => {
+            let called = count_call(source, tables, reach, f, kept);
+            operands::add(own, called)
+        }
+        None => own,
     }
 }
 
