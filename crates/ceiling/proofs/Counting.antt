@@ -1,5 +1,6 @@
 -- The steps of the cycle: what each call asks, what each count then is, and what falls.
 use mathlib.Core.Bool.{Bool, true, false}
+use Rattle.std.specs.Prelude.{Option, Some, None}
 use mathlib.Core.Path.{◌≡◌, refl, ◌∙◌}
 use mathlib.Core.List.{List}
 use Prim.Native.Nat.{ℕ, suc, ◌+◌, ◌-◌, ◌*◌, ◌≤◌, ◌<◌, ◌^◌}
@@ -39,8 +40,8 @@ module _ (nums directory ends kept : List ℕ) (reach depth at : ℕ)
     stands = a.stands;
   }
 
-  module _ (lower first count : ℕ) (calls : Bool) (f : ℕ)
-      (h : HeldExpr nums ends depth at lower first count calls f) where
+  module _ (lower first count : ℕ) (callable : Option ℕ)
+      (h : HeldExpr nums ends depth at lower first count callable) where
     pub expr-operands : AsksExprs nums directory ends kept reach lower first count
     expr-operands =
         let o : Operand nums ends depth lower first count (operands_in a.expr) = h.operands a.expr a.stands in
@@ -71,9 +72,9 @@ module _ (nums directory ends kept : List ℕ) (reach depth at : ℕ)
   pub expr-call-fall : (t : ℕ) → rank reach (4 * depth) ≡ t → rank reach 0 < t
   expr-call-fall t e = rank-lower t reach (4 * depth) 0 e (omega (arith, (expr-begins a.stands).levels))
 
-module _ (nums directory ends kept kept₁ : List ℕ) (reach depth at lower first count : ℕ) (calls : Bool)
-    (f inside own : ℕ)
-    (h : HeldExpr nums ends depth at lower first count calls f)
+module _ (nums directory ends kept kept₁ : List ℕ) (reach depth at lower first count : ℕ) (callable : Option ℕ)
+    (inside own : ℕ)
+    (h : HeldExpr nums ends depth at lower first count callable)
     (c : CountsExprs nums directory ends kept kept₁ reach lower first count inside) (o : own ≡ cut (1 + inside)) where
   own-counted : (P : Program) (e : Expr) → Setting nums directory ends kept reach P → StandsExpr nums ends depth at e
       → Counted P (1 + ceiling_args (callee_below P reach) (operands_in e)) own kept₁
@@ -83,11 +84,11 @@ module _ (nums directory ends kept kept₁ : List ℕ) (reach depth at lower fir
       = c.counted P (operands_in e) s p.stand p.counts in
       record { is = cut-own inside own _ q.is o; keeps = q.keeps }
 
-  pub expr-calls : (kept₂ : List ℕ) (called r : ℕ) → calls ≡ true
+  pub expr-calls : (kept₂ : List ℕ) (f called r : ℕ) → callable ≡ Some f
       → CountsCall nums directory ends kept₁ kept₂ reach f called
       → r ≡ cut (own + called) → CountsExpr nums directory ends kept kept₂ reach depth at r
   unfolding calling
-  expr-calls kept₂ called r k d e = record {
+  expr-calls kept₂ f called r k d e = record {
     low = cut_low r (own + called) e;
     counted = λ P x s w.
         let p : Counted P (1 + ceiling_args (callee_below P reach) (operands_in x)) own kept₁ = own-counted P x s w in
@@ -100,7 +101,7 @@ module _ (nums directory ends kept kept₁ : List ℕ) (reach depth at lower fir
         };
   }
 
-  pub expr-plain : calls ≡ false → CountsExpr nums directory ends kept kept₁ reach depth at own
+  pub expr-plain : callable ≡ None → CountsExpr nums directory ends kept kept₁ reach depth at own
   unfolding calling
   expr-plain k = record {
     low = cut_low own (1 + inside) o;

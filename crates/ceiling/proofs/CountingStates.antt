@@ -5,7 +5,6 @@ use mathlib.Core.List.{List, [], ◌∷◌}
 use Prim.Native.Nat.{ℕ, zero, suc, ◌+◌, ◌-◌, ◌*◌, ◌^◌, ◌≤◌, ◌<◌, max}
 use native.Mathlib.Nat.{sub-zero}
 use native.Mathlib.Omega.{arith}
-use Rattle.std.specs.Ordering.{ord_max, nat_cmp}
 use lib.Dec.{eqb}
 use lib.ListN.{length, get_or, set, drop, length-set, replicate, get_or-replicate, drop_of_length-le}
 use lib.Seq.{get_or-set_same, get_or-set_other}
@@ -21,7 +20,7 @@ use Rattle.program.proofs.Members.{drop-member}
 use Rattle.ceiling.specs.Cut.{cut}
 use Rattle.ceiling.specs.Claims.{callee_below, applied_in, TablesKept, Setting, Counted, AsksExpr, CountsExpr, AsksStmt, CountsStmt}
 use Rattle.ceiling.specs.StateClaims.{Later, CountsLed, AsksDearest, CountsDearest, AsksTransition, CountsTransition, later_from, AsksState, CountsState, AsksStates, Worked, CountsStates, AsksParser, CountsParser}
-use Rattle.ceiling.proofs.Sums.{larger-is, one-low, cut_low, cut-zero, cut-own, cut-both, cut-max}
+use Rattle.ceiling.proofs.Sums.{one-low, cut_low, cut-zero, cut-own, cut-both, cut-max}
 use Rattle.ceiling.proofs.Counting.{resumed}
 use Rattle.ceiling.proofs.CountingTables.{count-falls}
 
@@ -109,14 +108,14 @@ module _ (nums filled : List ℕ) (at count most done : ℕ) (w : PairsLeft nums
     pairs-next = omega (arith, pairs-inside_of, w.asks.numbers)
 
     pub pairs-again : (one most₁ : ℕ) → CountsLed filled (get_or nums (at + 2 * done + 1) 0) one
-        → most₁ ≡ ord_max nat_cmp most one
+        → most₁ ≡ max most one
         → PairsLeft nums filled at count most₁ (done + 1)
     pairs-again one most₁ c e = record {
       asks = rw (← further, ← fewer) (pairs-rest nums filled (at + 2 * done) (count - done) w.asks more);
       rest = λ others r d f.
           w.rest (max one others) r
           (pairs-more nums filled (at + 2 * done) (count - done) one others w.asks more c (rw (← further, ← fewer) at d))
-          (omega (arith, larger-is most one most₁ e, f));
+          (omega (arith, e, f));
     }
 
   pub pairs-end : count ≤ done → CountsDearest nums filled at count most

@@ -1,7 +1,7 @@
 -- The steps of the cycle, of statements.
 use mathlib.Core.Path.{◌≡◌, sym, ◌∙◌}
 use mathlib.Core.List.{List}
-use Prim.Native.Nat.{ℕ, suc, ◌+◌, ◌-◌, ◌*◌, ◌≤◌, ◌<◌, ◌^◌}
+use Prim.Native.Nat.{ℕ, suc, ◌+◌, ◌-◌, ◌*◌, ◌≤◌, ◌<◌, ◌^◌, max}
 use native.Mathlib.Omega.{arith}
 use lib.ListN.{length, get_or}
 use borrow.Author.Tests.{eq-eqb, ne_eqb}
@@ -17,7 +17,7 @@ use Rattle.ceiling.specs.Claims.{callee_below, applied_in, Kept, TablesKept, Set
 use Rattle.ceiling.specs.Claims.{AsksHeldStmt, Operand, HeldStmt, RunsIn, runs-branches, runs-members, runs-body, runs-table, runs-nothing, HeldRuns}
 use Rattle.ceiling.specs.Claims.{AsksExprs, CountsExprs, AsksCall, CountsCall, AsksStmt, CountsStmt, CountsRun, AsksBranches, CountsBranches, AsksStmts, CountsStmts, AsksApplied, CountsApplied}
 use Rattle.ceiling.proofs.Rank.{rank, rank-lower}
-use Rattle.ceiling.proofs.Sums.{cut_low, cut-zero, cut-own, cut-both, cut-larger, cut-not-larger, cut-more, cut-begin, cut-done, ceil-stmt}
+use Rattle.ceiling.proofs.Sums.{cut_low, cut-zero, cut-own, cut-both, cut-max, cut-more, cut-begin, cut-done, ceil-stmt}
 use Rattle.ceiling.proofs.Counting.{resumed}
 
 -- a statement: its operands, then what it runs besides
@@ -355,27 +355,16 @@ module _ (nums directory ends tables kept : List ℕ) (reach lower first second 
   module _ (kept₁ kept₂ : List ℕ) (one other : ℕ)
       (c : CountsStmt nums directory ends tables kept kept₁ reach lower first one)
       (d : CountsStmt nums directory ends tables kept₁ kept₂ reach lower second other) where
-    pub larger-second : one < other
-        → CountsBranches nums directory ends tables kept kept₂ reach lower first second other
-    larger-second l = record {
-      low = d.low;
+    pub larger-branch : (r : ℕ) → r ≡ max one other
+        → CountsBranches nums directory ends tables kept kept₂ reach lower first second r
+    larger-branch r e = record {
+      low = omega (arith, e, c.low, d.low);
       counted = λ P a b setting table tabled w v.
           let p : Counted P (ceiling_stmt (callee_below P reach) (applied_in P reach table) a) one kept₁
           = c.counted P a setting table tabled w in
           let q : Counted P (ceiling_stmt (callee_below P reach) (applied_in P reach table) b) other kept₂
           = d.counted P b (resumed setting p) table tabled v in
-          record { is = cut-larger one other _ _ p.is q.is l; keeps = q.keeps };
-    }
-
-    pub larger-first : other ≤ one → CountsBranches nums directory ends tables kept kept₂ reach lower first second one
-    larger-first l = record {
-      low = c.low;
-      counted = λ P a b setting table tabled w v.
-          let p : Counted P (ceiling_stmt (callee_below P reach) (applied_in P reach table) a) one kept₁
-          = c.counted P a setting table tabled w in
-          let q : Counted P (ceiling_stmt (callee_below P reach) (applied_in P reach table) b) other kept₂
-          = d.counted P b (resumed setting p) table tabled v in
-          record { is = cut-not-larger one other _ _ p.is q.is l; keeps = q.keeps };
+          record { is = e ∙ cut-max one other _ _ p.is q.is; keeps = q.keeps };
     }
 
 pub list-fall : (t reach depth : ℕ) → rank reach (4 * depth + 3) ≡ t → rank reach (4 * depth + 2) < t
@@ -493,8 +482,7 @@ pub ruleset counting_stmts = (
   run-nothing,
   first-asks,
   second-asks,
-  larger-second,
-  larger-first,
+  larger-branch,
   list-fall,
   stmts-begin,
   stmts-asks,

@@ -5,7 +5,6 @@ use mathlib.Core.List.{List, [], ◌∷◌}
 use Prim.Native.Nat.{ℕ, zero, suc, ◌+◌, ◌-◌, ◌≤◌, ◌<◌, ◌^◌, max}
 use native.Mathlib.Nat.{add-zero, sub-zero}
 use native.Mathlib.Omega.{arith}
-use Rattle.std.specs.Ordering.{ord_max, nat_cmp}
 use lib.Dec.{eqb}
 use lib.ListN.{length, get_or, get_elem?, set, length-set}
 use lib.Seq.{get_or-set_same, get_or-set_other}
@@ -20,7 +19,7 @@ use Rattle.program.proofs.Found.{At, member-at}
 use Rattle.ceiling.specs.Cut.{cut}
 use Rattle.ceiling.specs.Claims.{callee_below, Counted, AsksExpr, CountsExpr, AsksCall, CountsCall}
 use Rattle.ceiling.specs.Claims.{AsksKeys, CountsKeys, AsksLargest, CountsLargest, AsksTable, CountsTable, FilledTo, AsksTables, CountsTables}
-use Rattle.ceiling.proofs.Sums.{larger-is, cut_low, cut-zero, cut-both, cut-max, cut-again, cut-only, cut-alone, below}
+use Rattle.ceiling.proofs.Sums.{cut_low, cut-zero, cut-both, cut-max, cut-again, cut-only, cut-alone, below}
 use Rattle.ceiling.proofs.Counting.{resumed}
 
 pub count-falls : (t count : ℕ) → count ≡ t → (count ≡ 0 → ⊥) → count - 1 < t
@@ -243,7 +242,7 @@ module _ (nums directory ends kept : List ℕ) (reach at count : ℕ) (kept₁ :
 
       pub actions-again : (kept₂ : List ℕ) (one most₁ : ℕ)
           → CountsCall nums directory ends kept₁ kept₂ reach (get_or nums (at + done) 0) one
-          → most₁ ≡ ord_max nat_cmp most one
+          → most₁ ≡ max most one
           → ActionsLeft nums directory ends kept reach at count kept₂ most₁ (done + 1)
       actions-again kept₂ one most₁ c e = record {
         asks = rw (← further, ← fewer-actions)
@@ -252,7 +251,7 @@ module _ (nums directory ends kept : List ℕ) (reach at count : ℕ) (kept₁ :
             w.rest kept₃ (max one others) r
             (actions-more nums directory ends kept₁ reach (at + done) (count - done) kept₂ kept₃ one others more-actions
             c (rw (← further, ← fewer-actions) at d))
-            (omega (arith, larger-is most one most₁ e, f));
+            (omega (arith, e, f));
       }
 
     pub actions-end : count ≤ done → CountsLargest nums directory ends kept kept₁ reach at count most

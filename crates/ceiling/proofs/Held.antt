@@ -1,5 +1,5 @@
 -- What a construct holds, from its tag: its operands, the callable that it calls, what a statement runs besides.
-use mathlib.Core.Bool.{Bool, true}
+use Rattle.std.specs.Prelude.{Option, Some}
 use mathlib.Core.Path.{◌≡◌, refl, ◌∙◌}
 use mathlib.Core.List.{List}
 use Prim.Native.Nat.{ℕ, ◌+◌, ◌-◌, ◌*◌, ◌≤◌, ◌<◌, ◌^◌}
@@ -47,18 +47,18 @@ record Bare (nums ends : List ℕ) (depth first count : ℕ) (e : Expr) : Type 0
   pub counts : count ≡ arg_count (operands_in e)
   pub calls : (callee : ℕ → ℕ) → called_by callee e ≡ 0
 
-held_plain : (nums ends : List ℕ) (depth at first count lower first' count' : ℕ) (calls : Bool) (f : ℕ)
+held_plain : (nums ends : List ℕ) (depth at first count lower first' count' : ℕ) (callable : Option ℕ)
     → ((e : Expr) → StandsExpr nums ends depth at e → Bare nums ends depth first count e)
-    → Plain depth first count lower first' count' calls
-    → HeldExpr nums ends depth at lower first' count' calls f
+    → Plain depth first count lower first' count' callable
+    → HeldExpr nums ends depth at lower first' count' callable
 unfolding calling
-held_plain nums ends depth at first count lower first' count' calls f bare r = record {
+held_plain nums ends depth at first count lower first' count' callable bare r = record {
   operands = λ e s. record {
     levels = omega (arith, r.lower_is, (expr-begins s).levels);
     stand = rw (r.lower_is, r.first_is) (bare e s).stand;
     counts = r.count_is ∙ (bare e s).counts;
   };
-  called_is = λ e s callee. rw r.calls_is ((bare e s).calls callee);
+  called_is = λ e s callee. rw r.callable_is ((bare e s).calls callee);
 }
 
 one-bare : (nums ends : List ℕ) (depth at first : ℕ) (e : Expr) (make : Expr → Expr)
@@ -82,58 +82,58 @@ two-bare nums ends depth at first e make is calls v = record {
   calls = λ callee. rw v.same (calls v.left v.right callee);
 }
 
-module _ (nums ends : List ℕ) (depth at lower first count : ℕ) (calls : Bool) (f : ℕ) where
-  pub not-held : get_or nums at 0 ≡ 7 → Plain depth (at + 1) 1 lower first count calls
-      → HeldExpr nums ends depth at lower first count calls f
+module _ (nums ends : List ℕ) (depth at lower first count : ℕ) (callable : Option ℕ) where
+  pub not-held : get_or nums at 0 ≡ 7 → Plain depth (at + 1) 1 lower first count callable
+      → HeldExpr nums ends depth at lower first count callable
   unfolding ExprView operands_in called_by
-  not-held k r = held_plain nums ends depth at (at + 1) 1 lower first count calls f
+  not-held k r = held_plain nums ends depth at (at + 1) 1 lower first count callable
       (λ e s. one-bare nums ends depth at (at + 1) e (negation at) (λ a. refl) (λ a callee. refl) (rw k at
       (expr-view s))) r
 
-  pub complement-held : get_or nums at 0 ≡ 8 → Plain depth (at + 1) 1 lower first count calls
-      → HeldExpr nums ends depth at lower first count calls f
+  pub complement-held : get_or nums at 0 ≡ 8 → Plain depth (at + 1) 1 lower first count callable
+      → HeldExpr nums ends depth at lower first count callable
   unfolding ExprView operands_in called_by
-  complement-held k r = held_plain nums ends depth at (at + 1) 1 lower first count calls f
+  complement-held k r = held_plain nums ends depth at (at + 1) 1 lower first count callable
       (λ e s. one-bare nums ends depth at (at + 1) e (complement at) (λ a. refl) (λ a callee. refl)
       (rw k at (expr-view s))) r
 
-  pub binary-held : get_or nums at 0 ≡ 9 → Plain depth (at + 2) 2 lower first count calls
-      → HeldExpr nums ends depth at lower first count calls f
+  pub binary-held : get_or nums at 0 ≡ 9 → Plain depth (at + 2) 2 lower first count callable
+      → HeldExpr nums ends depth at lower first count callable
   unfolding ExprView operands_in called_by
-  binary-held k r = held_plain nums ends depth at (at + 2) 2 lower first count calls f
+  binary-held k r = held_plain nums ends depth at (at + 2) 2 lower first count callable
       (λ e s. let v : BinaryView nums ends depth at e = rw k at (expr-view s) in
       two-bare nums ends depth at (at + 2) e (binary at v.operator) (λ a b. refl) (λ a b callee. refl)
       v.operands) r
 
-  pub cast-held : get_or nums at 0 ≡ 10 → Plain depth (at + 2) 1 lower first count calls
-      → HeldExpr nums ends depth at lower first count calls f
+  pub cast-held : get_or nums at 0 ≡ 10 → Plain depth (at + 2) 1 lower first count callable
+      → HeldExpr nums ends depth at lower first count callable
   unfolding ExprView operands_in called_by
-  cast-held k r = held_plain nums ends depth at (at + 2) 1 lower first count calls f
+  cast-held k r = held_plain nums ends depth at (at + 2) 1 lower first count callable
       (λ e s. let v : CastView nums ends depth at e = rw k at (expr-view s) in
       one-bare nums ends depth at (at + 2) e (cast at v.width) (λ a. refl) (λ a callee. refl) v.operand) r
 
-  pub slice-held : get_or nums at 0 ≡ 11 → Plain depth (at + 3) 1 lower first count calls
-      → HeldExpr nums ends depth at lower first count calls f
+  pub slice-held : get_or nums at 0 ≡ 11 → Plain depth (at + 3) 1 lower first count callable
+      → HeldExpr nums ends depth at lower first count callable
   unfolding ExprView operands_in called_by
-  slice-held k r = held_plain nums ends depth at (at + 3) 1 lower first count calls f
+  slice-held k r = held_plain nums ends depth at (at + 3) 1 lower first count callable
       (λ e s. let v : SliceView nums ends depth at e = rw k at (expr-view s) in
       one-bare nums ends depth at (at + 3) e (slice at v.high v.low) (λ a. refl) (λ a callee. refl)
       v.operand) r
 
-  pub concatenation-held : get_or nums at 0 ≡ 12 → Plain depth (at + 1) 2 lower first count calls
-      → HeldExpr nums ends depth at lower first count calls f
+  pub concatenation-held : get_or nums at 0 ≡ 12 → Plain depth (at + 1) 2 lower first count callable
+      → HeldExpr nums ends depth at lower first count callable
   unfolding ExprView operands_in called_by
-  concatenation-held k r = held_plain nums ends depth at (at + 1) 2 lower first count calls f
+  concatenation-held k r = held_plain nums ends depth at (at + 1) 2 lower first count callable
       (λ e s. two-bare nums ends depth at (at + 1) e (concatenation at) (λ a b. refl) (λ a b callee. refl)
       (rw k at (expr-view s))) r
 
   pub leaf-held : (get_or nums at 0 ≡ 7 → ⊥) → (get_or nums at 0 ≡ 8 → ⊥) → (get_or nums at 0 ≡ 9 → ⊥)
       → (get_or nums at 0 ≡ 10 → ⊥) → (get_or nums at 0 ≡ 11 → ⊥) → (get_or nums at 0 ≡ 12 → ⊥)
-      → (get_or nums at 0 ≡ 13 → ⊥) → Plain depth at 0 lower first count calls
-      → HeldExpr nums ends depth at lower first count calls f
+      → (get_or nums at 0 ≡ 13 → ⊥) → Plain depth at 0 lower first count callable
+      → HeldExpr nums ends depth at lower first count callable
   unfolding operands_in arg_count called_by
   leaf-held k₇ k₈ k₉ k₁₀ k₁₁ k₁₂ k₁₃ r =
-      held_plain nums ends depth at at 0 lower first count calls f (λ e s. go s) r
+      held_plain nums ends depth at at 0 lower first count callable (λ e s. go s) r
     where
       go : {e : Expr} → StandsExpr nums ends depth at e → Bare nums ends depth at 0 e
       go (on_bool t n) = record { stand = on_none; counts = refl; calls = λ callee. refl }
@@ -149,7 +149,7 @@ module _ (nums ends : List ℕ) (depth at lower first count : ℕ) (calls : Bool
       go (on_call t f n xs) = absurd (k₁₃ t.holds.is)
 
 pub call-held : (nums ends : List ℕ) (depth at : ℕ) → AsksHeld nums ends depth at → get_or nums at 0 ≡ 13
-    → HeldExpr nums ends depth at (depth - 1) (at + 3) (get_or nums (at + 2) 0) true (get_or nums (at + 1) 0)
+    → HeldExpr nums ends depth at (depth - 1) (at + 3) (get_or nums (at + 2) 0) (Some (get_or nums (at + 1) 0))
 unfolding ExprView operands_in called_by calling
 call-held nums ends depth at asks k = record {
   operands = λ e s.

@@ -5,8 +5,6 @@ use mathlib.Core.Path.{◌≡◌, refl, ◌∙◌}
 use mathlib.Core.List.{[]}
 use Prim.Native.Nat.{ℕ, zero, suc, ◌+◌, ◌≤◌, ◌<◌, max}
 use native.Mathlib.Omega.{arith}
-use Rattle.std.specs.Ordering.{ord_max, nat_cmp}
-use Rattle.std.proofs.lemmas.Bool.Decides.{nat_tests}
 use lib.Dec.{eqb, ltb}
 use lib.ListN.{length, get_or, get_elem?, get_or-append, get_or-eq_default}
 use lib.Seq.{get_or_at}
@@ -37,19 +35,6 @@ pub cut-both : (own more r exact other : ℕ) → own ≡ cut exact → more ≡
     → r ≡ cut (exact + other)
 unfolding cut
 cut-both own more r exact other e f g = omega (arith, e, f, g)
-
-pub cut-larger : (one other exact second : ℕ) → one ≡ cut exact → other ≡ cut second → one < other
-    → other ≡ cut (max exact second)
-unfolding cut
-cut-larger one other exact second e f h = omega (arith, e, f)
-
-pub cut-not-larger : (one other exact second : ℕ) → one ≡ cut exact → other ≡ cut second → other ≤ one
-    → one ≡ cut (max exact second)
-unfolding cut
-cut-not-larger one other exact second e f h = omega (arith, e, f)
-
-pub larger-is : (a b r : ℕ) → r ≡ ord_max nat_cmp a b → r ≡ max a b
-larger-is a b r e = grind (arith, nat_tests)
 
 pub cut-max : (one other exact second : ℕ) → one ≡ cut exact → other ≡ cut second
     → max one other ≡ cut (max exact second)

@@ -1,6 +1,6 @@
 -- What the functions of the count ask and promise one another. A callable's ceiling is worked out from those below it
 -- and kept; a slot that holds 0 keeps nothing yet. `reach` is how many callables a body sees.
-use Rattle.std.specs.Prelude.{Bool, true, false, ◌≡◌, List, ℕ, suc, ◌-◌, ◌≤◌, ◌<◌, max, eqb, length, get_or}
+use Rattle.std.specs.Prelude.{true, false, Option, Some, None, ◌≡◌, List, ℕ, suc, ◌-◌, ◌≤◌, ◌<◌, max, eqb, length, get_or}
 use Rattle.std.proofs.Math.ListN.{get_elem?}
 use Rattle.rules.specs.Syntax.{Expr, bool_literal, bits_literal, read_of, valid_of, negation, complement, binary, cast, slice, concatenation, call_expr, Args, no_args, arg}
 use Rattle.rules.specs.Syntax.{Stmt, empty, assign, if_else, block, call_stmt, apply, return_value, return, exit, set_valid, set_invalid, extract, verify, Stmts, Numeral, Key, Program}
@@ -123,22 +123,22 @@ pub record Operand (nums ends : List ℕ) (depth lower first count : ℕ) (xs : 
   pub counts : count ≡ arg_count xs
 
 -- and the call that an expression makes, if it makes one
-unfoldable pub calling : Bool → ℕ → (ℕ → ℕ) → ℕ
-calling true f callee = callee f
-calling false f callee = 0
+unfoldable pub calling : Option ℕ → (ℕ → ℕ) → ℕ
+calling (Some f) callee = callee f
+calling None callee = 0
 
-pub record HeldExpr (nums ends : List ℕ) (depth at lower first count : ℕ) (calls : Bool) (f : ℕ) : Type 0 where
+pub record HeldExpr (nums ends : List ℕ) (depth at lower first count : ℕ) (callable : Option ℕ) : Type 0 where
   pub operands : (e : Expr) → StandsExpr nums ends depth at e
       → Operand nums ends depth lower first count (operands_in e)
   pub called_is : (e : Expr) → StandsExpr nums ends depth at e → (callee : ℕ → ℕ)
-      → called_by callee e ≡ calling calls f callee
+      → called_by callee e ≡ calling callable callee
 
 -- operands of an expression that calls nothing, as they are told
-pub record Plain (depth first count lower first' count' : ℕ) (calls : Bool) : Type 0 where
+pub record Plain (depth first count lower first' count' : ℕ) (callable : Option ℕ) : Type 0 where
   pub lower_is : lower ≡ depth - 1
   pub first_is : first' ≡ first
   pub count_is : count' ≡ count
-  pub calls_is : calls ≡ false
+  pub callable_is : callable ≡ None
 
 pub record HeldStmt (nums ends : List ℕ) (depth at lower first count : ℕ) : Type 0 where
   pub operands : (s : Stmt) → StandsStmt nums ends depth at s

@@ -35,11 +35,12 @@ pub(crate) fn count_expr(
         source, tables, reach, held.lower, held.first, held.count, kept,
     );
     let own = operands::add(1, inside);
-    if held.calls {
-        let called = count_call(source, tables, reach, held.callable, kept);
-        operands::add(own, called)
-    } else {
-        own
+    match held.callable {
+        Some(f) => {
+            let called = count_call(source, tables, reach, f, kept);
+            operands::add(own, called)
+        }
+        None => own,
     }
 }
 
@@ -164,7 +165,7 @@ fn count_branches(
 {
     let one = count_stmt(source, tables, reach, depth, first, kept);
     let other = count_stmt(source, tables, reach, depth, second, kept);
-    if one < other { other } else { one }
+    one.max(other)
 }
 
 // So many statements, one behind the other.

@@ -44,8 +44,7 @@ pub(crate) struct Operands {
     pub lower: usize,
     pub first: usize,
     pub count: usize,
-    pub calls: bool,
-    pub callable: u64,
+    pub callable: Option<u64>,
 }
 
 // The same of a statement, without a call.
@@ -79,32 +78,26 @@ pub(crate) fn add(a: u64, b: u64) -> u64
     requires { (a ≤ suc most_steps) × (b ≤ suc most_steps) }
     ensures { result ≡ cut (a + b) }
 {
-    let sum = a + b;
-    if MOST_STEPS < sum {
-        MOST_STEPS + 1
-    } else {
-        sum
-    }
+    (a + b).min(MOST_STEPS + 1)
 }
 
 // The operands of an expression whose tag calls nothing.
 fn held(depth: usize, first: usize, count: usize) -> Operands
     requires { 0 < depth }
-    ensures { Plain depth first count result.lower result.first result.count result.calls }
+    ensures { Plain depth first count result.lower result.first result.count result.callable }
 {
     Operands {
         lower: depth - 1,
         first,
         count,
-        calls: false,
-        callable: 0,
+        callable: None,
     }
 }
 
 // The operands of the expression at `at`.
 pub(crate) fn of_expr(source: &Source, depth: usize, at: usize) -> Operands
     requires { AsksHeld source.now.nums.now source.now.ends.now depth at }
-    ensures { HeldExpr source.now.nums.now source.now.ends.now depth at result.lower result.first result.count result.calls result.callable }
+    ensures { HeldExpr source.now.nums.now source.now.ends.now depth at result.lower result.first result.count result.callable }
 {
     let tag = source.nums[at];
     match tag {
@@ -118,8 +111,7 @@ pub(crate) fn of_expr(source: &Source, depth: usize, at: usize) -> Operands
             lower: depth - 1,
             first: at + 3,
             count: source.nums[at + 2] as usize,
-            calls: true,
-            callable: source.nums[at + 1],
+            callable: Some(source.nums[at + 1]),
         },
         _ => held(depth, at, 0),
     }

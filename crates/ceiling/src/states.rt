@@ -29,7 +29,7 @@ fn dearest(nums: &[u64], filled: &[u64; MOST_STATES], at: usize, count: u64) -> 
     requires { AsksDearest nums.now filled.now at count }
     ensures { CountsDearest nums.now filled.now at count result }
 {
-    let mut most = 0;
+    let mut most = 0u64;
     for i in 0..count as usize {
         let one = led_to(filled, nums[at + 2 * i + 1]);
         most = most.max(one);

@@ -42,7 +42,7 @@ fn largest(
     requires { In AsksLargest source.now kept.old reach at count }
     ensures { In CountsLargest source.now kept.old kept.new reach at count result }
 {
-    let mut most = 0;
+    let mut most = 0u64;
     for i in 0..count as usize {
         let one = count::count_call(source, tables, reach, source.nums[at + i], kept);
         most = most.max(one);

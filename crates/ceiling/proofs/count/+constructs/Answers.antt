@@ -10,11 +10,8 @@ count_branches-count_stmt-one-requires t c = search (counting, counting_stmts, r
 pub count_branches-count_stmt-other-requires : goal.count_branches-count_stmt-other-requires
 count_branches-count_stmt-other-requires t c = search (counting, counting_stmts, rules)
 
-pub count_branches-returns-then-one-other : goal.count_branches-returns-then-one-other
-count_branches-returns-then-one-other t c = search (counting, counting_stmts, rules)
-
-pub count_branches-returns-else-one-other : goal.count_branches-returns-else-one-other
-count_branches-returns-else-one-other t c = search (counting, counting_stmts, rules)
+pub count_branches-returns : goal.count_branches-returns
+count_branches-returns t c = search (counting, counting_stmts, rules)
 
 pub count_call-frame_of-frame-requires : goal.count_call-frame_of-frame-requires
 count_call-frame_of-frame-requires t c = search (counting, counting_stmts, rules)
@@ -40,11 +37,11 @@ count_expr-count_call-called-requires t c = search (counting, counting_stmts, ru
 pub count_expr-add-requires : goal.count_expr-add-requires
 count_expr-add-requires t c = search (counting, counting_stmts, rules)
 
-pub count_expr-returns-then-held : goal.count_expr-returns-then-held
-count_expr-returns-then-held t c = search (counting, counting_stmts, rules)
+pub count_expr-returns-in-Some : goal.count_expr-returns-in-Some
+count_expr-returns-in-Some t c = search (counting, counting_stmts, rules)
 
-pub count_expr-returns-else-held : goal.count_expr-returns-else-held
-count_expr-returns-else-held t c = search (counting, counting_stmts, rules)
+pub count_expr-returns-in-None : goal.count_expr-returns-in-None
+count_expr-returns-in-None t c = search (counting, counting_stmts, rules)
 
 pub count_exprs-count_expr-one-requires : goal.count_exprs-count_expr-one-requires
 count_exprs-count_expr-one-requires t c = search (counting, counting_stmts, rules)

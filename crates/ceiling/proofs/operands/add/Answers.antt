@@ -1,12 +1,8 @@
--- What carries it: a sum above the most is cut to one more.
+-- What carries it: what is cut is the least of the sum and one more than the most steps.
 use borrow.Author.Rules.{rules}
 use Rattle.ceiling.specs.Cut.{cut}
 use Rattle.ceiling.proofs.operands.add.Goals as goal
 
-pub returns-then-sum-gt-MOST_STEPS : goal.returns-then-sum-gt-MOST_STEPS
+pub returns : goal.returns
 unfolding cut
-returns-then-sum-gt-MOST_STEPS c = search rules
-
-pub returns-else-sum-gt-MOST_STEPS : goal.returns-else-sum-gt-MOST_STEPS
-unfolding cut
-returns-else-sum-gt-MOST_STEPS c = search rules
+returns c = search rules
