@@ -17,29 +17,7 @@ use Rattle.lists.specs.Listing.{pattern_size}
 use Rattle.lists.specs.Stands.{StandsPattern, on-exact, on-lpm, on-ternary}
 use Rattle.lookup.specs.Matching.{StandsWorked, AsksOne, prefix_behind, TellsOne}
 
--- the numbers looked at are inside
-pub record Room (nums : List ℕ) (from slot j at : ℕ) : Type 0 where
-  pub key : from < length nums
-  pub value : at < length nums
-  pub numbers : length nums ≤ 4096
-  pub slots : slot < 217
-  pub place : j < 4
-
-value-inside : {nums : List ℕ} {at : ℕ} {kind : KeyKind} {p : Pattern} → StandsPattern nums at kind p → at < length nums
-value-inside (on-exact v) = v.inside
-value-inside (on-lpm v prefix) = v.inside
-value-inside (on-ternary v mask) = v.inside
-
 module _ (nums directory keys : List ℕ) (from slot j at : ℕ) (a : AsksOne nums directory keys from slot j at) where
-  pub room : Room nums from slot j at
-  room = record {
-    key = a.stands.kind_is.inside;
-    value = value-inside a.stands.stands;
-    numbers = a.numbers;
-    slots = omega (arith, a.slots);
-    place = omega (arith, a.place);
-  }
-
   -- behind the value of an lpm or a ternary key stands another number
   pub second-inside : (get_or nums from 0 ≡ 0 → ⊥) → at + 1 < length nums
   unfolding key_kind_number

@@ -29,7 +29,8 @@ pub(crate) struct Best {
     prefix: u64,
 }
 
-// The entry that is found: where the position of its action stands, with the arguments behind it.
+// The entry that is found: where the position of its action stands, with the arguments behind it. No Option: document 01
+// names these two cases.
 #[derive(Clone, Copy)]
 pub enum Lookup {
     Found(usize),

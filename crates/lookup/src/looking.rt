@@ -13,13 +13,14 @@ fn any_key(source: &Source, kind: u64, from: usize, count: u64) -> bool
     requires { AsksKeys source.now.nums.now source.now.ends.now from count }
     ensures { TellsAny source.now.nums.now source.now.ends.now kind from count result }
 {
-    if count == 0 {
-        false
-    } else if source.nums[from] == kind {
-        true
-    } else {
-        any_key(source, kind, source.ends[from + 1] as usize, count - 1)
+    let mut key = from;
+    for _ in 0..count {
+        if source.nums[key] == kind {
+            return true;
+        }
+        key = source.ends[key + 1] as usize;
     }
+    false
 }
 
 // Whether the longest prefix wins.

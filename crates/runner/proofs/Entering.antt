@@ -1,7 +1,7 @@
 -- A state entered: its statement runs, and where that goes on its transition follows.
 use Rattle.program.specs.declared.Scope as coded
-use mathlib.Core.Bool.{Bool, true, false, false≢true}
-use mathlib.Core.Path.{◌≡◌, refl, ◌∙◌, sym}
+use mathlib.Core.Bool.{Bool, true, false}
+use mathlib.Core.Path.{◌≡◌, refl}
 use mathlib.Core.List.{List}
 use Prim.Native.Nat.{ℕ, ◌+◌, ◌<◌}
 use native.Mathlib.Omega.{arith}
@@ -16,7 +16,7 @@ use Rattle.program.specs.Looks.{Has, Finds, states_of, FoundState}
 use Rattle.program.proofs.Found.{member-in}
 use Rattle.program.proofs.Views.{stmt-begins}
 use Rattle.steps.specs.declared.Ended.{Ended}
-use Rattle.steps.specs.declared.Ended.TheVariants.{Onward, Returned, ReturnedValue, Exited, Rejected}
+use Rattle.steps.specs.declared.Ended.TheVariants.{Onward}
 use Rattle.steps.specs.Outcomes.{Goes, counter_of, Ran, Ends, AsksCount, Counts}
 use Rattle.steps.proofs.Going.{Begun, then-goes, counter-ticked, ran-here, ran_then}
 use Rattle.runner.specs.Runs.{stmt_in, Stage}
@@ -29,26 +29,6 @@ use Rattle.runner.proofs.States.{AtState, then_leave, state-found, entered-is, l
 pub onward-goes : (ending : Ending) (m : M State Ending) (s : State) → ending ≡ onward → and_then_run ending m s ≡ m s
 unfolding and_then_run
 onward-goes ending m s e = rw e refl
-
-pub on-told : (ended : Ended) → ended ≡ Onward → TellsOn ended true
-on-told ended e = record { on = λ _. e; over = λ q. absurd (false≢true (sym q)) }
-
-pub data Stops : Ended → Type 0 where
-  stops-returned : Stops Returned
-  stops-value : {ty number : ℕ} → Stops (ReturnedValue ty number)
-  stops-exited : Stops Exited
-  stops-rejected : {error : ℕ} → Stops (Rejected error)
-
-pub over-told : (ended r : Ended) → ended ≡ r → Stops r → TellsOn ended false
-over-told ended r e w = record { on = λ q. absurd (false≢true q); over = λ _ q. stops-onward r w (sym e ∙ q) }
-  where
-    stops-onward : (r : Ended) → Stops r → r ≡ Onward → ⊥
-    stops-onward r stops-returned q = let z : ◌≡◌ {A = ℕ} 0 1 = cc in omega arith
-    stops-onward r stops-value q = let z : ◌≡◌ {A = ℕ} 0 1 = cc in omega arith
-    stops-onward r stops-exited q = let z : ◌≡◌ {A = ℕ} 0 1 = cc in omega arith
-    stops-onward r stops-rejected q = let z : ◌≡◌ {A = ℕ} 0 1 = cc in omega arith
-
-pub ruleset on_told = (on-told, over-told, stops-returned, stops-value, stops-exited, stops-rejected)
 
 -- at any stage
 module _ (P : Program) (n : ℕ) {nums directory ends : List ℕ} {scope : coded.Scope} {slots frame : List ℕ} {used : ℕ} {es : List Entry} {s : State}

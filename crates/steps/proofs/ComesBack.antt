@@ -6,7 +6,7 @@ use mathlib.Core.List.{List, [], ◌∷◌}
 use Prim.Native.Nat.{ℕ, suc, ◌+◌, ◌-◌, ◌<◌, ◌^◌}
 use native.Mathlib.Omega.{arith}
 use lib.ListN.{length, get_or}
-use Rattle.rules.specs.Syntax.{Value, Expr, Args, no_args, arg, Parameter}
+use Rattle.rules.specs.Syntax.{Expr, Args, no_args, arg, Parameter}
 use Rattle.rules.specs.Form.{comes_back, Scope}
 use Rattle.rules.specs.Running.{State, Ending, onward, returned, returned_value, Out, done, M, next, ◌>>=◌, pure, in_turn, come_back, after_body, after_call}
 use Rattle.rules.proofs.Predicates.{All2, cons}
@@ -14,11 +14,10 @@ use Rattle.rules.proofs.Fits.{FitParameter}
 use Rattle.program.specs.Codes.{arg_count}
 use Rattle.program.specs.Stands.{StandsExpr, StandsArgs, on-arg, StandsParameters}
 use Rattle.program.proofs.Views.{expr-begins, no-args}
-use Rattle.values.specs.Claims.{value_of}
 use Rattle.steps.specs.declared.Ended.{Ended}
-use Rattle.steps.specs.declared.Ended.TheVariants.{Onward, Returned, ReturnedValue, Exited, Rejected}
-use Rattle.steps.specs.Outcomes.{Goes, Ran, Gave, Ends, ends-onward, ends-returned, ends-value, ends-exited, ends-rejected, EndsRun, by-exit, by-reject}
-use Rattle.steps.specs.Calls.{own_of, AsksOwn, Owns, one_back, LeftOne, AsksOneBack, RanBack, BacksOne, Left, AsksBack, Backs, TellsBack, AsksFinish, Finishes, AfterCall, Returns}
+use Rattle.steps.specs.declared.Ended.TheVariants.{Onward, Returned, ReturnedValue}
+use Rattle.steps.specs.Outcomes.{Goes, Ran, Ends, ends-onward, ends-returned, ends-value, ends-exited, ends-rejected, EndsRun, by-exit, by-reject}
+use Rattle.steps.specs.Calls.{own_of, AsksOwn, Owns, one_back, LeftOne, AsksOneBack, RanBack, BacksOne, Left, AsksBack, Backs, TellsBack, AsksFinish, Finishes, AfterCall}
 use Rattle.steps.proofs.Backs.{none_is}
 use Rattle.steps.proofs.Going.{Begun, not-nowhere, then-goes, rest_from, more-none, ran-here, ran_then}
 
@@ -383,53 +382,3 @@ pub call-goes : (ended r : Ended) → ended ≡ r → Stays r → AfterCall ende
 call-goes ended r e w = record { goes_on = λ ending t. goes-told ended ending t (stays_on ended r e w) }
 
 pub ruleset after_calls = (call-over, call-goes, stays-onward, stays-returned, stays-value, by-exit, by-reject)
-
--- the value of a call
-value-told : (ended : Ended) (ending : Ending) (ty number : ℕ) (v : Value) → Ends ended ending
-    → ended ≡ ReturnedValue ty number → ending ≡ returned_value v → Gave ty number v
-value-told ended ending ty number v ends-onward e q = let z : ◌≡◌ {A = ℕ} 0 1 = cc in absurd (omega arith)
-value-told ended ending ty number v ends-returned e q = let z : ◌≡◌ {A = ℕ} 0 1 = cc in absurd (omega arith)
-value-told ended ending ty number v (ends-value {ty = t} {number = n} w) e q =
-    let same : t ≡ ty = cc in
-    let equal : n ≡ number = cc in
-    let made : v ≡ value_of t n = cc in
-    record { is = rw (← same, ← equal) made; is_value = rw (same, equal) at w }
-value-told ended ending ty number v ends-exited e q = let z : ◌≡◌ {A = ℕ} 0 1 = cc in absurd (omega arith)
-value-told ended ending ty number v ends-rejected e q = let z : ◌≡◌ {A = ℕ} 0 1 = cc in absurd (omega arith)
-
-pub value-returned : (ended : Ended) (ty number : ℕ) → ended ≡ ReturnedValue ty number → Returns ended ty number
-value-returned ended ty number e = record { is = λ v t. value-told ended (returned_value v) ty number v t e refl }
-
-no_value : (ended r : Ended) (ending : Ending) (v : Value) {B : Type 0} → Ends ended ending → ending ≡ returned_value v
-    → ended ≡ r → ((ty number : ℕ) → r ≡ ReturnedValue ty number → ⊥) → B
-no_value ended r ending v ends-onward q e x = let z : ◌≡◌ {A = ℕ} 0 1 = cc in absurd (omega arith)
-no_value ended r ending v ends-returned q e x = let z : ◌≡◌ {A = ℕ} 0 1 = cc in absurd (omega arith)
-no_value ended r ending v (ends-value {ty = t} {number = n} w) q e x = absurd (x t n (sym e))
-no_value ended r ending v ends-exited q e x = let z : ◌≡◌ {A = ℕ} 0 1 = cc in absurd (omega arith)
-no_value ended r ending v ends-rejected q e x = let z : ◌≡◌ {A = ℕ} 0 1 = cc in absurd (omega arith)
-
-pub onward-returned : (ended : Ended) → ended ≡ Onward → Returns ended 0 0
-onward-returned ended e = record {
-  is = λ v t. no_value ended Onward (returned_value v) v t refl e λ ty number q.
-      let z : ◌≡◌ {A = ℕ} 0 1 = cc in omega arith;
-}
-
-pub plain-returned : (ended : Ended) → ended ≡ Returned → Returns ended 0 0
-plain-returned ended e = record {
-  is = λ v t. no_value ended Returned (returned_value v) v t refl e λ ty number q.
-      let z : ◌≡◌ {A = ℕ} 0 1 = cc in omega arith;
-}
-
-pub exit-returned : (ended : Ended) → ended ≡ Exited → Returns ended 0 0
-exit-returned ended e = record {
-  is = λ v t. no_value ended Exited (returned_value v) v t refl e λ ty number q.
-      let z : ◌≡◌ {A = ℕ} 0 1 = cc in omega arith;
-}
-
-pub reject-returned : (ended : Ended) (error : ℕ) → ended ≡ Rejected error → Returns ended 0 0
-reject-returned ended error e = record {
-  is = λ v t. no_value ended (Rejected error) (returned_value v) v t refl e λ ty number q.
-      let z : ◌≡◌ {A = ℕ} 0 1 = cc in omega arith;
-}
-
-pub ruleset returning = (value-returned, onward-returned, plain-returned, exit-returned, reject-returned)

@@ -107,11 +107,6 @@ unfolding or_stuck
 some-goes none s g = not_stuck g
 some-goes (some a) s g = record { member = a; is = refl }
 
-pub must-goes : {S : Type 0} {counted : ℕ} (b : Bool) (s : S) → Goes counted (must b s) → b ≡ true
-unfolding must
-must-goes true s g = refl
-must-goes false s g = not_stuck g
-
 -- where such a part comes first: what it found, and the rest from the same state
 pub record Found {S A B : Type 0} (counted : ℕ) (o : Option A) (k : A → M S B) (s : S) : Type 0 where
   pub member : A
@@ -132,11 +127,6 @@ unfolding ◌>>=◌ next must
 must-then-goes {counted = counted} true k s g =
     let e : counted + 0 ≡ counted = omega arith in (refl, rw e at (more-goes [] (k tt s) g))
 must-then-goes false k s g = not_stuck g
-
-pub gets-then-goes : {S A B : Type 0} {counted : ℕ} (f : S → Option A) (k : A → M S B) (s : S)
-    → Goes counted ((gets f >>= k) s) → Found counted (f s) k s
-unfolding ◌>>=◌ gets
-gets-then-goes f k s g = some-then-goes (f s) k s g
 
 -- what they come to
 pub then_is : {S A B : Type 0} (m : M S A) (k : A → M S B) (s : S) {a : A} {t : S} {seen : Seen}
@@ -209,21 +199,6 @@ module _ {nums directory ends : List ℕ} {scope : coded.Scope} {Γ : Scope} whe
     counted = omega arith;
     same = refl;
     answers = r;
-  }
-
-  pub ran-map : {A : Type 0} {Answers Others : A → Type 0} {slots slots' frame frame' : List ℕ} {o : Out State A}
-      → Ran nums directory ends scope slots slots' frame frame' Γ o Answers
-      → ((a : A) → Answers a → Others a)
-      → Ran nums directory ends scope slots slots' frame frame' Γ o Others
-  ran-map h f = record {
-    answer = h.answer;
-    state = h.state;
-    seen = h.seen;
-    is = h.is;
-    scene = h.scene;
-    counted = h.counted;
-    same = h.same;
-    answers = f h.answer h.answers;
   }
 
   pub ran_then : {A B : Type 0} {Answers : A → Type 0} {Others : B → Type 0}

@@ -46,7 +46,7 @@ fn write_back(
 }
 
 // What comes back from so many arguments, from left to right: the numbers of out and inout parameters, which the callee
-// left in slots one after the other.
+// left in slots one after the other. No loop: the edit write_back_right_to_left exchanges its two calls.
 fn come_back(
     source: &Source,
     scope: &Scope,

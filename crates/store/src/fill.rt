@@ -9,7 +9,8 @@ pub fn clear(from: usize, to: usize, slots: &mut [u64])
     slots[from..to].fill(0);
 }
 
-// So many numbers from an index on are put into the first slots.
+// So many numbers from an index on are put into the first slots. One at a time: where they are none, the index may be
+// past the end, and then there is no part of the numbers to copy whole.
 pub fn copy(nums: &[u64], from: usize, count: usize, slots: &mut [u64])
     requires { AsksCopy nums.now slots.old from count }
     ensures { Copies nums.now slots.old slots.new from count }
