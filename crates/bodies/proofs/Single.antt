@@ -177,7 +177,8 @@ module _ (nums directory ends : List ℕ) (scope : coded.Scope) (depth at : ℕ)
       }
 
   module _ (asks : AsksTagged 4 nums directory ends scope depth at) where
-    call-is : {c : Called} → JudgesCall nums directory ends scope depth at c → (Γ : Scope) (s : Stmt) → StandsScope nums directory ends scope Γ → StandsStmt nums ends depth at s
+    call-is : {c : Called} → JudgesCall nums directory ends scope depth at c → (Γ : Scope) (s : Stmt)
+        → StandsScope nums directory ends scope Γ → StandsStmt nums ends depth at s
         → ((told_call c >>= λ returns. need 8 at (may_call Γ.body returns)) >>= λ _. ok false)
         ≡ (judge_stmt Γ s >>= λ _. ok (returns_on s))
     unfolding returns_on
@@ -218,7 +219,8 @@ module _ (nums directory ends : List ℕ) (scope : coded.Scope) (depth at : ℕ)
     pub return-deep : 0 < depth
     return-deep = (stmt-begins asks.asks.stands).levels
 
-    pub returned-told : (t : ℕ) → JudgesExpr nums directory ends scope (depth - 1) (at + 1) (Ok t) → (r : Formed) → FormsIn scope (returned_in at t) r
+    pub returned-told : (t : ℕ) → JudgesExpr nums directory ends scope (depth - 1) (at + 1) (Ok t) → (r : Formed)
+        → FormsIn scope (returned_in at t) r
         → JudgesStmt nums directory ends scope depth at r
     unfolding returned_in judge_stmt returns_on ◌>>=◌
     returned-told t j r f = record {
@@ -254,7 +256,8 @@ module _ (nums directory ends : List ℕ) (scope : coded.Scope) (depth at : ℕ)
     pub verify-deep : 0 < depth
     verify-deep = (stmt-begins asks.asks.stands).levels
 
-    pub verified-told : (t : ℕ) → JudgesExpr nums directory ends scope (depth - 1) (at + 1) (Ok t) → (r : Formed) → FormsIn scope (parsed_in at (eqb t 0)) r
+    pub verified-told : (t : ℕ) → JudgesExpr nums directory ends scope (depth - 1) (at + 1) (Ok t) → (r : Formed)
+        → FormsIn scope (parsed_in at (eqb t 0)) r
         → JudgesStmt nums directory ends scope depth at r
     verified-told t j r f = record {
       judged = λ Γ s z h.

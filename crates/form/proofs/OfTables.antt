@@ -260,7 +260,8 @@ module _ (nums directory ends widths : List ℕ) where
       }
 
       module _ (l : t < get_or directory 59 0) (next : List ℕ) where
-        pub tables-next : LaysTable nums directory ends t now next (Ok tt) → Laid nums directory ends (t + 1) widths next
+        pub tables-next : LaysTable nums directory ends t now next (Ok tt)
+            → Laid nums directory ends (t + 1) widths next
         unfolding tables_of lay_tables
         tables-next j = record {
           walked = walk-next tables-walk nums directory ends t d.walked l j.judges;
