@@ -164,7 +164,8 @@ pub ruleset wanting = (none-wanted, next-wanted, wanted-type-inside, wanted-insi
 
 -- an argument against its parameter
 module _ (w : Wanted) (t : ℕ) (writable : Bool) (behind : Agreed) where
-  pub weighs-next : (p : coded_parameter.Parameter) → w.parameter ≡ Some p → (place a b : Bool) → place ≡ (ltb p.direction 2 || writable)
+  pub weighs-next : (p : coded_parameter.Parameter) → w.parameter ≡ Some p → (place a b : Bool)
+      → place ≡ (ltb p.direction 2 || writable)
       → a ≡ (eqb p.ty t && behind.types) → b ≡ (place && behind.places)
       → Weighs w t writable behind (record { types = a; places = b })
   unfolding weighed

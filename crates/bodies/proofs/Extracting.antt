@@ -2,9 +2,9 @@
 -- judgement.
 use Rattle.program.specs.declared.Scope as coded
 use mathlib.Core.Bool.{Bool, true, false}
-use mathlib.Core.Path.{◌≡◌, refl, sym, ◌∙◌}
+use mathlib.Core.Path.{◌≡◌, refl, ◌∙◌}
 use mathlib.Core.List.{List, [], ◌∷◌}
-use Prim.Native.Nat.{ℕ, ◌+◌, ◌-◌, ◌*◌, ◌%◌, ◌≤◌, ◌<◌}
+use Prim.Native.Nat.{ℕ, ◌+◌, ◌*◌, ◌%◌, ◌≤◌, ◌<◌}
 use native.Mathlib.Omega.{arith}
 use mir.Syntax.{w64}
 use mir.Val.{Fits}
@@ -68,7 +68,8 @@ none_left bits widths [] c e = omega (arith, e)
 none_left bits widths (w ∷ ws) c e = absurd (omega (arith, c))
 
 -- widths end inside
-widths_end : (nums : List ℕ) (at : ℕ) (ws : List ℕ) → StandsWidths nums at ws → at ≤ length nums → at + length ws ≤ length nums
+widths_end : (nums : List ℕ) (at : ℕ) (ws : List ℕ) → StandsWidths nums at ws → at ≤ length nums
+    → at + length ws ≤ length nums
 unfolding StandsWidths
 widths_end nums at [] s h = omega (arith, h)
 widths_end nums at (w ∷ ws) s h =
@@ -161,7 +162,8 @@ module _ (nums directory ends : List ℕ) (scope : coded.Scope) (at : ℕ) where
   }
 
   module _ (y : Found) (f : NamesGlobal nums directory ends at (Ok y)) where
-    pub extract-of-variable : (t : ℕ) → y ≡ Variable t → ExtractsIn nums directory ends scope at (refused reason.Type at)
+    pub extract-of-variable : (t : ℕ) → y ≡ Variable t
+        → ExtractsIn nums directory ends scope at (refused reason.Type at)
     unfolding FoundShape judge_global judge_extracted named ◌>>=◌ told_stmt
     extract-of-variable t e = record {
       judged = λ Γ s. rw (shape_of nums directory ends scope at y f (Variable t) e Γ s).1;

@@ -172,7 +172,8 @@ module _ (nums directory : List ℕ) (scope : coded.Scope) (at : ℕ) where
         rw m.is (f.judged Γ.body s.body);
   }
 
-  pub table_none : get_or directory 59 0 ≤ get_or nums (at + 1) 0 → Applies nums directory scope at (refused reason.Unnamed (at + 1))
+  pub table_none : get_or directory 59 0 ≤ get_or nums (at + 1) 0
+      → Applies nums directory scope at (refused reason.Unnamed (at + 1))
   unfolding named ◌>>=◌
   table_none h = record {
     judged = λ ends Γ s. unnamed at

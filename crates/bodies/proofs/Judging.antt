@@ -112,7 +112,8 @@ module _ (nums directory ends : List ℕ) (scope : coded.Scope) (depth at : ℕ)
   returns-most callee j = j.most
 
   module _ (k : get_or nums at 0 ≡ 13) where
-    call-is : {c : Called} → JudgesCall nums directory ends scope depth at c → (Γ : Scope) (e : Expr) → StandsScope nums directory ends scope Γ → (h : StandsExpr nums ends depth at e)
+    call-is : {c : Called} → JudgesCall nums directory ends scope depth at c → (Γ : Scope) (e : Expr)
+        → StandsScope nums directory ends scope Γ → (h : StandsExpr nums ends depth at e)
         → (told_call c >>= value_in at Γ.body) ≡ judge_expr Γ e
     call-is j Γ e s h =
         let v : CallView nums ends depth at e = call-of e h k in

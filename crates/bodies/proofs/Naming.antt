@@ -109,7 +109,8 @@ module _ (nums : List ℕ) (scope : coded.Scope) (at : ℕ) where
       };
     }
 
-  pub local-none : scope.local_count ≤ number → SlotTyped nums scope (local_ty nums at) (refused reason.Unnamed (at + 1))
+  pub local-none : scope.local_count ≤ number
+      → SlotTyped nums scope (local_ty nums at) (refused reason.Unnamed (at + 1))
   unfolding TyMost local_ty judge_place named
   local-none h = record {
     typed = λ directory ends. record {
@@ -161,7 +162,8 @@ module _ (nums : List ℕ) (scope : coded.Scope) (at : ℕ) where
           rw (m.member.is, m.stands.direction.is) (written m.member.member.direction);
     }
 
-  pub parameter-none : scope.parameter_count ≤ number → SlotTyped nums scope (parameter_ty nums at) (refused reason.Unnamed (at + 1))
+  pub parameter-none : scope.parameter_count ≤ number
+      → SlotTyped nums scope (parameter_ty nums at) (refused reason.Unnamed (at + 1))
   unfolding TyMost parameter_ty judge_place named ◌>>=◌
   parameter-none h = record {
     typed = λ directory ends. record {

@@ -29,7 +29,7 @@ use Rattle.program.proofs.Members.{same-types}
 use Rattle.bodies.specs.declared.Agreed.{Agreed}
 use Rattle.bodies.specs.declared.Parameter as coded_parameter
 use Rattle.bodies.specs.declared.Wanted.{Wanted}
-use Rattle.bodies.specs.Claims.{Typed, refused, AsksExpr, JudgesExpr}
+use Rattle.bodies.specs.Claims.{refused, AsksExpr, JudgesExpr}
 use Rattle.bodies.specs.Leaves.{AsksWritable, IsWritable}
 use Rattle.bodies.specs.Calls.{Called, Passed, Agreement, agreement, told_passed, AsksArgs, JudgesArgs, AsksWanted, WantedIf, IsWanted, weighed, Weighs, StandsCall, judge_call, told_call, CalledMost, AsksCall, JudgesCall, Settles}
 use Rattle.bodies.proofs.Operating.{typed-is, fault-is}
@@ -105,7 +105,8 @@ module _ (nums directory ends : List ℕ) (scope : coded.Scope) (depth at : ℕ)
     inside = omega (arith, h, asks.seen.reach, asks.seen.reaches);
   }
 
-  pub callable-none : scope.reach ≤ number → JudgesCall nums directory ends scope depth at (refused reason.Unnamed (at + 1))
+  pub callable-none : scope.reach ≤ number
+      → JudgesCall nums directory ends scope depth at (refused reason.Unnamed (at + 1))
   unfolding told_call CalledMost judge_call callable_below only_if named ◌>>=◌
   callable-none h = record {
     judged = λ Γ f xs s c. rw (
@@ -179,7 +180,8 @@ module _ (nums directory ends : List ℕ) (scope : coded.Scope) (depth at : ℕ)
       most = q.most;
     }
 
-    pub call-unpassed : (wrong : Fault) → Answers (Err wrong) → JudgesCall nums directory ends scope depth at (Err wrong)
+    pub call-unpassed : (wrong : Fault) → Answers (Err wrong)
+        → JudgesCall nums directory ends scope depth at (Err wrong)
     unfolding told_passed told_call CalledMost judge_call named ◌>>=◌
     call-unpassed wrong j = record {
       judged = λ Γ g xs s c.

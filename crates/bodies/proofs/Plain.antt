@@ -108,7 +108,8 @@ module _ (nums directory ends : List ℕ) (scope : coded.Scope) (at : ℕ) where
 
   module _ (wrong : Fault) (f : NamesGlobal nums directory ends at (Err wrong)) where
     pub nothing-found : (Γ : Scope) → StandsScope nums directory ends scope Γ
-        → (global_at Γ.program (get_or nums (at + 1) 0) ≡ none) × (wrong ≡ record { reason = reason.Unnamed; index = at + 1 })
+        → (global_at Γ.program (get_or nums (at + 1) 0) ≡ none)
+        × (wrong ≡ record { reason = reason.Unnamed; index = at + 1 })
     unfolding NamedShape
     nothing-found Γ s = f.named Γ.program s.end s.program
 

@@ -21,7 +21,8 @@ ty-once zero (suc u) e = let z : ◌≡◌ {A = ℕ} 0 1 = cc in absurd (omega a
 ty-once (suc t) zero e = let z : ◌≡◌ {A = ℕ} 0 1 = cc in absurd (omega arith)
 ty-once (suc t) (suc u) e = cc
 
-pub fault-once : {A : Type 0} (f g : Fault) → ◌≡◌ {A = Res A} (fault (number_of f.reason) f.index) (fault (number_of g.reason) g.index)
+pub fault-once : {A : Type 0} (f g : Fault)
+    → ◌≡◌ {A = Res A} (fault (number_of f.reason) f.index) (fault (number_of g.reason) g.index)
     → f ≡ g
 fault-once f g e =
     let m : number_of f.reason ≡ number_of g.reason = cc in

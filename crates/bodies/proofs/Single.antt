@@ -18,7 +18,7 @@ use Rattle.program.specs.Scopes.{StandsScope}
 use Rattle.program.proofs.Views.{expr-begins, StmtView, BareView, AssignView, CallStmtView, NamedView, ReturnView, VerifyView, stmt-view, stmt-begins}
 use Rattle.program.proofs.Members.{same-types}
 use Rattle.bodies.specs.declared.Callee.{Callee}
-use Rattle.bodies.specs.Claims.{Typed, Formed, AsksExpr, JudgesExpr, told_stmt, JudgesStmt}
+use Rattle.bodies.specs.Claims.{Formed, AsksExpr, JudgesExpr, told_stmt, JudgesStmt}
 use Rattle.bodies.specs.Leaves.{AsksName, AsksWritable, IsWritable, AsksLeaf, JudgesLeaf}
 use Rattle.bodies.specs.Calls.{Called, StandsCall, judge_call, told_call, AsksCall, JudgesCall}
 use Rattle.bodies.specs.Forms.{Forms, ruled, ruled_both, FormsIn, called_in, returned_in, applied_in, Applies, left_in, parsed_in, MarksIn, ExtractsIn, AsksTagged, AsksSingle}
@@ -177,7 +177,8 @@ module _ (nums directory ends : List ℕ) (scope : coded.Scope) (depth at : ℕ)
       }
 
   module _ (asks : AsksTagged 4 nums directory ends scope depth at) where
-    call-is : {c : Called} → JudgesCall nums directory ends scope depth at c → (Γ : Scope) (s : Stmt) → StandsScope nums directory ends scope Γ → StandsStmt nums ends depth at s
+    call-is : {c : Called} → JudgesCall nums directory ends scope depth at c → (Γ : Scope) (s : Stmt)
+        → StandsScope nums directory ends scope Γ → StandsStmt nums ends depth at s
         → ((told_call c >>= λ returns. need 8 at (may_call Γ.body returns)) >>= λ _. ok false)
         ≡ (judge_stmt Γ s >>= λ _. ok (returns_on s))
     unfolding returns_on
@@ -218,7 +219,8 @@ module _ (nums directory ends : List ℕ) (scope : coded.Scope) (depth at : ℕ)
     pub return-deep : 0 < depth
     return-deep = (stmt-begins asks.asks.stands).levels
 
-    pub returned-told : (t : ℕ) → JudgesExpr nums directory ends scope (depth - 1) (at + 1) (Ok t) → (r : Formed) → FormsIn scope (returned_in at t) r
+    pub returned-told : (t : ℕ) → JudgesExpr nums directory ends scope (depth - 1) (at + 1) (Ok t) → (r : Formed)
+        → FormsIn scope (returned_in at t) r
         → JudgesStmt nums directory ends scope depth at r
     unfolding returned_in judge_stmt returns_on ◌>>=◌
     returned-told t j r f = record {
@@ -254,7 +256,8 @@ module _ (nums directory ends : List ℕ) (scope : coded.Scope) (depth at : ℕ)
     pub verify-deep : 0 < depth
     verify-deep = (stmt-begins asks.asks.stands).levels
 
-    pub verified-told : (t : ℕ) → JudgesExpr nums directory ends scope (depth - 1) (at + 1) (Ok t) → (r : Formed) → FormsIn scope (parsed_in at (eqb t 0)) r
+    pub verified-told : (t : ℕ) → JudgesExpr nums directory ends scope (depth - 1) (at + 1) (Ok t) → (r : Formed)
+        → FormsIn scope (parsed_in at (eqb t 0)) r
         → JudgesStmt nums directory ends scope depth at r
     verified-told t j r f = record {
       judged = λ Γ s z h.

@@ -104,7 +104,7 @@ fn seen_type(scope: &Scope, at: usize, t: u64) -> Typed
 // The type of the global whose number stands behind the tag.
 fn variable_type(source: &Source, scope: &Scope, at: usize) -> Typed
     requires { In AsksName source.now scope.now at }
-    ensures { TypedIn source.now.nums.now source.now.directory.now source.now.ends.now scope.now (variable_ty source.now.nums.now at) result }
+    ensures { In TypedIn source.now scope.now (variable_ty source.now.nums.now at) result }
 {
     match global_named(source, at)? {
         Found::Variable(t) => seen_type(scope, at, t),
@@ -147,7 +147,7 @@ pub fn whole_bytes(nums: &[u64], header: usize) -> bool
 // The type of the field whose global and number stand behind the tag.
 fn field_type(source: &Source, scope: &Scope, at: usize) -> Typed
     requires { In AsksFieldName source.now scope.now at }
-    ensures { TypedIn source.now.nums.now source.now.directory.now source.now.ends.now scope.now (field_ty source.now.nums.now at) result }
+    ensures { In TypedIn source.now scope.now (field_ty source.now.nums.now at) result }
 {
     match global_named(source, at)? {
         Found::Variable(_) => Err(Fault {
@@ -161,7 +161,7 @@ fn field_type(source: &Source, scope: &Scope, at: usize) -> Typed
 // The header whose global stands behind the tag: a bool where it is one.
 pub fn header_type(source: &Source, scope: &Scope, at: usize) -> Typed
     requires { In AsksName source.now scope.now at }
-    ensures { TypedIn source.now.nums.now source.now.directory.now source.now.ends.now scope.now (header_ty source.now.nums.now at) result }
+    ensures { In TypedIn source.now scope.now (header_ty source.now.nums.now at) result }
 {
     match global_named(source, at)? {
         Found::Variable(_) => Err(Fault {

@@ -36,8 +36,7 @@ numerals_end nums at (n ∷ ns) s m h k =
     = numerals_end nums (at + 1) ns s.1 m (omega (arith, s.0.holds.inside, k)) k in
     omega (arith, l)
 
--- that numbers name callables
--- whatever the callables are
+-- that numbers name callables, whatever the callables are
 one_more : (x : Res (List Callable)) (c : Callable)
     → (x >>= λ _. ok (tt {0})) ≡ ((x >>= λ cs. ok (c ∷ cs)) >>= λ _. ok (tt {0}))
 unfolding ◌>>=◌

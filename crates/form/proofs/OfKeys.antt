@@ -83,7 +83,8 @@ module _ (at t : ℕ) (rest : Keyed) where
       go (Ok None) q = refl
       go (Ok (Some index)) q = split (width_at at (ty_of t)) q
         where
-          split : (x : Res ℕ) → ok (ok (tt {0})) ≡ ok (x >>= λ _. fault 7 index) → ◌≡◌ {A = Keyed} (Ok (Some index)) (Ok None)
+          split : (x : Res ℕ) → ok (ok (tt {0})) ≡ ok (x >>= λ _. fault 7 index)
+              → ◌≡◌ {A = Keyed} (Ok (Some index)) (Ok None)
           split (ok width) q = let z : ◌≡◌ {A = ℕ} 0 1 = cc in absurd (omega arith)
           split (fault number i) q = let z : ◌≡◌ {A = ℕ} 0 1 = cc in absurd (omega arith)
       go (Err wrong) q = let z : ◌≡◌ {A = ℕ} 0 1 = cc in absurd (omega arith)

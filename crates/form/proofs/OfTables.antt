@@ -1,8 +1,8 @@
 -- Tables: the names of each, its keys with their widths, and what stands behind; then one table after the other.
 use mathlib.Core.Option.{Option, none, some}
 use mathlib.Core.Path.{◌≡◌, refl, sym, ap, ◌∙◌}
-use mathlib.Core.List.{List, ◌∷◌}
-use Prim.Native.Nat.{ℕ, suc, ◌+◌, ◌*◌, ◌≤◌, ◌<◌}
+use mathlib.Core.List.{List}
+use Prim.Native.Nat.{ℕ, ◌+◌, ◌*◌, ◌≤◌, ◌<◌}
 use native.Mathlib.Omega.{arith}
 use native.Mathlib.Numerals.{add-one}
 use lib.ListN.{length, get_or, get_elem?, drop, drop_of_length-le}
@@ -260,7 +260,8 @@ module _ (nums directory ends widths : List ℕ) where
       }
 
       module _ (l : t < get_or directory 59 0) (next : List ℕ) where
-        pub tables-next : LaysTable nums directory ends t now next (Ok tt) → Laid nums directory ends (t + 1) widths next
+        pub tables-next : LaysTable nums directory ends t now next (Ok tt)
+            → Laid nums directory ends (t + 1) widths next
         unfolding tables_of lay_tables
         tables-next j = record {
           walked = walk-next tables-walk nums directory ends t d.walked l j.judges;

@@ -23,7 +23,7 @@ fn key_type(source: &Source, at: usize) -> Typed
     judge_expr(source, &scope, DEEPEST, at)
 }
 
-// Where the first key stands that is a bool: one before, if there is one, else the one at an index, if its type is bool.
+// Where the first key stands that is a bool: the one before, else the one at an index, if its type is bool.
 fn first_bool(before: Option<usize>, at: usize, t: u64) -> Option<usize>
     ensures { result ≡ first_bool_of before at t }
 {
