@@ -24,7 +24,7 @@ behind P = read_entries true P >>= λ entries. read_store P >>= λ store. read_p
 
 lists-say : (P : Program) (left : List ℕ) (end : ℕ)
     → of_verdict (after_lists (ceiling_of P) (listed_of end (listing P left end))) ≡ told_by (behind P left end)
-unfolding of_verdict after_lists listed_of told_by behind bench ◌>>=◌ and_then pure
+unfolding of_verdict after_lists listed_of told_by behind ◌>>=◌ and_then pure
 lists-say P left end = go (listing P left end) ∙ rw (← listing-made P (bench P) left end)
   where
     go : (x : Got Lists) → of_verdict (after_lists (ceiling_of P) (listed_of end x))
@@ -46,7 +46,7 @@ form-says P left end (ok fine) = ceiling-says P left end (leb (ceiling_of P) mos
 form-says P left end (fault number index) = refl
 
 pub passes-say : (nums : List ℕ) → of_verdict (after_shape (read_program nums 0)) ≡ judging_says nums
-unfolding judging_says judging judging_program behind bench ◌>>=◌ and_then after_shape of_verdict told_by
+unfolding judging_says judging judging_program behind ◌>>=◌ and_then after_shape of_verdict told_by
 passes-say nums = go (read_program nums 0)
   where
     go : (x : Got Program) → of_verdict (after_shape x) ≡ told_by (and_then x (λ P.

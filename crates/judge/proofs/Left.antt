@@ -22,7 +22,7 @@ use Rattle.form.proofs.Laid.{keys-laid}
 use Rattle.lists.specs.Listing.{Listed, Fine, Fault, Lists, listing, listed_of, ListsJudged}
 use Rattle.lists.specs.Stands.{ListsStand}
 use Rattle.lists.proofs.Laid.{listing-made, lists-stand}
-use Rattle.std.specs.Prelude.{Result, Ok}
+use Rattle.std.specs.Prelude.{Ok}
 use Rattle.judge.specs.declared.Verdict as coded
 use Rattle.judge.specs.Verdicts.{Verdict, Accepted, after_lists, after_ceiling, after_form, after_shape, widths_after, lists_judged, entries_after, offsets_after, AsksJudge, JudgesNumbers}
 use Rattle.judge.proofs.Bridge.{bench, behind}

@@ -33,7 +33,7 @@ use Rattle.lists.specs.declared.Lists as lists
 use Rattle.program.specs.Keys.{WidthsOf}
 use Rattle.lists.specs.Listing.{told_listed, AsksLists, ListsJudged, JudgesLists}
 use Rattle.judge.specs.declared.Verdict as coded
-use Rattle.judge.specs.Verdicts.{Accepted, Refused, told_verdict, after_lists, after_ceiling, after_form, after_shape, widths_after, lists_judged, entries_after, offsets_after, Lent, JudgesNumbers}
+use Rattle.judge.specs.Verdicts.{Refused, told_verdict, after_lists, after_ceiling, after_form, after_shape, widths_after, lists_judged, entries_after, offsets_after, Lent, JudgesNumbers}
 use Rattle.judge.specs.Passes.{AsksBounded, Bounded, JudgesBounded, AsksProgram, Judged, JudgesProgram}
 use Rattle.judge.proofs.Bridge.{passes-say}
 
