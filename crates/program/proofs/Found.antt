@@ -211,31 +211,44 @@ module _ (nums directory ends : List ℕ) (f : ℕ) where
         };
   }
 
--- keys are stepped over one by one
-module _ (ends : List ℕ) (at count : ℕ) (h : KeysInside ends at count) (more : count ≡ 0 → ⊥) where
-  keys-split : (n : ℕ) → (n ≡ 0 → ⊥) → KeysInside ends at n
-      → (at + 1 < length ends) × KeysInside ends (get_or ends (at + 1) 0) (n - 1)
+-- keys are stepped over one by one: what is left of them is inside, and ends where all of them do
+pub record KeysLeft (ends : List ℕ) (at count done next : ℕ) : Type 0 where
+  pub inside : KeysInside ends next (count - done)
+  pub end : keys_end ends next (count - done) ≡ keys_end ends at count
+
+pub keys-first : (ends : List ℕ) (at count : ℕ) → KeysInside ends at count → KeysLeft ends at count 0 at
+keys-first ends at count h =
+    let e : count - 0 ≡ count = omega arith in
+    record { inside = rw e h; end = rw e refl }
+
+module _ (ends : List ℕ) (at count done next : ℕ) (w : KeysLeft ends at count done next) where
+  key_left : (n : ℕ) → KeysInside ends next (suc n)
+      → (next + 1 < length ends) × KeysInside ends (get_or ends (next + 1) 0) n
   unfolding KeysInside
-  keys-split zero x k = absurd (x refl)
-  keys-split (suc n) x k = rw (sub-one (suc n)) k
+  key_left n k = k
 
-  pub key-inside : at + 1 < length ends
-  key-inside = (keys-split count more h).0
+  key_end : (n : ℕ) → keys_end ends next (suc n) ≡ keys_end ends (get_or ends (next + 1) 0) n
+  unfolding keys_end
+  key_end n = refl
 
-  pub keys-inside : KeysInside ends (get_or ends (at + 1) 0) (count - 1)
-  keys-inside = (keys-split count more h).1
+  module _ (more : done < count) where
+    left-is : count - done ≡ suc (count - (done + 1))
+    left-is = omega arith
 
-pub keys_none : (ends : List ℕ) (at count : ℕ) → count ≡ 0 → at ≡ keys_end ends at count
-unfolding keys_end
-keys_none ends at count e = rw e
+    pub key-inside : next + 1 < length ends
+    key-inside = (key_left (count - (done + 1)) (rw left-is at w.inside)).0
 
-pub keys-next : (ends : List ℕ) (at count r : ℕ) → (count ≡ 0 → ⊥)
-    → r ≡ keys_end ends (get_or ends (at + 1) 0) (count - 1) → r ≡ keys_end ends at count
-unfolding keys_end
-keys-next ends at zero r x e = absurd (x refl)
-keys-next ends at (suc count) r x e = rw (sub-one (suc count)) at e
+    pub keys-next : KeysLeft ends at count (done + 1) (get_or ends (next + 1) 0)
+    keys-next = record {
+      inside = (key_left (count - (done + 1)) (rw left-is at w.inside)).1;
+      end = sym (key_end (count - (done + 1))) ∙ (rw left-is at w.end);
+    }
 
-pub ruleset stepping = (key-inside, keys-inside, keys_none, keys-next)
+  pub keys-done : count ≤ done → next ≡ keys_end ends at count
+  unfolding keys_end
+  keys-done h = let e : count - done ≡ 0 = omega arith in rw e at w.end
+
+pub ruleset stepping = (keys-first, key-inside, keys-next, keys-done)
 
 -- tables
 abbrev table_begins : List ℕ → ℕ → ℕ

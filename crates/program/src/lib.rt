@@ -164,12 +164,11 @@ impl Source<'_> {
         requires { KeysInside self.now.ends.now at count }
         ensures { result ≡ keys_end self.now.ends.now at count }
     {
-        if count == 0 {
-            at
-        } else {
-            let next = self.ends[at + 1] as usize;
-            self.behind_keys(next, count - 1)
+        let mut next = at;
+        for _ in 0..count {
+            next = self.ends[next + 1] as usize;
         }
+        next
     }
 
     // A table's parts: its keys are stepped over by their ends.
