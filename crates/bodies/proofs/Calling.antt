@@ -1,4 +1,6 @@
 -- What calls rest on: the parameters that are left, and how arguments are held against them.
+use Rattle.program.specs.declared.Kind.{Kind}
+use Rattle.program.specs.declared.Kind.TheVariants as kinds
 use Rattle.program.specs.declared.Scope as coded
 use mathlib.Core.Bool.{Bool, true, false, ◌&&◌, ◌||◌}
 use mathlib.Core.Path.{◌≡◌, refl, sym, ◌∙◌}
@@ -6,24 +8,24 @@ use mathlib.Core.List.{List, [], ◌∷◌}
 use Prim.Native.Nat.{ℕ, zero, suc, ◌+◌, ◌-◌, ◌≤◌, ◌<◌}
 use native.Mathlib.Omega.{arith}
 use lib.ListN.{length, get_or}
-use lib.Dec.{ltb, leb, eqb}
-use borrow.Author.Tests.{leb-true, leb-false, ne_eqb}
+use lib.Dec.{ltb, eqb}
+use borrow.Author.Tests.{ne_eqb}
 use Rattle.std.specs.Prelude.{Ok, Some, None}
 use Rattle.rules.specs.declared.Reason.TheVariants as reason
 use Rattle.rules.specs.Words.{widest}
-use Rattle.rules.specs.Syntax.{Parameter}
-use Rattle.rules.specs.Form.{ok, fault, ◌>>=◌, need, function_ty, may_call}
+use Rattle.rules.specs.Syntax.{Ty, Parameter}
+use Rattle.rules.specs.Form.{Res, ok, fault, ◌>>=◌, need, function_ty, may_call}
 use Rattle.program.specs.Codes.{ty_of}
 use Rattle.program.specs.Stands.{StandsParameters}
 use Rattle.program.specs.Looks.{returns_of}
-use Rattle.program.specs.Scopes.{body_numbered}
+use Rattle.program.specs.Scopes.{kind_number, body_numbered}
+use Rattle.program.proofs.Seen.{is_kind}
 use Rattle.bodies.specs.declared.Agreed.{Agreed}
 use Rattle.bodies.specs.declared.Parameter as coded_parameter
 use Rattle.bodies.specs.declared.Wanted.{Wanted}
 use Rattle.bodies.specs.Claims.{refused, told_ty, TyMost}
 use Rattle.bodies.specs.Leaves.{TellsIn, takes_two, lead_by, lead_length, OperandsAt, value_in, value_ty}
 use Rattle.bodies.specs.Calls.{AsksWanted, NextWanted, WantedIf, IsWanted, weighed, Weighs, told_call, CalledMost, Settles}
-use Rattle.bodies.proofs.Typing.{more}
 
 -- where operands stand, by the tag
 module _ (nums : List ℕ) (at : ℕ) where
@@ -54,62 +56,60 @@ module _ (nums : List ℕ) (at : ℕ) where
 pub ruleset operands = (binary-operands, cast-operands, slice-operands, joined-operands, other-operands)
 
 -- the value of a call, by what it calls and the body that it stands in
-low : (k : ℕ) → k < 3 → leb 3 k ≡ true → ⊥
-low k h e = absurd (omega (arith, h, leb-true 3 k e))
+abbrev valued : ℕ → ℕ → Bool → Res Ty
+valued at returns true = fault 8 at
+valued at returns false = ok (ty_of returns)
 
-value_none : (at kind returns k returned : ℕ) → (eqb kind 0 || leb 3 k) ≡ true
-    → fault 8 at ≡ value_ty at kind returns (body_numbered k returned)
+value-is : (at : ℕ) (kind k : Kind) (returns returned : ℕ)
+    → value_ty at (kind_number kind) returns (body_numbered (kind_number k) returned)
+    ≡ valued at returns (is_kind kind kinds.Action || is_kind k kinds.State)
 unfolding value_ty value_in may_call function_ty returns_of body_numbered need ◌>>=◌
-value_none at zero returns zero returned e = refl
-value_none at zero returns (suc zero) returned e = refl
-value_none at zero returns (suc (suc zero)) returned e = refl
-value_none at zero returns (suc (suc (suc k))) returned e = refl
-value_none at (suc kind) returns zero returned e = absurd (low 0 (omega arith) (rw (more kind) at e))
-value_none at (suc kind) returns (suc zero) returned e = absurd (low 1 (omega arith) (rw (more kind) at e))
-value_none at (suc kind) returns (suc (suc zero)) returned e = absurd (low 2 (omega arith) (rw (more kind) at e))
-value_none at (suc kind) returns (suc (suc (suc k))) returned e = refl
+value-is at kinds.Action kinds.Action returns returned = refl
+value-is at kinds.Action kinds.Function returns returned = refl
+value-is at kinds.Action kinds.Apply returns returned = refl
+value-is at kinds.Action kinds.State returns returned = refl
+value-is at kinds.Function kinds.Action returns returned = refl
+value-is at kinds.Function kinds.Function returns returned = refl
+value-is at kinds.Function kinds.Apply returns returned = refl
+value-is at kinds.Function kinds.State returns returned = refl
+value-is at kinds.Apply kinds.Action returns returned = refl
+value-is at kinds.Apply kinds.Function returns returned = refl
+value-is at kinds.Apply kinds.Apply returns returned = refl
+value-is at kinds.Apply kinds.State returns returned = refl
+value-is at kinds.State kinds.Action returns returned = refl
+value-is at kinds.State kinds.Function returns returned = refl
+value-is at kinds.State kinds.Apply returns returned = refl
+value-is at kinds.State kinds.State returns returned = refl
 
-value-some : (at kind returns k returned : ℕ) → (eqb kind 0 || leb 3 k) ≡ false
-    → ok (ty_of returns) ≡ value_ty at kind returns (body_numbered k returned)
-unfolding value_ty value_in may_call function_ty returns_of body_numbered need ◌>>=◌
-value-some at zero returns k returned e = let z : ◌≡◌ {A = ℕ} 0 1 = cc in absurd (omega arith)
-value-some at (suc kind) returns zero returned e = refl
-value-some at (suc kind) returns (suc zero) returned e = refl
-value-some at (suc kind) returns (suc (suc zero)) returned e = refl
-value-some at (suc kind) returns (suc (suc (suc k))) returned e =
-    let l : leb 3 (suc (suc (suc k))) ≡ false = rw (more kind) at e in
-    absurd (omega (arith, leb-false 3 (suc (suc (suc k))) l))
-
-module _ (scope : coded.Scope) (at kind returns : ℕ) (b : Bool) (e : b ≡ (eqb kind 0 || leb 3 (scope.kind))) where
-  pub no_value : b ≡ true → TellsIn scope (value_ty at kind returns) (refused reason.Form at)
+module _ (scope : coded.Scope) (at : ℕ) (kind : Kind) (returns : ℕ) (b action state : Bool) (e : b ≡ (action || state))
+    (is_action : action ≡ is_kind kind kinds.Action) (is_state : state ≡ is_kind scope.kind kinds.State) where
+  pub no_value : b ≡ true → TellsIn scope (value_ty at (kind_number kind) returns) (refused reason.Form at)
   unfolding told_ty TyMost
   no_value k = record {
-    judged = λ body i.
-        rw (← i) (value_none at kind returns (scope.kind) (scope.returns) (sym e ∙ k));
+    judged = λ body i. rw (← i, value-is at kind scope.kind returns (scope.returns), ← is_action, ← is_state, ← e, k);
     most = tt;
   }
 
-  pub some-value : returns ≤ widest → b ≡ false → TellsIn scope (value_ty at kind returns) (Ok returns)
+  pub some-value : returns ≤ widest → b ≡ false → TellsIn scope (value_ty at (kind_number kind) returns) (Ok returns)
   unfolding told_ty TyMost
   some-value m k = record {
-    judged = λ body i.
-        rw (← i) (value-some at kind returns (scope.kind) (scope.returns) (sym e ∙ k));
+    judged = λ body i. rw (← i, value-is at kind scope.kind returns (scope.returns), ← is_action, ← is_state, ← e, k);
     most = m;
   }
 
-module _ (at kind returns : ℕ) where
+module _ (at : ℕ) (kind : Kind) (returns : ℕ) where
   -- a call whose arguments are judged
   module _ (types places : Bool) where
     pub settled : returns ≤ widest → types ≡ true → places ≡ true
-        → Settles at kind returns types places (Ok (record { kind = kind; returns = returns }))
+        → Settles at (kind_number kind) returns types places (Ok (record { kind = kind; returns = returns }))
     unfolding told_call CalledMost need ◌>>=◌
     settled m e f = record { told = rw (e, f); most = m }
 
-    pub unsettled-place : types ≡ true → places ≡ false → Settles at kind returns types places (refused reason.Form at)
+    pub unsettled-place : types ≡ true → places ≡ false → Settles at (kind_number kind) returns types places (refused reason.Form at)
     unfolding told_call CalledMost need ◌>>=◌
     unsettled-place e f = record { told = rw (e, f); most = tt }
 
-    pub unsettled-type : types ≡ false → Settles at kind returns types places (refused reason.Type at)
+    pub unsettled-type : types ≡ false → Settles at (kind_number kind) returns types places (refused reason.Type at)
     unfolding told_call CalledMost need ◌>>=◌
     unsettled-type e = record { told = rw e; most = tt }
 

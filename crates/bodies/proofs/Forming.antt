@@ -1,4 +1,6 @@
 -- Statements that hold no statement: what their tag and their operands say of the rules' judgement.
+use Rattle.program.specs.declared.Kind.{Kind}
+use Rattle.program.specs.declared.Kind.TheVariants as kinds
 use Rattle.program.specs.declared.Scope as coded
 use mathlib.Core.Bool.{Bool, true, false, not, ◌&&◌, ◌||◌}
 use mathlib.Core.Path.{◌≡◌, refl, sym, ◌∙◌}
@@ -18,9 +20,10 @@ use Rattle.rules.specs.Syntax.{Ty}
 use Rattle.rules.specs.Form.{Res, ok, fault, ◌>>=◌, named, need, judge_header_at, need_ty, may_call, judge_returned, is_apply, is_function, is_state, may_leave}
 use Rattle.rules.proofs.Predicates.{no_member}
 use Rattle.program.specs.Codes.{ty_of}
-use Rattle.program.specs.Scopes.{body_numbered}
+use Rattle.program.specs.Scopes.{kind_number, body_numbered}
 use Rattle.program.specs.Looks.{returns_of}
 use Rattle.program.proofs.Found.{At, member-at}
+use Rattle.program.proofs.Seen.{is_kind, one_kind, two_kinds}
 use Rattle.program.proofs.Members.{same-types}
 use Rattle.bodies.specs.Claims.{Formed, refused, told_ty, told_stmt}
 use Rattle.bodies.specs.Leaves.{TypedIn, header_ty}
@@ -57,88 +60,95 @@ module _ (at t : ℕ) (branches : Formed) where
   unfolding chosen_as told_stmt ◌>>=◌
   chosen-fault wrong e = record { judged = rw e }
 
--- the kinds of bodies: a number past the apply body's is a state's
-other : (k n : ℕ) → n < 3 → eqb (suc (suc (suc k))) n ≡ false
-other k n h = ne_eqb (suc (suc (suc k))) n (λ e. absurd (omega (arith, h, e)))
-
-past : (k : ℕ) → ltb (suc (suc (suc k))) 3 ≡ false
-past k = le-ltb (suc (suc (suc k))) 3 (omega arith)
-
-may-call : (k returned kind returns : ℕ)
-    → may_call (body_numbered k returned) (returns_of kind returns) ≡ (ltb k 3 && (not (eqb kind 0) || not (eqb k 1)))
+-- what a body of a kind may hold
+may-call : (k kind : Kind) (returned returns : ℕ)
+    → may_call (body_numbered (kind_number k) returned) (returns_of (kind_number kind) returns)
+    ≡ (not (is_kind k kinds.State) && (not (is_kind kind kinds.Action) || not (is_kind k kinds.Function)))
 unfolding may_call body_numbered returns_of
-may-call zero returned zero returns = refl
-may-call zero returned (suc kind) returns = rw (more kind)
-may-call (suc zero) returned zero returns = refl
-may-call (suc zero) returned (suc kind) returns = rw (more kind)
-may-call (suc (suc zero)) returned zero returns = refl
-may-call (suc (suc zero)) returned (suc kind) returns = rw (more kind)
-may-call (suc (suc (suc k))) returned kind returns = rw (past k)
+may-call kinds.Action kinds.Action returned returns = refl
+may-call kinds.Action kinds.Function returned returns = refl
+may-call kinds.Action kinds.Apply returned returns = refl
+may-call kinds.Action kinds.State returned returns = refl
+may-call kinds.Function kinds.Action returned returns = refl
+may-call kinds.Function kinds.Function returned returns = refl
+may-call kinds.Function kinds.Apply returned returns = refl
+may-call kinds.Function kinds.State returned returns = refl
+may-call kinds.Apply kinds.Action returned returns = refl
+may-call kinds.Apply kinds.Function returned returns = refl
+may-call kinds.Apply kinds.Apply returned returns = refl
+may-call kinds.Apply kinds.State returned returns = refl
+may-call kinds.State kind returned returns = refl
 
-is-apply : (k returned : ℕ) → is_apply (body_numbered k returned) ≡ eqb k 2
+is-apply : (k : Kind) (returned : ℕ) → is_apply (body_numbered (kind_number k) returned) ≡ is_kind k kinds.Apply
 unfolding is_apply body_numbered
-is-apply zero returned = refl
-is-apply (suc zero) returned = refl
-is-apply (suc (suc zero)) returned = refl
-is-apply (suc (suc (suc k))) returned = sym (other k 2 (omega arith))
+is-apply kinds.Action returned = refl
+is-apply kinds.Function returned = refl
+is-apply kinds.Apply returned = refl
+is-apply kinds.State returned = refl
 
-is-state : (k returned : ℕ) → is_state (body_numbered k returned) ≡ leb 3 k
+is-state : (k : Kind) (returned : ℕ) → is_state (body_numbered (kind_number k) returned) ≡ is_kind k kinds.State
 unfolding is_state body_numbered
-is-state zero returned = refl
-is-state (suc zero) returned = refl
-is-state (suc (suc zero)) returned = refl
-is-state (suc (suc (suc k))) returned = sym (le-leb 3 (suc (suc (suc k))) (omega arith))
+is-state kinds.Action returned = refl
+is-state kinds.Function returned = refl
+is-state kinds.Apply returned = refl
+is-state kinds.State returned = refl
 
-may-leave : (k returned : ℕ) → may_leave (body_numbered k returned) ≡ (not (eqb k 1) && ltb k 3)
+may-leave : (k : Kind) (returned : ℕ) → may_leave (body_numbered (kind_number k) returned)
+    ≡ (not (is_kind k kinds.Function) && not (is_kind k kinds.State))
 unfolding may_leave is_function is_state body_numbered
-may-leave zero returned = refl
-may-leave (suc zero) returned = refl
-may-leave (suc (suc zero)) returned = refl
-may-leave (suc (suc (suc k))) returned = rw (past k, other k 1 (omega arith))
+may-leave kinds.Action returned = refl
+may-leave kinds.Function returned = refl
+may-leave kinds.Apply returned = refl
+may-leave kinds.State returned = refl
 
-no-function : (at k returned : ℕ) (u : Ty) → (k ≡ 1 → ⊥) → judge_returned at (body_numbered k returned) u ≡ fault 8 at
+no-function : (at : ℕ) (k : Kind) (returned : ℕ) (u : Ty) → (k ≡ kinds.Function → ⊥)
+    → judge_returned at (body_numbered (kind_number k) returned) u ≡ fault 8 at
 unfolding judge_returned body_numbered
-no-function at zero returned u x = refl
-no-function at (suc zero) returned u x = absurd (x refl)
-no-function at (suc (suc zero)) returned u x = refl
-no-function at (suc (suc (suc k))) returned u x = refl
+no-function at kinds.Action returned u x = refl
+no-function at kinds.Function returned u x = absurd (x refl)
+no-function at kinds.Apply returned u x = refl
+no-function at kinds.State returned u x = refl
 
 module _ (scope : coded.Scope) (at : ℕ) (r : Formed) where
-  pub called-in : (kind returns : ℕ) (a b : Bool) → a ≡ (not (eqb kind 0) || not (eqb (scope.kind) 1))
-      → b ≡ (ltb (scope.kind) 3 && a) → Forms r (ruled 8 at b false) → FormsIn scope (called_in at kind returns) r
+  pub called-in : (kind : Kind) (returns : ℕ) (a b : Bool)
+      → a ≡ (not (is_kind kind kinds.Action) || not (is_kind scope.kind kinds.Function))
+      → b ≡ (not (is_kind scope.kind kinds.State) && a) → Forms r (ruled 8 at b false)
+      → FormsIn scope (called_in at (kind_number kind) returns) r
   unfolding called_in
   called-in kind returns a b e g f = record {
-    judged = λ body k. f.judged ∙ rw (g, e, ← k, may-call (scope.kind) (scope.returns) kind returns);
+    judged = λ body k. f.judged ∙ rw (g, e, ← k, may-call scope.kind kind (scope.returns) returns);
   }
 
-  pub returned-in : (t : ℕ) → scope.kind ≡ 1 → Forms r (ruled 7 at (eqb (scope.returns) t) true)
-      → FormsIn scope (returned_in at t) r
+  pub returned-in : (t : ℕ) (b : Bool) → b ≡ is_kind scope.kind kinds.Function → b ≡ true
+      → Forms r (ruled 7 at (eqb (scope.returns) t) true) → FormsIn scope (returned_in at t) r
   unfolding returned_in ruled judge_returned body_numbered need_ty
-  returned-in t k f = record { judged = λ body e. f.judged ∙ rw (← e, k, same-types (scope.returns) t) }
+  returned-in t b h j f =
+      let k : scope.kind ≡ kinds.Function = one_kind b _ _ h j in
+      record { judged = λ body e. f.judged ∙ rw (← e, k, same-types (scope.returns) t) }
 
-  pub applied-in : Forms r (ruled 8 at (eqb (scope.kind) 2) false) → FormsIn scope (applied_in at) r
+  pub applied-in : Forms r (ruled 8 at (is_kind scope.kind kinds.Apply) false) → FormsIn scope (applied_in at) r
   unfolding applied_in
-  applied-in f = record { judged = λ body e. f.judged ∙ rw (← e, is-apply (scope.kind) (scope.returns)) }
+  applied-in f = record { judged = λ body e. f.judged ∙ rw (← e, is-apply scope.kind (scope.returns)) }
 
-  pub left-in : (b : Bool) → b ≡ (not (eqb (scope.kind) 1) && ltb (scope.kind) 3)
+  pub left-in : (b : Bool) → b ≡ (not (is_kind scope.kind kinds.Function) && not (is_kind scope.kind kinds.State))
       → Forms r (ruled 8 at b false) → FormsIn scope (left_in at) r
   unfolding left_in
   left-in b e f = record {
-    judged = λ body k. f.judged ∙ rw (e, ← k, may-leave (scope.kind) (scope.returns));
+    judged = λ body k. f.judged ∙ rw (e, ← k, may-leave scope.kind (scope.returns));
   }
 
-  pub parsed-in : (holds : Bool) → Forms r (ruled_both at holds (leb 3 (scope.kind)))
+  pub parsed-in : (holds : Bool) → Forms r (ruled_both at holds (is_kind scope.kind kinds.State))
       → FormsIn scope (parsed_in at holds) r
   unfolding parsed_in
   parsed-in holds f = record {
-    judged = λ body k. f.judged ∙ rw (← k, is-state (scope.kind) (scope.returns));
+    judged = λ body k. f.judged ∙ rw (← k, is-state scope.kind (scope.returns));
   }
 
-pub returned-out : (scope : coded.Scope) (at t : ℕ) → (scope.kind ≡ 1 → ⊥)
+pub returned-out : (scope : coded.Scope) (at t : ℕ) (b : Bool) → b ≡ is_kind scope.kind kinds.Function → b ≡ false
     → FormsIn scope (returned_in at t) (refused reason.Form at)
 unfolding returned_in told_stmt ◌>>=◌
-returned-out scope at t x = record {
-  judged = λ body e. rw (← e, no-function at (scope.kind) (scope.returns) (ty_of t) x);
+returned-out scope at t b h j = record {
+  judged = λ body e. rw (← e, no-function at scope.kind (scope.returns) (ty_of t) (two_kinds b _ _ h j));
 }
 
 pub ruleset ruling = (

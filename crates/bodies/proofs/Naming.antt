@@ -1,6 +1,8 @@
 -- What the looks at names rest on: a name that is inside its list has what stands there, any other has nothing.
+use Rattle.program.specs.declared.Kind.{Kind}
+use Rattle.program.specs.declared.Kind.TheVariants as kinds
 use Rattle.program.specs.declared.Scope as coded
-use mathlib.Core.Bool.{true, false}
+use mathlib.Core.Bool.{Bool, true, false}
 use mathlib.Core.Option.{some}
 use mathlib.Core.Path.{◌≡◌, refl, ◌∙◌}
 use mathlib.Core.List.{List}
@@ -21,7 +23,8 @@ use Rattle.rules.specs.Form.{judge_field, judge_place}
 use Rattle.rules.proofs.Predicates.{no_member}
 use Rattle.program.specs.Codes.{ty_of, header_number, direction_number}
 use Rattle.program.specs.Stands.{Holds, HoldsWithin, HoldsTy, StandsWidths, StandsHeader, StandsProgram}
-use Rattle.program.specs.Scopes.{body_numbered, StandsScope}
+use Rattle.program.specs.Scopes.{kind_number, body_numbered, StandsScope}
+use Rattle.program.proofs.Seen.{is_kind, one_kind, two_kinds}
 use Rattle.program.specs.Looks.{Has, Finds, headers_of, globals_of, GlobalNumber, FoundGlobal, FoundHeader}
 use Rattle.program.proofs.Found.{At, member-at}
 use Rattle.program.proofs.Members.{StandsParameter, parameter-at, type_at, width-at, bits_of, header-high}
@@ -270,24 +273,27 @@ pub ruleset globals =
     (header-has, header_is, header-none, global-has, global-none, variable-is, header-number, global-header)
 
 -- where globals are seen
-seen_other : (kind returns : ℕ) → (kind ≡ 1 → ⊥) → sees_globals (body_numbered kind returns) ≡ true
+seen_other : (kind : Kind) (returns : ℕ) → (kind ≡ kinds.Function → ⊥)
+    → sees_globals (body_numbered (kind_number kind) returns) ≡ true
 unfolding sees_globals body_numbered
-seen_other zero returns x = refl
-seen_other (suc zero) returns x = absurd (x refl)
-seen_other (suc (suc zero)) returns x = refl
-seen_other (suc (suc (suc kind))) returns x = refl
+seen_other kinds.Action returns x = refl
+seen_other kinds.Function returns x = absurd (x refl)
+seen_other kinds.Apply returns x = refl
+seen_other kinds.State returns x = refl
 
-module _ (scope : coded.Scope) (at t : ℕ) where
-  pub seen-told : t ≤ widest → (scope.kind ≡ 1 → ⊥) → SeenTyped scope at t (Ok t)
+module _ (scope : coded.Scope) (at t : ℕ) (b : Bool) (same : b ≡ is_kind scope.kind kinds.Function) where
+  pub seen-told : t ≤ widest → b ≡ false → SeenTyped scope at t (Ok t)
   unfolding told_ty TyMost need ◌>>=◌
   seen-told m x = record {
-    judged = λ b e. rw (← e, seen_other (scope.kind) (scope.returns) x);
+    judged = λ body e. rw (← e, seen_other scope.kind (scope.returns) (two_kinds b _ _ same x));
     most = m;
   }
 
-  pub seen-not : scope.kind ≡ 1 → SeenTyped scope at t (refused reason.Form at)
+  pub seen-not : b ≡ true → SeenTyped scope at t (refused reason.Form at)
   unfolding told_ty TyMost need ◌>>=◌ sees_globals body_numbered
-  seen-not k = record { judged = λ b e. rw (← e, k); most = tt }
+  seen-not x =
+      let k : scope.kind ≡ kinds.Function = one_kind b _ _ same x in
+      record { judged = λ body e. rw (← e, k); most = tt }
 
 -- a field
 module _ (nums : List ℕ) (at header : ℕ) where

@@ -10,6 +10,7 @@ pub mod singles;
 pub mod stmts;
 pub mod types;
 
+use program::Kind;
 use rules::Fault;
 
 // The type of an expression as it is written (0 bool, 1 to 64 bits), or the first fault.
@@ -21,7 +22,7 @@ pub type Formed = Result<bool, Fault>;
 // What a call calls: its kind and the type that it returns.
 #[derive(Clone, Copy)]
 pub struct Callee {
-    pub kind: u64,
+    pub kind: Kind,
     pub returns: u64,
 }
 

@@ -6,7 +6,7 @@ ghost use Rattle.program.specs.In.{In};
 
 use super::types::{bits_type, bool_type};
 use super::{Found, Typed};
-use program::{FUNCTION, Scope, Source};
+use program::{Kind, Scope, Source};
 use rules::{Fault, Reason};
 use shape::limits::FIRST_HEADER_TYPE;
 use words::widths::WIDEST;
@@ -91,7 +91,7 @@ fn seen_type(scope: &Scope, at: usize, t: u64) -> Typed
     requires { t ≤ widest }
     ensures { SeenTyped scope.now at t result }
 {
-    if scope.kind == FUNCTION {
+    if scope.kind == Kind::Function {
         Err(Fault {
             reason: Reason::Form,
             index: at,

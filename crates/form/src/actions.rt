@@ -9,7 +9,7 @@ ghost use Rattle.program.specs.In.{In};
 
 use super::{Formal, rule};
 use bodies::types::both;
-use program::{ACTION, Source};
+use program::{Kind, Source};
 use rules::Reason;
 
 // The direction of a parameter that a table gives.
@@ -51,7 +51,7 @@ pub fn judge_listed(source: &Source, at: usize, count: u64) -> Formal
     for action in at..at + count as usize {
         let head = source.head_of(source.nums[action] as usize);
         let given = gives_all(source.nums, head.parameters, head.count);
-        rule(Reason::Form, action, both(head.kind == ACTION, given))?;
+        rule(Reason::Form, action, both(head.kind == Kind::Action, given))?;
     }
     Ok(())
 }

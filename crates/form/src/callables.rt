@@ -8,7 +8,7 @@ ghost use Rattle.program.specs.In.{In};
 use super::{Formal, rule};
 use bodies::stmts::judge_stmt;
 use bodies::types::either;
-use program::{ACTION, Scope, Source};
+use program::{Kind, Scope, Source};
 use rules::Reason;
 use shape::limits::DEEPEST;
 
@@ -30,7 +30,7 @@ fn judge_callable(source: &Source, n: usize) -> Formal
     };
     let returns = judge_stmt(source, &scope, DEEPEST, frame.body)?;
     let at = source.directory[shape::CALLABLES + 1 + n] as usize;
-    rule(Reason::Form, at, either(head.kind == ACTION, returns))
+    rule(Reason::Form, at, either(head.kind == Kind::Action, returns))
 }
 
 // The callables of a program.

@@ -19,7 +19,7 @@ fn key_type(source: &Source, at: usize) -> Typed
     requires { In AsksKey source.now at }
     ensures { In JudgesKey source.now at result }
 {
-    let scope = Scope::without_frame(source.directory[shape::CALLABLES], program::APPLY);
+    let scope = Scope::without_frame(source.directory[shape::CALLABLES], program::Kind::Apply);
     judge_expr(source, &scope, DEEPEST, at)
 }
 

@@ -44,7 +44,7 @@ fn judge_apply(source: &Source) -> Formal
     requires { In SomeProgram source.now }
     ensures { In JudgesApply source.now result }
 {
-    let scope = Scope::without_frame(source.directory[shape::CALLABLES], program::APPLY);
+    let scope = Scope::without_frame(source.directory[shape::CALLABLES], program::Kind::Apply);
     let body = source.directory[shape::BODY] as usize;
     judge_stmt(source, &scope, DEEPEST, body)?;
     Ok(())

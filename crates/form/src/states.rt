@@ -12,7 +12,7 @@ use super::{Formal, rule};
 use bodies::exprs::judge_expr;
 use bodies::stmts::judge_stmt;
 use bodies::types::both;
-use program::{STATE, Scope, Source};
+use program::{Kind, Scope, Source};
 use rules::{Fault, Reason};
 use shape::limits::DEEPEST;
 
@@ -54,7 +54,7 @@ fn judge_cases(source: &Source, at: usize) -> Formal
     requires { In AsksSelect source.now at }
     ensures { In JudgesCases source.now at result }
 {
-    let scope = Scope::without_frame(source.directory[shape::CALLABLES], STATE);
+    let scope = Scope::without_frame(source.directory[shape::CALLABLES], Kind::State);
     let t = judge_expr(source, &scope, DEEPEST, at + 1)?;
     if t == 0 {
         Err(Fault {
@@ -96,7 +96,7 @@ fn judge_state(source: &Source, n: usize) -> Formal
     ensures { In (JudgesPart states_of judge_state) source.now n result }
 {
     let at = source.state_of(n);
-    let scope = Scope::without_frame(source.directory[shape::CALLABLES], STATE);
+    let scope = Scope::without_frame(source.directory[shape::CALLABLES], Kind::State);
     judge_stmt(source, &scope, DEEPEST, at)?;
     let transition = source.ends[at] as usize;
     judge_transition(source, n, transition)

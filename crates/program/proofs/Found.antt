@@ -140,9 +140,7 @@ module _ (nums directory ends : List ℕ) (f : ℕ) where
   begins = begins_at directory f
 
   pub action-found : get_or nums begins 0 ≡ 0
-      → Finds callables_of (FoundHead nums (get_or nums begins 0) 0 (begins + 2) (get_or nums
-      (begins + 1) 0)) nums directory ends
-      f
+      → Finds callables_of (FoundHead nums 0 0 (begins + 2) (get_or nums (begins + 1) 0)) nums directory ends f
   unfolding callables_of parameters_at returns_of callable_kind_number
   action-found k = record {
     finds = λ P end c s e.
@@ -151,8 +149,8 @@ module _ (nums directory ends : List ℕ) (f : ℕ) where
         let p : parameters_at begins c ≡ begins + 1 = omega (arith, t.kind.is, k) in
         let q : parameters_at begins c + 1 ≡ begins + 2 = omega (arith, p) in
         record {
-          kind_is = t.kind.is;
-          returns_is = rw (k, n);
+          kind_is = sym k ∙ t.kind.is;
+          returns_is = rw n;
           returns_most = omega arith;
           parameters_stand = rw q at t.parameters;
           count_is = rw p at t.parameter_count.holds.is;
@@ -161,7 +159,7 @@ module _ (nums directory ends : List ℕ) (f : ℕ) where
 
   function-head : (c : Callable) → StandsCallable nums ends begins c → (get_or nums begins 0 ≡ 0 → ⊥)
       → (x : Option Ty) → c.returns ≡ x
-      → FoundHead nums (get_or nums begins 0) (get_or nums (begins + 1) 0) (begins + 3) (get_or nums (begins + 2) 0) c
+      → FoundHead nums 1 (get_or nums (begins + 1) 0) (begins + 3) (get_or nums (begins + 2) 0) c
   unfolding parameters_at returns_of callable_kind_number HoldsReturns
   function-head c t k none n =
       let z : get_or nums begins 0 ≡ 0 = t.kind.is ∙ rw n in
@@ -172,8 +170,8 @@ module _ (nums directory ends : List ℕ) (f : ℕ) where
       let p : parameters_at begins c ≡ begins + 2 = omega (arith, t.kind.is, y) in
       let q : parameters_at begins c + 1 ≡ begins + 3 = omega (arith, p) in
       record {
-        kind_is = t.kind.is;
-        returns_is = rw (y, n, h.is);
+        kind_is = rw n;
+        returns_is = rw (n, h.is);
         returns_most = h.most;
         parameters_stand = rw q at t.parameters;
         count_is = rw p at t.parameter_count.holds.is;
@@ -181,7 +179,7 @@ module _ (nums directory ends : List ℕ) (f : ℕ) where
 
   pub function-found : (get_or nums begins 0 ≡ 0 → ⊥)
       → Finds callables_of
-      (FoundHead nums (get_or nums begins 0) (get_or nums (begins + 1) 0) (begins + 3) (get_or nums (begins + 2) 0)) nums
+      (FoundHead nums 1 (get_or nums (begins + 1) 0) (begins + 3) (get_or nums (begins + 2) 0)) nums
       directory ends f
   unfolding callables_of
   function-found k = record {

@@ -1,11 +1,20 @@
 -- What a body sees: how many callables it reaches; where its parameters stand and how many they are;
--- the same of its locals; its kind (0 an action, 1 a function, 2 the apply body, 3 a state) and the type that it returns.
+-- the same of its locals; its kind and the type that it returns.
+use Rattle.program.specs.declared.Kind.{Kind}
+use Rattle.program.specs.declared.Kind.TheVariants as kinds
 use Rattle.program.specs.declared.Scope as coded
 use Rattle.std.specs.Prelude.{◌≡◌, List, ℕ, zero, suc, ◌≤◌, length, get_or}
 use Rattle.rules.specs.Words.{widest}
 use Rattle.rules.specs.Form.{Body, in_function, in_action, in_apply, in_state, Scope}
 use Rattle.program.specs.Codes.{ty_of}
 use Rattle.program.specs.Stands.{StandsParameters, StandsTypes, StandsProgram}
+
+-- the numbers of the kinds
+abbrev pub kind_number : Kind → ℕ
+kind_number kinds.Action = 0
+kind_number kinds.Function = 1
+kind_number kinds.Apply = 2
+kind_number kinds.State = 3
 
 unfoldable pub body_numbered : ℕ → ℕ → Body
 body_numbered zero returns = in_action
@@ -22,11 +31,11 @@ pub record StandsScope (nums directory ends : List ℕ) (scope : coded.Scope) (�
   pub parameter_count : scope.parameter_count ≡ length Γ.parameters
   pub locals : StandsTypes nums (scope.locals) Γ.locals
   pub local_count : scope.local_count ≡ length Γ.locals
-  pub body : body_numbered (scope.kind) (scope.returns) ≡ Γ.body
+  pub body : body_numbered (kind_number scope.kind) (scope.returns) ≡ Γ.body
   pub returns : scope.returns ≤ widest
 
 -- of a body without parameters and locals
-abbrev pub without_frame : ℕ → ℕ → coded.Scope
+abbrev pub without_frame : ℕ → Kind → coded.Scope
 without_frame reach kind = record {
   reach = reach;
   parameters = 0;

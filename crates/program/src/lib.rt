@@ -6,16 +6,16 @@ ghost use Rattle.std.specs.Prelude.{◌≡◌, ◌+◌};
 ghost use Rattle.program.specs.Looks.{Has, Finds, headers_of, globals_of, callables_of, tables_of, states_of, FoundGlobal, FoundHead, FoundFrame, FoundHeader, FoundTable, FoundState, KeysInside};
 ghost use Rattle.program.specs.Stands.{keys_end};
 ghost use Rattle.program.specs.In.{In};
-ghost use Rattle.program.specs.Scopes.{without_frame};
+ghost use Rattle.program.specs.Scopes.{kind_number, without_frame};
 
 // The kinds of bodies.
-pub const ACTION: u64 = 0;
-
-pub const FUNCTION: u64 = 1;
-
-pub const APPLY: u64 = 2;
-
-pub const STATE: u64 = 3;
+#[derive(Clone, Copy, PartialEq, Eq)]
+pub enum Kind {
+    Action,
+    Function,
+    Apply,
+    State,
+}
 
 // The kinds of keys.
 pub const EXACT: u64 = 0;
@@ -32,7 +32,7 @@ pub const WIDTHS: usize = 32;
 // A callable's kind, the type that a function returns, where its parameters begin and how many they are.
 #[derive(Clone, Copy)]
 pub struct Head {
-    pub kind: u64,
+    pub kind: Kind,
     pub returns: u64,
     pub parameters: usize,
     pub count: u64,
@@ -63,13 +63,13 @@ pub struct Scope {
     pub parameter_count: u64,
     pub locals: usize,
     pub local_count: u64,
-    pub kind: u64,
+    pub kind: Kind,
     pub returns: u64,
 }
 
 impl Scope {
     // What a body of this kind sees that has no parameters and no locals.
-    pub fn without_frame(reach: u64, kind: u64) -> Scope
+    pub fn without_frame(reach: u64, kind: Kind) -> Scope
         ensures { result ≡ without_frame reach kind }
     {
         Scope {
@@ -114,20 +114,19 @@ impl Source<'_> {
     // A callable's head.
     pub fn head_of(&self, f: usize) -> Head
         requires { In (Has callables_of) self.now f }
-        ensures { In (Finds callables_of (FoundHead self.now.nums.now result.kind result.returns result.parameters result.count)) self.now f }
+        ensures { In (Finds callables_of (FoundHead self.now.nums.now (kind_number result.kind) result.returns result.parameters result.count)) self.now f }
     {
         let at = self.directory[shape::CALLABLES + 1 + f] as usize;
-        let kind = self.nums[at];
-        if kind == 0 {
+        if self.nums[at] == 0 {
             Head {
-                kind,
+                kind: Kind::Action,
                 returns: 0,
                 parameters: at + 2,
                 count: self.nums[at + 1],
             }
         } else {
             Head {
-                kind,
+                kind: Kind::Function,
                 returns: self.nums[at + 1],
                 parameters: at + 3,
                 count: self.nums[at + 2],

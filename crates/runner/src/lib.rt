@@ -72,7 +72,7 @@ pub fn run(
     slots[COUNTER] = 0;
     let parsed = parser::run_parser(source, store, size, slots, frame);
     if parser::goes_on(parsed) {
-        let scope = Scope::without_frame(source.directory[shape::CALLABLES], program::APPLY);
+        let scope = Scope::without_frame(source.directory[shape::CALLABLES], program::Kind::Apply);
         let body = source.directory[shape::BODY] as usize;
         let ended = running::run_stmt(source, &scope, DEEPEST, body, slots, frame);
         signal_of(ended)

@@ -52,7 +52,7 @@ pub(crate) fn run_parser(
         Ended::Onward
     } else {
         slots[POSITION] = (store + size + 1) as u64;
-        let scope = Scope::without_frame(source.directory[shape::CALLABLES], program::STATE);
+        let scope = Scope::without_frame(source.directory[shape::CALLABLES], program::Kind::State);
         run_state(source, &scope, 0, slots, frame)
     }
 }

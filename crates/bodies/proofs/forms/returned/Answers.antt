@@ -3,8 +3,8 @@ use Rattle.bodies.proofs.Forming.{ruling}
 use borrow.Author.Rules.{rules}
 use Rattle.bodies.proofs.forms.returned.Goals as goal
 
-pub returns-then-scope-eq-FUNCTION : goal.returns-then-scope-eq-FUNCTION
-returns-then-scope-eq-FUNCTION c = search (ruling, rules)
+pub returns-then-eq : goal.returns-then-eq
+returns-then-eq c = search (ruling, rules)
 
-pub returns-else-scope-eq-FUNCTION : goal.returns-else-scope-eq-FUNCTION
-returns-else-scope-eq-FUNCTION c = search (ruling, rules)
+pub returns-else-eq : goal.returns-else-eq
+returns-else-eq c = search (ruling, rules)

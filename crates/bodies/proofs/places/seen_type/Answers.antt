@@ -3,8 +3,8 @@ use Rattle.bodies.proofs.Naming.{fields}
 use borrow.Author.Rules.{rules}
 use Rattle.bodies.proofs.places.seen_type.Goals as goal
 
-pub returns-then-scope-eq-FUNCTION : goal.returns-then-scope-eq-FUNCTION
-returns-then-scope-eq-FUNCTION c = search (fields, rules)
+pub returns-then-eq : goal.returns-then-eq
+returns-then-eq c = search (fields, rules)
 
-pub returns-else-scope-eq-FUNCTION : goal.returns-else-scope-eq-FUNCTION
-returns-else-scope-eq-FUNCTION c = search (fields, rules)
+pub returns-else-eq : goal.returns-else-eq
+returns-else-eq c = search (fields, rules)

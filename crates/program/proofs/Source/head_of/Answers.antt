@@ -22,23 +22,23 @@ bounds-self-at c = omega (arith, room _ _ _ _ c.requires)
 pub overflow_add-result : goal.overflow_add-result
 overflow_add-result c = omega (arith, room _ _ _ _ c.requires)
 
-pub overflow_add-result-then-kind-eq0 : goal.overflow_add-result-then-kind-eq0
-overflow_add-result-then-kind-eq0 c = omega (arith, room _ _ _ _ c.requires)
+pub overflow_add-result-then-self-at-eq0 : goal.overflow_add-result-then-self-at-eq0
+overflow_add-result-then-self-at-eq0 c = omega (arith, room _ _ _ _ c.requires)
 
-pub offset_bounds-self-at-then-kind-eq0 : goal.offset_bounds-self-at-then-kind-eq0
-offset_bounds-self-at-then-kind-eq0 c = omega (arith, room _ _ _ _ c.requires)
+pub offset_bounds-self-at-then-self-at-eq0 : goal.offset_bounds-self-at-then-self-at-eq0
+offset_bounds-self-at-then-self-at-eq0 c = omega (arith, room _ _ _ _ c.requires)
 
-pub bounds-self-at-then-kind-eq0 : goal.bounds-self-at-then-kind-eq0
-bounds-self-at-then-kind-eq0 c = omega (arith, room _ _ _ _ c.requires)
+pub bounds-self-at-then-self-at-eq0 : goal.bounds-self-at-then-self-at-eq0
+bounds-self-at-then-self-at-eq0 c = omega (arith, room _ _ _ _ c.requires)
 
-pub bounds-self-at-else-kind-eq0 : goal.bounds-self-at-else-kind-eq0
-bounds-self-at-else-kind-eq0 c = omega (arith, room _ _ _ _ c.requires)
+pub bounds-self-at-else-self-at-eq0 : goal.bounds-self-at-else-self-at-eq0
+bounds-self-at-else-self-at-eq0 c = omega (arith, room _ _ _ _ c.requires)
 
-pub bounds-self-at-else-kind-eq0-2 : goal.bounds-self-at-else-kind-eq0-2
-bounds-self-at-else-kind-eq0-2 c = omega (arith, room _ _ _ _ c.requires)
+pub bounds-self-at-else-self-at-eq0-2 : goal.bounds-self-at-else-self-at-eq0-2
+bounds-self-at-else-self-at-eq0-2 c = omega (arith, room _ _ _ _ c.requires)
 
-pub returns-then-kind-eq0 : goal.returns-then-kind-eq0
-returns-then-kind-eq0 c = search (looks, rules)
+pub returns-then-self-at-eq0 : goal.returns-then-self-at-eq0
+returns-then-self-at-eq0 c = search (looks, rules)
 
-pub returns-else-kind-eq0 : goal.returns-else-kind-eq0
-returns-else-kind-eq0 c = search (looks, rules)
+pub returns-else-self-at-eq0 : goal.returns-else-self-at-eq0
+returns-else-self-at-eq0 c = search (looks, rules)
