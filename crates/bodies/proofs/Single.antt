@@ -18,7 +18,7 @@ use Rattle.program.specs.Scopes.{kind_number, StandsScope}
 use Rattle.program.proofs.Views.{expr-begins, StmtView, BareView, AssignView, CallStmtView, NamedView, ReturnView, VerifyView, stmt-view, stmt-begins}
 use Rattle.program.proofs.Members.{same-types}
 use Rattle.bodies.specs.declared.Callee.{Callee}
-use Rattle.bodies.specs.Claims.{Typed, Formed, AsksExpr, JudgesExpr, told_stmt, JudgesStmt}
+use Rattle.bodies.specs.Claims.{Formed, AsksExpr, JudgesExpr, told_stmt, JudgesStmt}
 use Rattle.bodies.specs.Leaves.{AsksName, AsksWritable, IsWritable, AsksLeaf, JudgesLeaf}
 use Rattle.bodies.specs.Calls.{Called, StandsCall, judge_call, told_call, AsksCall, JudgesCall}
 use Rattle.bodies.specs.Forms.{Forms, ruled, ruled_both, FormsIn, called_in, returned_in, applied_in, Applies, left_in, parsed_in, MarksIn, ExtractsIn, AsksTagged, AsksSingle}
