@@ -29,7 +29,7 @@ use Rattle.program.proofs.Members.{same-types}
 use Rattle.bodies.specs.declared.Agreed.{Agreed}
 use Rattle.bodies.specs.declared.Parameter as coded_parameter
 use Rattle.bodies.specs.declared.Wanted.{Wanted}
-use Rattle.bodies.specs.Claims.{Typed, refused, AsksExpr, JudgesExpr}
+use Rattle.bodies.specs.Claims.{refused, AsksExpr, JudgesExpr}
 use Rattle.bodies.specs.Leaves.{AsksWritable, IsWritable}
 use Rattle.bodies.specs.Calls.{Called, Passed, Agreement, agreement, told_passed, AsksArgs, JudgesArgs, AsksWanted, WantedIf, IsWanted, weighed, Weighs, StandsCall, judge_call, told_call, CalledMost, AsksCall, JudgesCall, Settles}
 use Rattle.bodies.proofs.Operating.{typed-is, fault-is}

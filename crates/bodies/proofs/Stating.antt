@@ -18,7 +18,7 @@ use Rattle.program.specs.Codes.{ty_of, member_count}
 use Rattle.program.specs.Stands.{StandsStmt, StandsStmts}
 use Rattle.program.specs.Scopes.{StandsScope}
 use Rattle.program.proofs.Views.{expr-begins, StmtView, IfView, BlockView, stmt-view, stmt-begins, MemberView, no-members, member-view}
-use Rattle.bodies.specs.Claims.{Typed, Formed, AsksExpr, JudgesExpr, told_stmt, AsksStmt, JudgesStmt}
+use Rattle.bodies.specs.Claims.{Formed, AsksExpr, JudgesExpr, told_stmt, AsksStmt, JudgesStmt}
 use Rattle.bodies.specs.Forms.{Forms, ruled, chosen_as, AsksTagged, AsksSingle, AsksBranches, JudgesBranches, AsksStmts, JudgesStmts}
 use Rattle.bodies.proofs.Typing.{bool-rule}
 use Rattle.bodies.proofs.Operating.{typed-is, fault-is}
