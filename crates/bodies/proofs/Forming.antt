@@ -3,14 +3,13 @@ use Rattle.program.specs.declared.Kind.{Kind}
 use Rattle.program.specs.declared.Kind.TheVariants as kinds
 use Rattle.program.specs.declared.Scope as coded
 use mathlib.Core.Bool.{Bool, true, false, not, ◌&&◌, ◌||◌}
-use mathlib.Core.Path.{◌≡◌, refl, sym, ◌∙◌}
+use mathlib.Core.Path.{◌≡◌, refl, ◌∙◌}
 use mathlib.Core.List.{List}
-use Prim.Native.Nat.{ℕ, zero, suc, ◌+◌, ◌≤◌, ◌<◌}
+use Prim.Native.Nat.{ℕ, suc, ◌+◌, ◌≤◌, ◌<◌}
 use native.Mathlib.Omega.{arith}
 use native.Mathlib.Numerals.{add-one}
 use lib.ListN.{get_or}
-use lib.Dec.{ltb, leb, eqb}
-use borrow.Author.Tests.{ne_eqb, le-ltb, le-leb}
+use lib.Dec.{eqb}
 use Rattle.std.specs.Prelude.{Ok, Err}
 use Rattle.rules.specs.declared.Reason.{Reason}
 use Rattle.rules.specs.declared.Reason.TheVariants as reason
@@ -28,7 +27,6 @@ use Rattle.program.proofs.Members.{same-types}
 use Rattle.bodies.specs.Claims.{Formed, refused, told_ty, told_stmt}
 use Rattle.bodies.specs.Leaves.{TypedIn, header_ty}
 use Rattle.bodies.specs.Forms.{Forms, ruled, ruled_both, chosen_as, FormsIn, called_in, returned_in, applied_in, Applies, left_in, parsed_in, MarksIn}
-use Rattle.bodies.proofs.Typing.{more}
 
 -- a rule that holds, and one that does not
 module _ (reason : Reason) (at : ℕ) (holds returns : Bool) where

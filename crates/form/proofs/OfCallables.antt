@@ -1,4 +1,6 @@
 -- Callables: the body in its scope, then that a function returns on each path.
+use Rattle.program.specs.declared.Kind.{Kind}
+use Rattle.program.specs.declared.Kind.TheVariants as kinds
 use Rattle.program.specs.declared.Scope as coded
 use mathlib.Core.Bool.{Bool, not, ◌||◌}
 use mathlib.Core.Option.{Option, none, some}
@@ -7,7 +9,6 @@ use mathlib.Core.List.{List}
 use Prim.Native.Nat.{ℕ, ◌+◌, ◌<◌}
 use native.Mathlib.Omega.{arith}
 use lib.ListN.{get_or, get_elem?}
-use lib.Dec.{eqb}
 use Rattle.std.specs.Prelude.{Ok, Err}
 use Rattle.rules.specs.declared.Fault.{Fault}
 use Rattle.rules.specs.Syntax.{Ty, Callable, Program}
@@ -15,27 +16,34 @@ use Rattle.rules.specs.Form.{◌>>=◌, need, is_function, judge_stmt, returns_o
 use Rattle.program.specs.Codes.{callable_kind_number}
 use Rattle.program.specs.Stands.{StandsProgram}
 use Rattle.program.specs.Looks.{Has, Finds, callables_of, FoundHead, FoundFrame}
-use Rattle.program.specs.Scopes.{StandsScope}
+use Rattle.program.specs.Scopes.{kind_number, StandsScope}
 use Rattle.program.proofs.Found.{At, member-at}
 use Rattle.bodies.specs.Claims.{AsksStmt, JudgesStmt}
 use Rattle.bodies.proofs.Stating.{FineOf, fine-is, faulty-is}
 use Rattle.form.specs.Claims.{Formal, told_form}
 use Rattle.form.specs.Parts.{Says, JudgesPart}
-use Rattle.program.proofs.Seen.{callable_scope, callable-scope}
+use Rattle.program.proofs.Seen.{is_kind, callable_scope, callable-scope}
 use Rattle.form.proofs.Walking.{Walk}
 
-pub is-action : (kind : ℕ) (x : Option Ty) → kind ≡ callable_kind_number x → not (is_function (body_of x)) ≡ eqb kind 0
+pub is-action : (kind : Kind) (x : Option Ty) → kind_number kind ≡ callable_kind_number x
+    → not (is_function (body_of x)) ≡ is_kind kind kinds.Action
 unfolding callable_kind_number is_function body_of
-is-action kind none k = rw k
-is-action kind (some t) k = rw k
+is-action kinds.Action none k = refl
+is-action kinds.Action (some t) k = absurd (omega (arith, k))
+is-action kinds.Function none k = absurd (omega (arith, k))
+is-action kinds.Function (some t) k = refl
+is-action kinds.Apply none k = absurd (omega (arith, k))
+is-action kinds.Apply (some t) k = refl
+is-action kinds.State none k = absurd (omega (arith, k))
+is-action kinds.State (some t) k = refl
 
 module _ (nums directory ends : List ℕ) (n : ℕ) where
   pub callable-slot : Has callables_of nums directory ends n → 43 + n < 217
   unfolding callables_of
   callable-slot h = omega (arith, h.inside, h.stands.callables.few)
 
-  module _ (kind returns parameters count locals local_count body : ℕ)
-      (h : Finds callables_of (FoundHead nums kind returns parameters count) nums directory ends n)
+  module _ (kind : Kind) (returns parameters count locals local_count body : ℕ)
+      (h : Finds callables_of (FoundHead nums (kind_number kind) returns parameters count) nums directory ends n)
       (f : Finds callables_of (FoundFrame nums ends locals local_count body) nums directory ends n)
     where
       abbrev scope : coded.Scope
@@ -67,11 +75,11 @@ module _ (nums directory ends : List ℕ) (n : ℕ) where
             rw (faulty-is j (scope_of P n c) c.body (seen P end c s e) (f.finds P end c s e).body_stands);
       }
 
-      pub callable-judged : (b e : Bool) (r : Formal) → JudgesStmt nums directory ends scope 32 body (Ok b)
-          → e ≡ (eqb kind 0 || b) → Says r (need 8 (get_or directory (43 + n) 0) e)
+      pub callable-judged : (b action e : Bool) (r : Formal) → JudgesStmt nums directory ends scope 32 body (Ok b)
+          → action ≡ is_kind kind kinds.Action → e ≡ (action || b) → Says r (need 8 (get_or directory (43 + n) 0) e)
           → JudgesPart callables_of judge_callable nums directory ends n r
       unfolding callables_of judge_callable ◌>>=◌
-      callable-judged b e r j q w = record {
+      callable-judged b action e r j a q w = record {
         judged = λ P end c s i.
             let g : FineOf (judge_stmt (scope_of P n c) c.body) b (returns_on c.body)
             = fine-is j (scope_of P n c) c.body (seen P end c s i) (f.finds P end c s i).body_stands in
@@ -80,6 +88,7 @@ module _ (nums directory ends : List ℕ) (n : ℕ) where
               g.is,
               (s.callables.member n c i).index,
               is-action kind c.returns (h.finds P end c s i).kind_is,
+              ← a,
               q,
               g.same,
             );

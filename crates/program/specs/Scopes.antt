@@ -3,7 +3,7 @@
 use Rattle.program.specs.declared.Kind.{Kind}
 use Rattle.program.specs.declared.Kind.TheVariants as kinds
 use Rattle.program.specs.declared.Scope as coded
-use Rattle.std.specs.Prelude.{◌≡◌, List, ℕ, zero, suc, ◌≤◌, length, get_or}
+use Rattle.std.specs.Prelude.{◌≡◌, List, ℕ, zero, suc, ◌≤◌, length}
 use Rattle.rules.specs.Words.{widest}
 use Rattle.rules.specs.Form.{Body, in_function, in_action, in_apply, in_state, Scope}
 use Rattle.program.specs.Codes.{ty_of}

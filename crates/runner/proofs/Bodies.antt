@@ -1,5 +1,7 @@
 -- The body of a callable: its frame is made, its statement runs, and its parameters' numbers are left.
+use Rattle.program.specs.declared.Kind.{Kind}
 use Rattle.program.specs.declared.Scope as coded
+use Rattle.program.specs.Scopes.{kind_number}
 use mathlib.Core.Bool.{true, false≢true}
 use mathlib.Core.Option.{Option, none, some}
 use mathlib.Core.Path.{◌≡◌, refl, ◌∙◌, sym, ap}
@@ -111,7 +113,8 @@ module _ {nums directory ends slots frame : List ℕ} {f : ℕ} {P : Program} {c
   few : length c.parameters + length c.locals ≤ most_own
   few = omega (arith, callable-stands.parameter_count.at_most, callable-stands.local_count.at_most)
 
-  module _ {kind returns parameters count locals local_count body : ℕ} (head : FoundHead nums kind returns parameters count c)
+  module _ (kind : Kind) {returns parameters count locals local_count body : ℕ}
+      (head : FoundHead nums (kind_number kind) returns parameters count c)
       (framed : FoundFrame nums ends locals local_count body c) {frame₁ : List ℕ}
       (z : Clears frame frame₁ count (count + local_count)) where
     abbrev scope : coded.Scope
@@ -175,15 +178,15 @@ module _ (nums directory ends slots frame : List ℕ) (f : ℕ) where
   pub body-fall : (t : ℕ) → rank f 4000 ≡ t → rank f (2000 + 32 * 32 + 20) < t
   body-fall t e = rank-lower t f 4000 (2000 + 32 * 32 + 20) e (omega arith)
 
-  module _ (kind returns parameters count locals local_count body : ℕ)
-      (head : Finds callables_of (FoundHead nums kind returns parameters count) nums directory ends f)
+  module _ (kind : Kind) (returns parameters count locals local_count body : ℕ)
+      (head : Finds callables_of (FoundHead nums (kind_number kind) returns parameters count) nums directory ends f)
       (framed : Finds callables_of (FoundFrame nums ends locals local_count body) nums directory ends f) where
     abbrev scoped : coded.Scope
     scoped = callable_scope f parameters count locals local_count kind returns
 
     head_at : {P : Program} {c : Callable} {used : ℕ} {es : List Entry} {ns : List ℕ} {cells : List Cell}
         → Called nums directory ends slots frame f P c used es ns cells
-        → FoundHead nums kind returns parameters count c
+        → FoundHead nums (kind_number kind) returns parameters count c
     unfolding callables_of
     head_at {P} {c} w = head.finds P w.end c w.stands w.is
 
@@ -217,7 +220,7 @@ module _ (nums directory ends slots frame : List ℕ) (f : ℕ) where
         entry_list = a.entry_list;
         state = fresh a.found a.given a.cells;
         stmt = a.found.body;
-        stage = body-stage a.called a.going (head_at a.called) (frame_at a.called) z;
+        stage = body-stage a.called a.going kind (head_at a.called) (frame_at a.called) z;
         stands = (frame_at a.called).body_stands;
         deep = omega arith;
         going = body-goes a.called a.going;
@@ -227,9 +230,9 @@ module _ (nums directory ends slots frame : List ℕ) (f : ℕ) where
         → RunsStmt nums directory ends scoped slots slots₂ frame₁ frame₂ 32 body r
         → RunsBody nums directory ends slots slots₂ frame frame₂ f r
     body-runs frame₁ slots₂ frame₂ r z q = record {
-      runs = λ P c used es ns cells w g. body-ran w g (head_at w) (frame_at w) z
+      runs = λ P c used es ns cells w g. body-ran w g kind (head_at w) (frame_at w) z
           (q.runs (scope_of P f c) (taken w g) es (fresh c ns cells) c.body
-          (body-stage w g (head_at w) (frame_at w) z) (frame_at w).body_stands (body-goes w g));
+          (body-stage w g kind (head_at w) (frame_at w) z) (frame_at w).body_stands (body-goes w g));
     }
 
 pub ruleset body_runs = (body_has, body-fall, body-low, body-clears, body-stmt, body-runs)
