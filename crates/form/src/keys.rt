@@ -7,7 +7,7 @@ use super::{Formal, rule};
 use bodies::Typed;
 use bodies::exprs::judge_expr;
 use bodies::types::{both, either};
-use program::{LPM, Scope, Source, WIDTHS};
+use program::{Kind, LPM, Scope, Source, WIDTHS};
 use rules::{Fault, Reason};
 use shape::limits::DEEPEST;
 
@@ -19,7 +19,7 @@ fn key_type(source: &Source, at: usize) -> Typed
     requires { In AsksKey source.now at }
     ensures { In JudgesKey source.now at result }
 {
-    let scope = Scope::without_frame(source.directory[shape::CALLABLES], program::Kind::Apply);
+    let scope = Scope::without_frame(source.directory[shape::CALLABLES], Kind::Apply);
     judge_expr(source, &scope, DEEPEST, at)
 }
 

@@ -19,7 +19,7 @@ mod tables;
 use bodies::stmts::judge_stmt;
 use callables::judge_callables;
 use globals::judge_globals;
-use program::{Scope, Source, WIDTHS};
+use program::{Kind, Scope, Source, WIDTHS};
 use rules::{Fault, Reason};
 use shape::limits::DEEPEST;
 use states::judge_states;
@@ -44,7 +44,7 @@ fn judge_apply(source: &Source) -> Formal
     requires { In SomeProgram source.now }
     ensures { In JudgesApply source.now result }
 {
-    let scope = Scope::without_frame(source.directory[shape::CALLABLES], program::Kind::Apply);
+    let scope = Scope::without_frame(source.directory[shape::CALLABLES], Kind::Apply);
     let body = source.directory[shape::BODY] as usize;
     judge_stmt(source, &scope, DEEPEST, body)?;
     Ok(())

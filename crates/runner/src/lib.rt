@@ -8,7 +8,7 @@ ghost use Rattle.runner.specs.Prepares.{AsksLay, Lays, AsksPrepare, Prepares};
 ghost use Rattle.runner.specs.Whole.{AsksRun, RunsWhole, TellsSignal};
 ghost use Rattle.program.specs.In.{In};
 
-use program::{Scope, Source};
+use program::{Kind, Scope, Source};
 use rules::Signal;
 use shape::limits::DEEPEST;
 use steps::Ended;
@@ -72,7 +72,7 @@ pub fn run(
     slots[COUNTER] = 0;
     let parsed = parser::run_parser(source, store, size, slots, frame);
     if parser::goes_on(parsed) {
-        let scope = Scope::without_frame(source.directory[shape::CALLABLES], program::Kind::Apply);
+        let scope = Scope::without_frame(source.directory[shape::CALLABLES], Kind::Apply);
         let body = source.directory[shape::BODY] as usize;
         let ended = running::run_stmt(source, &scope, DEEPEST, body, slots, frame);
         signal_of(ended)

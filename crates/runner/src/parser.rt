@@ -4,7 +4,7 @@ ghost use Rattle.runner.specs.Parsing.{TellsOn, AsksState, RunsState, AsksTransi
 ghost use Rattle.program.specs.In.{In};
 
 use super::running::{run_expr, run_stmt};
-use program::{Scope, Source};
+use program::{Kind, Scope, Source};
 use shape::limits::DEEPEST;
 use steps::Ended;
 use steps::operands::count_step;
@@ -52,7 +52,7 @@ pub(crate) fn run_parser(
         Ended::Onward
     } else {
         slots[POSITION] = (store + size + 1) as u64;
-        let scope = Scope::without_frame(source.directory[shape::CALLABLES], program::Kind::State);
+        let scope = Scope::without_frame(source.directory[shape::CALLABLES], Kind::State);
         run_state(source, &scope, 0, slots, frame)
     }
 }
