@@ -10,3 +10,4 @@ mod TablesStand
 mod StatesStand
 pub mod Seen
 pub mod Standing
+pub mod Numbered

@@ -16,6 +16,13 @@ kind_number kinds.Function = 1
 kind_number kinds.Apply = 2
 kind_number kinds.State = 3
 
+-- the kind of any number: every number behind those of the others is a state's
+unfoldable pub kind_numbered : ℕ → Kind
+kind_numbered zero = kinds.Action
+kind_numbered (suc zero) = kinds.Function
+kind_numbered (suc (suc zero)) = kinds.Apply
+kind_numbered (suc (suc (suc kind))) = kinds.State
+
 unfoldable pub body_numbered : ℕ → ℕ → Body
 body_numbered zero returns = in_action
 body_numbered (suc zero) returns = in_function (ty_of returns)

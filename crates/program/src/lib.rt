@@ -6,7 +6,7 @@ ghost use Rattle.std.specs.Prelude.{◌≡◌, ◌+◌};
 ghost use Rattle.program.specs.Looks.{Has, Finds, headers_of, globals_of, callables_of, tables_of, states_of, FoundGlobal, FoundHead, FoundFrame, FoundHeader, FoundTable, FoundState, KeysInside};
 ghost use Rattle.program.specs.Stands.{keys_end};
 ghost use Rattle.program.specs.In.{In};
-ghost use Rattle.program.specs.Scopes.{kind_number, without_frame};
+ghost use Rattle.program.specs.Scopes.{kind_number, kind_numbered, without_frame};
 
 // The kinds of bodies.
 #[derive(Clone, Copy, PartialEq, Eq)]
@@ -15,6 +15,20 @@ pub enum Kind {
     Function,
     Apply,
     State,
+}
+
+impl Kind {
+    // The kind of any number: 0 an action, 1 a function, 2 the apply body; every other number is a state's.
+    pub fn numbered(number: u64) -> Kind
+        ensures { result ≡ kind_numbered number }
+    {
+        match number {
+            0 => Kind::Action,
+            1 => Kind::Function,
+            2 => Kind::Apply,
+            _ => Kind::State,
+        }
+    }
 }
 
 // The kinds of keys.
