@@ -50,6 +50,7 @@ fn count(bytes: &[u8], room: usize) -> Result<usize, Refusal>
 }
 
 // The same for bytes of which there are neither too few nor too many. Most numbers are of one byte.
+#[tactic(auto, using(crate::proofs::Counting::counts))]
 fn count_numbers(bytes: &[u8], room: usize) -> Result<usize, Refusal>
     ensures { of_read result ≡ read_stream (stream_from 0 0 0 bytes.now) room }
 {
