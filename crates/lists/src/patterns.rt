@@ -55,6 +55,7 @@ fn pattern_at(nums: &[u64], kind: u64, width: u64, at: usize) -> Scanned
 }
 
 // What an entry asks of so many keys, the first of which stands at `key`; their widths stand from `slot` on.
+#[tactic(auto, using(crate::proofs::Keys::keys))]
 pub fn patterns_at(
     source: &Source,
     widths: &[u64; WIDTHS],
