@@ -38,10 +38,10 @@ module _ (nums filled : List ℕ) (at count : ℕ) (a : AsksDearest nums filled 
   pair_of : PairView nums at count a.pairs
   pair_of = pair-view a.pairs a.stand a.counts n
 
-  pair_inside : at + 1 < length nums
+  pub pair_inside : at + 1 < length nums
   pair_inside = pair_of.state.holds.inside
 
-  pairs-rest : AsksDearest nums filled (at + 2) (count - 1)
+  pub pairs-rest : AsksDearest nums filled (at + 2) (count - 1)
   pairs-rest = record {
     later = a.later;
     fills = a.fills;
@@ -56,7 +56,7 @@ module _ (nums filled : List ℕ) (at count : ℕ) where
   no_pairs [] e = refl
   no_pairs (p ∷ ps) e = absurd (omega arith)
 
-  pairs-none : count ≡ 0 → CountsDearest nums filled at count 0
+  pub pairs-none : count ≡ 0 → CountsDearest nums filled at count 0
   unfolding largest_of
   pairs-none e = record {
     low = omega arith;

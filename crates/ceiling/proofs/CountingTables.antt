@@ -36,14 +36,14 @@ module _ (nums directory ends kept : List ℕ) (reach at count : ℕ) (a : AsksK
   asked-key : FirstKey nums ends at count a.keys
   asked-key = first_key nums ends at count a.keys a.stand a.counts n
 
-  key-room : KeyRoom nums ends at
+  pub key-room : KeyRoom nums ends at
   key-room = record {
     inside = (expr-begins asked-key.stands).inside;
     numbers = a.setting.stands.numbers;
     room = a.setting.stands.room;
   }
 
-  key-asks : AsksExpr nums directory ends kept reach 32 (at + 1)
+  pub key-asks : AsksExpr nums directory ends kept reach 32 (at + 1)
   key-asks = record {
     program = a.program;
     expr = asked-key.first.expr;
@@ -52,7 +52,7 @@ module _ (nums directory ends kept : List ℕ) (reach at count : ℕ) (a : AsksK
     deep = omega arith;
   }
 
-  keys-rest : (kept₁ : List ℕ) (one : ℕ) → CountsExpr nums directory ends kept kept₁ reach 32 (at + 1) one
+  pub keys-rest : (kept₁ : List ℕ) (one : ℕ) → CountsExpr nums directory ends kept kept₁ reach 32 (at + 1) one
       → AsksKeys nums directory ends kept₁ reach (get_or ends (at + 1) 0) (count - 1)
   keys-rest kept₁ one c = record {
     program = a.program;
@@ -67,14 +67,14 @@ module _ (nums directory ends kept : List ℕ) (reach at count : ℕ) where
   no_keys [] e = refl
   no_keys (k ∷ ks) e = absurd (omega arith)
 
-  keys_none : count ≡ 0 → CountsKeys nums directory ends kept kept reach at count 0
+  pub keys_none : count ≡ 0 → CountsKeys nums directory ends kept kept reach at count 0
   unfolding ceiling_keys
   keys_none e = record {
     low = omega arith;
     counted = λ P ks s w k. rw (no_keys ks (sym k ∙ e)) (record { is = cut-zero; keeps = s.keeps });
   }
 
-  keys-counted : (kept₁ kept₂ : List ℕ) (one others r : ℕ) → (count ≡ 0 → ⊥)
+  pub keys-counted : (kept₁ kept₂ : List ℕ) (one others r : ℕ) → (count ≡ 0 → ⊥)
       → CountsExpr nums directory ends kept kept₁ reach 32 (at + 1) one
       → CountsKeys nums directory ends kept₁ kept₂ reach (get_or ends (at + 1) 0) (count - 1) others
       → r ≡ cut (one + others) → CountsKeys nums directory ends kept kept₂ reach at count r
@@ -153,13 +153,13 @@ module _ (nums directory ends kept : List ℕ) (reach at count : ℕ)
   first-action : FirstNumeral nums at count a.actions
   first-action = first-numeral nums at count a.actions a.stand a.counts n
 
-  action-room : ActionRoom nums at
+  pub action-room : ActionRoom nums at
   action-room = record { inside = first-action.stands.holds.inside; numbers = a.setting.stands.numbers }
 
-  action-asks : AsksCall nums directory ends kept reach
+  pub action-asks : AsksCall nums directory ends kept reach
   action-asks = record { program = a.program; setting = a.setting }
 
-  actions-rest : (kept₁ : List ℕ) (f one : ℕ) → CountsCall nums directory ends kept kept₁ reach f one
+  pub actions-rest : (kept₁ : List ℕ) (f one : ℕ) → CountsCall nums directory ends kept kept₁ reach f one
       → AsksLargest nums directory ends kept₁ reach (at + 1) (count - 1)
   actions-rest kept₁ f one c = record {
     program = a.program;
@@ -174,7 +174,7 @@ module _ (nums directory ends kept : List ℕ) (reach at count : ℕ) where
   no-actions [] e = refl
   no-actions (k ∷ ks) e = absurd (omega arith)
 
-  actions-none : count ≡ 0 → CountsLargest nums directory ends kept kept reach at count 0
+  pub actions-none : count ≡ 0 → CountsLargest nums directory ends kept kept reach at count 0
   unfolding largest_of
   actions-none e = record {
     low = omega arith;
@@ -349,10 +349,10 @@ pub ruleset counting_table = (table-has, table-keys, table-actions, table_counte
 module _ (nums directory ends kept filled : List ℕ) (reach t : ℕ)
     (a : AsksTables nums directory ends kept filled reach t)
     (m : t < get_or directory 59 0) where
-  tables-slot : t < 8
+  pub tables-slot : t < 8
   tables-slot = omega (arith, a.setting.stands.tables.count, a.setting.stands.tables.few)
 
-  tables-asks : AsksTable nums directory ends kept reach t
+  pub tables-asks : AsksTable nums directory ends kept reach t
   tables-asks = record {
     program = a.program;
     setting = a.setting;
@@ -375,7 +375,7 @@ filled_more P reach filled t v f few e = record {
     go u l i false q =
         get_or-set_other filled t u v 0 (eqb-false u t q) ∙ f.slot u (below u t (omega arith) (eqb-false u t q)) i
 
-tables-rest : (nums directory ends kept filled kept₁ : List ℕ) (reach t one : ℕ)
+pub tables-rest : (nums directory ends kept filled kept₁ : List ℕ) (reach t one : ℕ)
     → AsksTables nums directory ends kept filled reach t → t < get_or directory 59 0
     → CountsTable nums directory ends kept kept₁ reach t one
     → AsksTables nums directory ends kept₁ (set filled t one) reach (t + 1)
@@ -391,7 +391,7 @@ tables-rest nums directory ends kept filled kept₁ reach t one a m c =
           (omega (arith, a.setting.stands.tables.count, a.setting.stands.tables.few)) (λ i. p.is);
     }
 
-tables-counted : (nums directory ends kept filled kept₁ kept₂ filled₂ : List ℕ) (reach t one : ℕ)
+pub tables-counted : (nums directory ends kept filled kept₁ kept₂ filled₂ : List ℕ) (reach t one : ℕ)
     → t < get_or directory 59 0 → CountsTable nums directory ends kept kept₁ reach t one
     → CountsTables nums directory ends kept₁ kept₂ (set filled t one) filled₂ reach (t + 1)
     → CountsTables nums directory ends kept kept₂ filled filled₂ reach t
@@ -403,7 +403,7 @@ tables-counted nums directory ends kept filled kept₁ kept₂ filled₂ reach t
       (filled_more P reach filled t one f (omega (arith, l, s.stands.tables.few)) (λ i. p.is));
 }
 
-tables-done : (nums directory ends kept filled : List ℕ) (reach t : ℕ) → get_or directory 59 0 ≤ t
+pub tables-done : (nums directory ends kept filled : List ℕ) (reach t : ℕ) → get_or directory 59 0 ≤ t
     → CountsTables nums directory ends kept kept filled filled reach t
 tables-done nums directory ends kept filled reach t h = record {
   counted = λ P s f. record {

@@ -48,7 +48,7 @@ one_more (ok cs) c = refl
 one_more (fault number index) c = refl
 
 module _ (nums directory : List ℕ) (at count : ℕ) where
-  exist-none : count ≡ 0 → JudgesExist nums directory at count (Ok tt)
+  pub exist-none : count ≡ 0 → JudgesExist nums directory at count (Ok tt)
   unfolding told_form judge_actions ◌>>=◌
   exist-none e = record { judged = λ ends P end ns s h. go P ns h }
     where
@@ -158,7 +158,7 @@ gives-not by_out n e x = refl
 gives-not by_inout n e x = refl
 
 module _ (nums : List ℕ) (at count : ℕ) where
-  given-none : count ≡ 0 → GivesAll nums at count true
+  pub given-none : count ≡ 0 → GivesAll nums at count true
   unfolding table_gives_all
   given-none e = record { gives = go }
     where
@@ -297,7 +297,7 @@ module _ (nums directory ends : List ℕ) (at count : ℕ) (more : count ≡ 0 �
           numbers = h.stands.numbers;
         }
 
-    listed-left : AsksListed nums directory ends (at + 1) (count - 1)
+    pub listed-left : AsksListed nums directory ends (at + 1) (count - 1)
     listed-left = record {
       program = h.program;
       end = h.end;
@@ -347,7 +347,7 @@ module _ (nums directory ends : List ℕ) (at count : ℕ) (more : count ≡ 0 �
             ∙ rw (listable-is P end ns cs s l true e));
       }
 
-listed-none : (nums directory ends : List ℕ) (at count : ℕ) → count ≡ 0
+pub listed-none : (nums directory ends : List ℕ) (at count : ℕ) → count ≡ 0
     → JudgesListed nums directory ends at count (Ok tt)
 unfolding told_form judge_listed
 listed-none nums directory ends at count e = record { judged = λ P end ns cs s h k. go ns cs h }

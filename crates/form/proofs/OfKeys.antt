@@ -69,7 +69,7 @@ module _ (at t : ℕ) (rest : Keyed) where
       go None = rw (some-width at t (ok tt) x)
       go (Some index) = rw (some-width at t (fault 7 index) x)
 
-  then-unkeyed : (wrong : Fault) → rest ≡ Err wrong → WithFirst at t rest (Err wrong)
+  pub then-unkeyed : (wrong : Fault) → rest ≡ Err wrong → WithFirst at t rest (Err wrong)
   unfolding told_keys ◌>>=◌
   then-unkeyed wrong k = record { judged = rw k }
 
@@ -144,7 +144,7 @@ width-of (suc t) = refl
 
 -- the keys, one after the other
 module _ (nums directory ends : List ℕ) (at count slot : ℕ) (widths : List ℕ) where
-  keys_none : count ≡ 0 → JudgesKeys nums directory ends at count slot widths widths (Ok None)
+  pub keys_none : count ≡ 0 → JudgesKeys nums directory ends at count slot widths widths (Ok None)
   unfolding told_keys judge_keys keys_are_bits key_widths ◌>>=◌
   keys_none e = record { judged = λ P end ks s h. go P ks h; laid = λ k P end ks s h. lay P ks h }
     where

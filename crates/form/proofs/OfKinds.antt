@@ -33,7 +33,7 @@ is-lpm lpm n e = rw e
 is-lpm ternary n e = rw e
 
 module _ (nums ends : List ℕ) (at count : ℕ) (seen : Bool) where
-  kinds-none : count ≡ 0 → JudgesKinds nums ends at count seen (Ok tt)
+  pub kinds-none : count ≡ 0 → JudgesKinds nums ends at count seen (Ok tt)
   unfolding told_form one_lpm
   kinds-none e = record { judged = go }
     where

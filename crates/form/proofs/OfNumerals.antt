@@ -42,7 +42,7 @@ pub ruleset fitting = (fits_bool, fits_bits)
 
 -- a literal for a parameter
 module _ (nums : List ℕ) (parameter at count : ℕ) where
-  literals-none : count ≡ 0 → JudgesLiterals nums parameter at count (Ok tt)
+  pub literals-none : count ≡ 0 → JudgesLiterals nums parameter at count (Ok tt)
   unfolding told_form literals_fit
   literals-none e = record { judged = go }
     where

@@ -52,7 +52,7 @@ rest_of v = record { stand = v.rest; counted = v.fewer }
 
 -- their states
 module _ (nums directory : List ℕ) (n at count : ℕ) where
-  pairs-none : count ≡ 0 → JudgesPairs nums directory n at count (Ok tt)
+  pub pairs-none : count ≡ 0 → JudgesPairs nums directory n at count (Ok tt)
   unfolding told_form judge_pairs
   pairs-none e = record { judged = λ ends P end ps s h. go P ps h.counted }
     where
@@ -97,7 +97,7 @@ module _ (nums : List ℕ) (at count done : ℕ) (h : AsksPairs nums (at + 2 * d
   pair-inside : at + 2 * done + 1 < length nums
   pair-inside = some_pair.state.holds.inside
 
-  pairs-left : AsksPairs nums (at + 2 * (done + 1)) (count - (done + 1))
+  pub pairs-left : AsksPairs nums (at + 2 * (done + 1)) (count - (done + 1))
   pairs-left =
       let a : at + 2 * (done + 1) ≡ at + 2 * done + 2 = omega arith in
       let c : count - (done + 1) ≡ count - done - 1 = omega arith in
@@ -158,7 +158,7 @@ pub ruleset pairs = (
 
 -- their values
 module _ (nums : List ℕ) (width at count : ℕ) where
-  values-none : count ≡ 0 → JudgesValues nums width at count (Ok tt)
+  pub values-none : count ≡ 0 → JudgesValues nums width at count (Ok tt)
   unfolding told_form values_fit
   values-none e = record { judged = λ ps h. go ps h.counted }
     where

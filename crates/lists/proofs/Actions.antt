@@ -38,18 +38,18 @@ module _ (nums : List ℕ) (parameter count : ℕ) (h : AsksArguments nums param
   asked-parameter : FirstParameter nums parameter count h.parameters
   asked-parameter = first-parameter nums parameter count h.parameters h.typed.stands h.typed.counted more
 
-  type-inside : parameter + 1 < length nums
+  pub type-inside : parameter + 1 < length nums
   type-inside = asked-parameter.ty.inside
 
-  type-most : get_or nums (parameter + 1) 0 ≤ widest
+  pub type-most : get_or nums (parameter + 1) 0 ≤ widest
   type-most = asked-parameter.ty.most
 
-  parameters-left : AsksArguments nums (parameter + 2) (count - 1)
+  pub parameters-left : AsksArguments nums (parameter + 2) (count - 1)
   parameters-left = record { parameters = asked-parameter.others; typed = typed-behind asked-parameter; numbers = h.numbers }
 
 -- the arguments for parameters, one after the other
 module _ (nums : List ℕ) (parameter count at : ℕ) where
-  arguments-none : count ≡ 0 → JudgesArguments nums parameter count at (Past at)
+  pub arguments-none : count ≡ 0 → JudgesArguments nums parameter count at (Past at)
   unfolding read_arguments scan_of forget pure
   arguments-none e = record { judged = go }
     where
@@ -61,7 +61,7 @@ module _ (nums : List ℕ) (parameter count at : ℕ) where
   module _ (a : Scan) (more : count ≡ 0 → ⊥)
       (q : a ≡ scan_of (passing 10 (fits (ty_of (get_or nums (parameter + 1) 0)))) nums at)
     where
-      arguments-past : (n : ℕ) (r : Scan) → a ≡ Past n → JudgesArguments nums (parameter + 2) (count - 1) n r
+      pub arguments-past : (n : ℕ) (r : Scan) → a ≡ Past n → JudgesArguments nums (parameter + 2) (count - 1) n r
           → JudgesArguments nums parameter count at r
       unfolding read_arguments asked
       arguments-past n r p g = record {
@@ -74,7 +74,7 @@ module _ (nums : List ℕ) (parameter count at : ℕ) where
             λ x. alike-scan nums n r (alike-made (read_arguments true P o.others) _) s);
       }
 
-      arguments-fault : (f i : ℕ) → a ≡ Fault f i → JudgesArguments nums parameter count at (Fault f i)
+      pub arguments-fault : (f i : ℕ) → a ≡ Fault f i → JudgesArguments nums parameter count at (Fault f i)
       unfolding read_arguments asked
       arguments-fault f i p = record {
         judged = λ P ps h.

@@ -97,19 +97,19 @@ module _ (nums : List ℕ) (width count : ℕ) (h : AsksFields nums width count)
   asked-field : First nums width count h.widths
   asked-field = first_field nums width count h.widths h.fielded more
 
-  width-inside : width < length nums
+  pub width-inside : width < length nums
   width-inside = asked-field.holds.holds.inside
 
-  width-most : (mark under : ℕ) → under ≡ width_under mark (get_or nums width 0) → under ≤ widest
+  pub width-most : (mark under : ℕ) → under ≡ width_under mark (get_or nums width 0) → under ≤ widest
   width-most mark under e =
       rw e (under-most mark (get_or nums width 0) (rw asked-field.holds.holds.is asked-field.holds.at_most))
 
-  fields-left : AsksFields nums (width + 1) (count - 1)
+  pub fields-left : AsksFields nums (width + 1) (count - 1)
   fields-left = record { widths = asked-field.others; fielded = asked-field.rest; numbers = h.numbers }
 
 -- the fields of a header, one after the other
 module _ (nums : List ℕ) (width mark count at : ℕ) where
-  fields-none : count ≡ 0 → JudgesFields nums width mark count at (Past at)
+  pub fields-none : count ≡ 0 → JudgesFields nums width mark count at (Past at)
   unfolding read_fields scan_of forget pure
   fields-none e = record { judged = go }
     where
@@ -126,7 +126,7 @@ module _ (nums : List ℕ) (width mark count at : ℕ) where
           let e : under ≡ width_under mark w = u ∙ rw h.holds.is in
           q ∙ same_tests 11 (fits_width under) _ (λ n. rw e (field-test mark w n)) nums at
 
-      fields-past : (n : ℕ) (r : Scan) → a ≡ Past n → JudgesFields nums (width + 1) mark (count - 1) n r
+      pub fields-past : (n : ℕ) (r : Scan) → a ≡ Past n → JudgesFields nums (width + 1) mark (count - 1) n r
           → JudgesFields nums width mark count at r
       unfolding read_fields
       fields-past n r p g = record {
@@ -139,7 +139,7 @@ module _ (nums : List ℕ) (width mark count at : ℕ) where
             λ x. alike-scan nums n r (alike-made (read_fields (eqb mark 1) o.others) _) s);
       }
 
-      fields-fault : (f i : ℕ) → a ≡ Fault f i → JudgesFields nums width mark count at (Fault f i)
+      pub fields-fault : (f i : ℕ) → a ≡ Fault f i → JudgesFields nums width mark count at (Fault f i)
       unfolding read_fields
       fields-fault f i p = record {
         judged = λ ws h.

@@ -156,16 +156,16 @@ pub ruleset globals = (cell-asks, cell-high, cell-variable, cell-header)
 
 -- globals one after the other
 module _ (nums directory ends : List ℕ) (g count store at : ℕ) where
-  cells-slot : AsksCells nums directory ends g count store at → g < 33
+  pub cells-slot : AsksCells nums directory ends g count store at → g < 33
   cells-slot h = omega (arith, h.counted, h.stands.globals.few)
 
-  cells-later : AsksCells nums directory ends g count store at → store ≤ at
+  pub cells-later : AsksCells nums directory ends g count store at → store ≤ at
   cells-later h = h.later
 
   member_of : (P : Program) → g + count ≡ length P.globals → (count ≡ 0 → ⊥) → At P.globals g
   member_of P e more = member-at P.globals g (omega (arith, e, more))
 
-  cells-asks : AsksCells nums directory ends g count store at → (count ≡ 0 → ⊥)
+  pub cells-asks : AsksCells nums directory ends g count store at → (count ≡ 0 → ⊥)
       → Has globals_of nums directory ends g
   unfolding globals_of
   cells-asks h more = record {
@@ -175,7 +175,7 @@ module _ (nums directory ends : List ℕ) (g count store at : ℕ) where
     inside = omega (arith, h.counted, more);
   }
 
-  cells-none : (found : List ℕ) → count ≡ 0
+  pub cells-none : (found : List ℕ) → count ≡ 0
       → JudgesCells nums directory ends g count store at found (set found g (at - store)) (Past at)
   unfolding read_cells pure scan_of forget Laid lay_offsets offsets_from
   cells-none found e = record {
@@ -192,7 +192,7 @@ module _ (nums directory ends : List ℕ) (g count store at : ℕ) where
     read-cell P end n s m p = past-read nums at n a (placed-cell (shape_in P m.member.ty))
         (j.judged P end m.member s m.is) p
 
-    cells_left : (n : ℕ) → AsksCells nums directory ends g count store at → a ≡ Past n
+    pub cells_left : (n : ℕ) → AsksCells nums directory ends g count store at → a ≡ Past n
         → AsksCells nums directory ends (g + 1) (count - 1) store n
     cells_left n h p = record {
       program = h.program;
@@ -227,7 +227,7 @@ module _ (nums directory ends : List ℕ) (g count store at : ℕ) where
             rw e (rw o at k)
         go (bad fault index) k = tt
 
-    cells-past : (n : ℕ) (found filled : List ℕ) (r : Scan) → AsksCells nums directory ends g count store at
+    pub cells-past : (n : ℕ) (found filled : List ℕ) (r : Scan) → AsksCells nums directory ends g count store at
         → a ≡ Past n
         → JudgesCells nums directory ends (g + 1) (count - 1) store n (set found g (at - store)) filled r
         → JudgesCells nums directory ends g count store at found filled r
@@ -239,7 +239,7 @@ module _ (nums directory ends : List ℕ) (g count store at : ℕ) where
           (rw (add-one g) at (k.judged P end s (omega (arith, q, more))));
     }
 
-    cells-fault : (f i : ℕ) (found filled : List ℕ) → a ≡ Fault f i
+    pub cells-fault : (f i : ℕ) (found filled : List ℕ) → a ≡ Fault f i
         → JudgesCells nums directory ends g count store at found filled (Fault f i)
     unfolding read_cells ◌>>=◌ and_then
     cells-fault f i found filled p = record {

@@ -114,19 +114,19 @@ module _ (nums ends widths : List ℕ) (key count slot : ℕ) (h : AsksPatterns 
     asked-key : First h.program nums ends widths key count slot h.keys
     asked-key = first_key h.program nums ends widths key count slot h.keys h.keyed more
 
-    key-inside : key < length nums
+    pub key-inside : key < length nums
     key-inside = asked-key.kind.inside
 
-    key-ends : key + 1 < length ends
+    pub key-ends : key + 1 < length ends
     key-ends = omega (arith, asked-key.begins, h.room)
 
-    key-slot : slot < 32
+    pub key-slot : slot < 32
     key-slot = omega (arith, h.slots, more)
 
-    key-width : get_or widths slot 0 ≤ widest
+    pub key-width : get_or widths slot 0 ≤ widest
     key-width = asked-key.most
 
-    keys-left : AsksPatterns nums ends widths (get_or ends (key + 1) 0) (count - 1) (slot + 1)
+    pub keys-left : AsksPatterns nums ends widths (get_or ends (key + 1) 0) (count - 1) (slot + 1)
     keys-left = record {
       program = h.program;
       keys = asked-key.others;
@@ -138,7 +138,7 @@ module _ (nums ends widths : List ℕ) (key count slot : ℕ) (h : AsksPatterns 
 
 -- the patterns of keys, one after the other
 module _ (nums ends widths : List ℕ) (key count slot at : ℕ) where
-  patterns-none : count ≡ 0 → JudgesPatterns nums ends widths key count slot at (Past at)
+  pub patterns-none : count ≡ 0 → JudgesPatterns nums ends widths key count slot at (Past at)
   unfolding read_patterns scan_of forget pure
   patterns-none e = record { judged = go }
     where
@@ -147,7 +147,7 @@ module _ (nums ends widths : List ℕ) (key count slot at : ℕ) where
       go P [] h = refl
       go P (k ∷ ks) h = absurd (omega (arith, e, h.counted))
 
-  patterns-past : (n : ℕ) (a r : Scan) → (count ≡ 0 → ⊥)
+  pub patterns-past : (n : ℕ) (a r : Scan) → (count ≡ 0 → ⊥)
       → JudgesPattern nums (get_or nums key 0) (get_or widths slot 0) at a → a ≡ Past n
       → JudgesPatterns nums ends widths (get_or ends (key + 1) 0) (count - 1) (slot + 1) n r
       → JudgesPatterns nums ends widths key count slot at r
@@ -163,7 +163,7 @@ module _ (nums ends widths : List ℕ) (key count slot at : ℕ) where
         λ x. alike-scan nums n r (alike-made (read_patterns true P o.others) _) s);
   }
 
-  patterns-fault : (f i : ℕ) (a : Scan) → (count ≡ 0 → ⊥)
+  pub patterns-fault : (f i : ℕ) (a : Scan) → (count ≡ 0 → ⊥)
       → JudgesPattern nums (get_or nums key 0) (get_or widths slot 0) at a → a ≡ Fault f i
       → JudgesPatterns nums ends widths key count slot at (Fault f i)
   unfolding read_patterns

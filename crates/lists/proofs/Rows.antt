@@ -23,7 +23,7 @@ use Rattle.lists.proofs.Places.{PlacedAt, placed-entry, EntryAt, EntriesAt, plac
 use Rattle.lists.proofs.Steps.{Read, past-read, fault-read, alike-made, lays-bad}
 
 module _ (nums directory ends widths : List ℕ) (count at slot : ℕ) (found : List ℕ) where
-  entries_none : count ≡ 0 → JudgesEntries nums directory ends widths count at slot found found (Past at)
+  pub entries_none : count ≡ 0 → JudgesEntries nums directory ends widths count at slot found found (Past at)
   unfolding repeat pure scan_of forget Laid lay_starts starts_from
   entries_none e = record { judged = λ P end s w. rw e (record { scan = refl; laid = refl }) }
 
@@ -44,7 +44,7 @@ module _ (nums directory ends widths : List ℕ) (count at slot : ℕ) (found : 
       go (bad fault index) l = tt
 
   module _ (a : Scan) (more : count ≡ 0 → ⊥) (g : JudgesEntry nums directory ends widths at a) where
-    entries-past : (n : ℕ) (filled : List ℕ) (r : Scan) → a ≡ Past n
+    pub entries-past : (n : ℕ) (filled : List ℕ) (r : Scan) → a ≡ Past n
         → JudgesEntries nums directory ends widths (count - 1) n (slot + 1) (set found slot at) filled r
         → JudgesEntries nums directory ends widths count at slot found filled r
     entries-past n filled r p k = record { judged = λ P end s w. go P end s w count more (k.judged P end s w) }
@@ -57,7 +57,7 @@ module _ (nums directory ends widths : List ℕ) (count at slot : ℕ) (found : 
         go P end s w (suc c) x l = with-first P c n filled r
             (past-read nums at n a (placed-entry P) (g.judged P end s w) p) (rw (sub-one (suc c)) at l)
 
-    entries-fault : (f i : ℕ) (filled : List ℕ) → a ≡ Fault f i
+    pub entries-fault : (f i : ℕ) (filled : List ℕ) → a ≡ Fault f i
         → JudgesEntries nums directory ends widths count at slot found filled (Fault f i)
     unfolding repeat ◌>>=◌ and_then
     entries-fault f i filled p = record { judged = λ P end s w. go P end s w count more }

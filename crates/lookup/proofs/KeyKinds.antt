@@ -20,16 +20,16 @@ module _ (nums ends : List ℕ) (from count : ℕ) (h : AsksKeys nums ends from 
   asked-first : FirstKey nums ends from count h.key_list
   asked-first = first_key nums ends from count h.key_list h.stand h.counts more
 
-  kind-inside : from < length nums
+  pub kind-inside : from < length nums
   kind-inside = asked-first.kind.inside
 
-  ends-inside : from + 1 < length ends
+  pub ends-inside : from + 1 < length ends
   ends-inside = omega (arith, (expr-begins asked-first.stands).inside, h.room)
 
-  from_next : from + 1 < 2 ^ 64
+  pub from_next : from + 1 < 2 ^ 64
   from_next = omega (arith, (expr-begins asked-first.stands).inside, h.numbers)
 
-  others-asked : AsksKeys nums ends (get_or ends (from + 1) 0) (count - 1)
+  pub others-asked : AsksKeys nums ends (get_or ends (from + 1) 0) (count - 1)
   others-asked = record {
     key_list = asked-first.others;
     stand = asked-first.rest;
@@ -39,7 +39,7 @@ module _ (nums ends : List ℕ) (from count : ℕ) (h : AsksKeys nums ends from 
   }
 
 module _ (nums ends : List ℕ) (number from count : ℕ) where
-  none_is : count ≡ 0 → TellsAny nums ends number from count false
+  pub none_is : count ≡ 0 → TellsAny nums ends number from count false
   unfolding any_key
   none_is e = record { told = go }
     where
@@ -47,7 +47,7 @@ module _ (nums ends : List ℕ) (number from count : ℕ) where
       go [] s c = refl
       go (k ∷ ks) s c = absurd (omega (arith, e, c))
 
-  first-is : (count ≡ 0 → ⊥) → get_or nums from 0 ≡ number → TellsAny nums ends number from count true
+  pub first-is : (count ≡ 0 → ⊥) → get_or nums from 0 ≡ number → TellsAny nums ends number from count true
   unfolding any_key of_kind
   first-is more e = record {
     told = λ ks s c. go (first_key nums ends from count ks s c more);
@@ -56,7 +56,7 @@ module _ (nums ends : List ℕ) (number from count : ℕ) where
       go : {ks : List Key} → FirstKey nums ends from count ks → true ≡ any_key (of_kind number) ks
       go o = rw (o.same, eq-eqb _ number (sym o.kind.is ∙ e)) refl
 
-  others-are : (r : Bool) → (count ≡ 0 → ⊥) → (get_or nums from 0 ≡ number → ⊥)
+  pub others-are : (r : Bool) → (count ≡ 0 → ⊥) → (get_or nums from 0 ≡ number → ⊥)
       → TellsAny nums ends number (get_or ends (from + 1) 0) (count - 1) r → TellsAny nums ends number from count r
   unfolding any_key of_kind
   others-are r more n t = record {

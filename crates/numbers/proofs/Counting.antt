@@ -70,7 +70,7 @@ module _ (bytes : List ℕ) (room count at : ℕ) (c : Counting bytes room count
       let number : Number = record { value = byte; next = at + 1 } in
       counting_more bytes room count at c (Ok number) (number-one bytes at inside small) number refl
 
-  counting-end : length bytes ≤ at → with_room count room (1 ∷ count ∷ []) ≡ read_stream (stream_from 0 0 0 bytes) room
+  pub counting-end : length bytes ≤ at → with_room count room (1 ∷ count ∷ []) ≡ read_stream (stream_from 0 0 0 bytes) room
   unfolding answer_behind
   counting-end end = rw (stream-none bytes at end, add-zero count) at c.leads
 

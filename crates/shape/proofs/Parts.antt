@@ -236,7 +236,7 @@ module _ (version : ℕ) (nums : List ℕ) (at : ℕ) where
       (λ h. no_value version (get_or nums at 0) (type_of version (get_or nums at 0)) (f h)
       ∙ some-header version (get_or nums at 0) ∙ sym (some-within 128 135 (get_or nums at 0)))
 
-  global-past : (n : ℕ) (a : Scan) → a ≡ scan_of (between 0 widest) nums at → a ≡ Past n
+  pub global-past : (n : ℕ) (a : Scan) → a ≡ scan_of (between 0 widest) nums at → a ≡ Past n
       → Past n ≡ scan_of (read_global version) nums at
   global-past n a e p =
       sym p ∙ e ∙ sym (spans-scan nums at (spans-type version))
@@ -244,7 +244,7 @@ module _ (version : ℕ) (nums : List ℕ) (at : ℕ) where
       (spans-scan nums at (spans-type version) ∙ sym e ∙ p)))
       ∙ sym (scans-global.scan at)
 
-  global-else : (f i : ℕ) (a r : Scan) → a ≡ scan_of (between 0 widest) nums at → a ≡ Fault f i
+  pub global-else : (f i : ℕ) (a r : Scan) → a ≡ scan_of (between 0 widest) nums at → a ≡ Fault f i
       → r ≡ scan_of (between 128 135) nums at
       → r ≡ scan_of (read_global version) nums at
   global-else f i a r e p q =
