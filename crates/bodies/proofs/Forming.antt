@@ -3,14 +3,14 @@ use Rattle.program.specs.declared.Kind.{Kind}
 use Rattle.program.specs.declared.Kind.TheVariants as kinds
 use Rattle.program.specs.declared.Scope as coded
 use mathlib.Core.Bool.{Bool, true, false, not, ◌&&◌, ◌||◌}
-use mathlib.Core.Path.{◌≡◌, refl, ◌∙◌}
+use mathlib.Core.Path.{◌≡◌, refl, sym, ◌∙◌}
 use mathlib.Core.List.{List}
 use Prim.Native.Nat.{ℕ, suc, ◌+◌, ◌≤◌, ◌<◌}
 use native.Mathlib.Omega.{arith}
 use native.Mathlib.Numerals.{add-one}
 use lib.ListN.{get_or}
 use lib.Dec.{eqb}
-use Rattle.std.specs.Prelude.{Ok, Err}
+use Rattle.std.specs.Prelude.{Result, Ok, Err}
 use Rattle.rules.specs.declared.Reason.{Reason}
 use Rattle.rules.specs.declared.Reason.TheVariants as reason
 use Rattle.rules.specs.declared.Fault.{Fault}
@@ -26,7 +26,7 @@ use Rattle.program.proofs.Seen.{is_kind, one_kind, two_kinds}
 use Rattle.program.proofs.Members.{same-types}
 use Rattle.bodies.specs.Claims.{Formed, refused, told_ty, told_stmt}
 use Rattle.bodies.specs.Leaves.{TypedIn, header_ty}
-use Rattle.bodies.specs.Forms.{Forms, ruled, ruled_both, chosen_as, FormsIn, called_in, returned_in, applied_in, Applies, left_in, parsed_in, MarksIn}
+use Rattle.bodies.specs.Forms.{Forms, ruled, ruled_both, Makes, Chooses, FormsIn, called_in, returned_in, applied_in, Applies, left_in, parsed_in, MarksIn}
 
 -- a rule that holds, and one that does not
 module _ (reason : Reason) (at : ℕ) (holds returns : Bool) where
@@ -47,16 +47,35 @@ module _ (at : ℕ) (first second : Bool) where
   unfolding ruled_both told_stmt need ◌>>=◌
   rules-not e = record { judged = rw e }
 
-module _ (at t : ℕ) (branches : Formed) where
-  pub chosen-fine : (x : Bool) → branches ≡ Ok x → (r : Formed) → Forms r (ruled 7 at (eqb t 0) x)
-      → Forms r (chosen_as at t (told_stmt branches))
-  unfolding chosen_as told_stmt ◌>>=◌
-  chosen-fine x e r f = record { judged = rw e f.judged }
+-- the branches of an if are fine, or not; and then its own rule
+module _ {E : Type 0} (gives : Fault → E → Type 0) (at t : ℕ) (branches : Result Bool E) where
+  one-fine : (x y : Bool) → branches ≡ Ok x → branches ≡ Ok y → x ≡ y
+  one-fine x y p q = cc
 
-  pub chosen-fault : (wrong : Fault) → branches ≡ Err wrong
-      → Forms (Err wrong) (chosen_as at t (told_stmt branches))
-  unfolding chosen_as told_stmt ◌>>=◌
-  chosen-fault wrong e = record { judged = rw e }
+  not-both : (x : Bool) (wrong : E) → branches ≡ Ok x → branches ≡ Err wrong → ⊥
+  not-both x wrong p q = cc
+
+  pub chosen-fine : (x y : Bool) → branches ≡ Ok x → Forms (Ok y) (ruled 7 at (eqb t 0) x)
+      → Chooses gives at t branches (Ok y)
+  unfolding Makes
+  chosen-fine x y e f = record {
+    handed = λ wrong w. absurd (not-both x wrong e w);
+    own = λ z q. rw (one-fine z x q e) f;
+  }
+
+  pub chosen-fault : (wrong : E) → branches ≡ Err wrong → Chooses gives at t branches (Err wrong)
+  chosen-fault wrong e = record {
+    handed = λ other w. sym e ∙ w;
+    own = λ z q. absurd (not-both z wrong q e);
+  }
+
+  pub chosen-off : (x : Bool) (f : Fault) (wrong : E) → branches ≡ Ok x → Forms (Err f) (ruled 7 at (eqb t 0) x)
+      → gives f wrong → Chooses gives at t branches (Err wrong)
+  unfolding Makes
+  chosen-off x f wrong e l g = record {
+    handed = λ other w. absurd (not-both x other e w);
+    own = λ z q. (f, rw (one-fine z x q e) l, g);
+  }
 
 -- what a body of a kind may hold
 may-call : (k kind : Kind) (returned returns : ℕ)
@@ -156,6 +175,7 @@ pub ruleset ruling = (
   rules-not,
   chosen-fine,
   chosen-fault,
+  chosen-off,
   called-in,
   returned-in,
   returned-out,

@@ -6,6 +6,7 @@ pub mod Operating
 pub mod Judging
 pub mod Passing
 pub mod Forming
+pub mod Choosing
 pub mod Extracting
 pub mod Single
 pub mod Stating

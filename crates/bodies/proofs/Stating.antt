@@ -20,6 +20,7 @@ use Rattle.program.specs.Scopes.{StandsScope}
 use Rattle.program.proofs.Views.{expr-begins, StmtView, IfView, BlockView, stmt-view, stmt-begins, MemberView, no-members, member-view}
 use Rattle.bodies.specs.Claims.{Formed, AsksExpr, JudgesExpr, told_stmt, AsksStmt, JudgesStmt}
 use Rattle.bodies.specs.Forms.{Forms, ruled, chosen_as, AsksTagged, AsksSingle, AsksBranches, JudgesBranches, AsksStmts, JudgesStmts}
+use Rattle.bodies.proofs.Choosing.{chosen-forms}
 use Rattle.bodies.proofs.Typing.{bool-rule}
 use Rattle.bodies.proofs.Operating.{typed-is, fault-is}
 use Rattle.bodies.proofs.Judging.{rank}
@@ -200,6 +201,7 @@ pub ruleset choosing = (
   if-deep,
   branches-ask,
   condition-fault,
+  chosen-forms,
   if-told,
 )
 

@@ -1,7 +1,8 @@
 -- What the judgement of statements asks and promises, from part to part.
 use Rattle.program.specs.declared.Scope as coded
-use Rattle.std.specs.Prelude.{Bool, true, false, ◌&&◌, ◌≡◌, List, ℕ, suc, ◌+◌, eqb, get_or}
+use Rattle.std.specs.Prelude.{Bool, true, false, ◌&&◌, ◌≡◌, List, ℕ, suc, ◌+◌, eqb, get_or, Result, Ok, Err}
 use Rattle.std.proofs.Math.ListN.{get_elem?}
+use Rattle.rules.specs.declared.Fault.{Fault}
 use Rattle.rules.specs.Syntax.{Stmt, Stmts}
 use Rattle.rules.specs.Form.{Res, ok, ◌>>=◌, named, need, judge_extracted, judge_global, judge_header_at, Body, Scope, may_call, judge_returned, is_apply, is_state, may_leave, judge_stmt, judge_stmts, returns_on, some_returns}
 use Rattle.program.specs.Codes.{ty_of, member_count}
@@ -24,6 +25,16 @@ ruled_both at first second = need 7 at first >>= λ _. ruled 8 at second false
 -- a statement whose operands are judged, in a body of a kind
 unfoldable pub chosen_as : ℕ → ℕ → Res Bool → Res Bool
 chosen_as at t branches = branches >>= λ returns. ruled 7 at (eqb t 0) returns
+
+-- an answer with faults of any type, where one of ours is made one of that type: it is the rules'
+unfoldable pub Makes : {E : Type 0} → (Fault → E → Type 0) → Res Bool → Result Bool E → Type 0
+Makes gives is (Ok returns) = Forms (Ok returns) is
+Makes gives is (Err wrong) = (f : Fault) × Forms (Err f) is × gives f wrong
+
+-- a fault of the branches is handed on as it is
+pub record Chooses {E : Type 0} (gives : Fault → E → Type 0) (at t : ℕ) (branches r : Result Bool E) : Type 0 where
+  pub handed : (wrong : E) → branches ≡ Err wrong → r ≡ Err wrong
+  pub own : (returns : Bool) → branches ≡ Ok returns → Makes gives (ruled 7 at (eqb t 0) returns) r
 
 pub record FormsIn (scope : coded.Scope) (judge : Body → Res Bool) (r : Formed) : Type 0 where
   pub judged : (b : Body) → body_numbered (kind_number scope.kind) (scope.returns) ≡ b → told_stmt r ≡ judge b

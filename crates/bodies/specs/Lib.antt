@@ -2,3 +2,4 @@ pub mod Claims
 pub mod Leaves
 pub mod Calls
 pub mod Forms
+pub mod Numbers

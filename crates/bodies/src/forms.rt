@@ -2,7 +2,7 @@
 ghost use Rattle.rules.specs.Answers.{number_of};
 ghost use Rattle.program.specs.Scopes.{kind_number};
 ghost use Rattle.bodies.specs.Claims.{told_stmt};
-ghost use Rattle.bodies.specs.Forms.{Forms, ruled, ruled_both, chosen_as, FormsIn, called_in, returned_in, applied_in, left_in, parsed_in};
+ghost use Rattle.bodies.specs.Forms.{Forms, ruled, ruled_both, Chooses, FormsIn, called_in, returned_in, applied_in, left_in, parsed_in};
 
 use super::Formed;
 use super::types::{both, either};
@@ -79,10 +79,14 @@ pub fn parsed(scope: &Scope, at: usize, holds: bool) -> Formed
     rules(at, holds, scope.kind == Kind::State)
 }
 
-// An if with a condition of a type: a fault of its branches comes before its own.
-pub fn chosen(at: usize, t: u64, branches: Formed) -> Formed
-    ensures { Forms result (chosen_as at t (told_stmt branches)) }
+// An if with a condition of a type: a fault of its branches comes before its own, and is handed on, of whatever type it is.
+pub fn chosen<E: From<Fault> + Drop>(
+    at: usize,
+    t: u64,
+    branches: Result<bool, E>,
+) -> Result<bool, E>
+    ensures { Chooses E.from_gives at t branches result }
 {
     let returns = branches?;
-    rule(Reason::Type, at, t == 0, returns)
+    Ok(rule(Reason::Type, at, t == 0, returns)?)
 }

@@ -10,6 +10,9 @@ pub mod singles;
 pub mod stmts;
 pub mod types;
 
+ghost use Rattle.std.specs.Prelude.{◌≡◌};
+ghost use Rattle.bodies.specs.Numbers.{numbered};
+
 use program::Kind;
 use rules::Fault;
 
@@ -18,6 +21,25 @@ pub type Typed = Result<u64, Fault>;
 
 // Whether a statement that is fine returns a value on each path, or the first fault.
 pub type Formed = Result<bool, Fault>;
+
+// What is wrong, of any number, where a `Fault` has one of those in the table of refusals: `forms::chosen` hands on the one
+// as it does the other.
+#[derive(Clone, Copy)]
+pub struct Numbered {
+    pub number: u64,
+    pub index: usize,
+}
+
+impl From<Fault> for Numbered {
+    ghost from_gives = { λ wrong made. made ≡ numbered wrong };
+
+    fn from(wrong: Fault) -> Numbered {
+        Numbered {
+            number: wrong.reason.number(),
+            index: wrong.index,
+        }
+    }
+}
 
 // What a call calls: its kind and the type that it returns.
 #[derive(Clone, Copy)]
