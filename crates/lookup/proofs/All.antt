@@ -79,7 +79,7 @@ module _ (nums directory ends keys : List ℕ) (from count slot j at : ℕ)
     asked-first =
         first_of nums directory ends keys from count slot j at h.key_list h.worked h.patterns h.stand more
 
-    one-asked : AsksOne nums directory keys from slot j at
+    pub one-asked : AsksOne nums directory keys from slot j at
     one-asked = record {
       kind = asked-first.key.kind;
       key = asked-first.worked;
@@ -90,10 +90,10 @@ module _ (nums directory ends keys : List ℕ) (from count slot j at : ℕ)
       place = omega (arith, h.place, more);
     }
 
-    ends-inside : from + 1 < length ends
+    pub ends-inside : from + 1 < length ends
     ends-inside = omega (arith, asked-first.begins, h.room)
 
-    from_next : from + 1 < 2 ^ 64
+    pub from_next : from + 1 < 2 ^ 64
     from_next = omega (arith, asked-first.begins, h.numbers)
 
     others-asked : (m l : Bool) (next prefix : ℕ) → TellsOne nums directory keys from slot j at m next l prefix
@@ -114,7 +114,7 @@ yes prefix next = Some (record { prefix = prefix; next = next })
 
 -- what the steps tell
 module _ (nums directory ends keys : List ℕ) (from count slot j at : ℕ) where
-  none_told : count ≡ 0 → TellsMatch nums directory ends keys from count slot j at (yes 0 at)
+  pub none_told : count ≡ 0 → TellsMatch nums directory ends keys from count slot j at (yes 0 at)
   unfolding matches_all prefix_of patterns_size
   none_told e = record { told = λ ks ws ps h. go ks ws ps h.counts h.patterns }
     where
@@ -126,7 +126,7 @@ module _ (nums directory ends keys : List ℕ) (from count slot j at : ℕ) wher
       go [] (w ∷ ws) (_ ∷ _) c p = elim p [ ]
       go (k ∷ ks) ws ps c p = absurd (omega (arith, e, c))
 
-  first-unmatched : (m l : Bool) (next prefix : ℕ) → (count ≡ 0 → ⊥)
+  pub first-unmatched : (m l : Bool) (next prefix : ℕ) → (count ≡ 0 → ⊥)
       → TellsOne nums directory keys from slot j at m next l prefix → m ≡ false
       → TellsMatch nums directory ends keys from count slot j at None
   unfolding matches_all
@@ -224,12 +224,12 @@ with-both (Some n) None r = refl
 with-both (Some n) (Some k) None = refl
 with-both (Some n) (Some k) (Some z) = refl
 
-with-last : (p : Option ℕ) (next : ℕ) → with_prefix p (yes 0 next) ≡ yes (unwrap_or p 0) next
+pub with-last : (p : Option ℕ) (next : ℕ) → with_prefix p (yes 0 next) ≡ yes (unwrap_or p 0) next
 unfolding with_prefix
 with-last None next = refl
 with-last (Some n) next = refl
 
-with-missed : (p : Option ℕ) → with_prefix p None ≡ None
+pub with-missed : (p : Option ℕ) → with_prefix p None ≡ None
 unfolding with_prefix
 with-missed None = refl
 with-missed (Some n) = refl

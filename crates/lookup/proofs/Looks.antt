@@ -112,7 +112,7 @@ module _ (nums directory ends keys : List ℕ) (t table at : ℕ) where
     }
 
   module _ (longest : Bool) (best : Option Best) where
-    step_other : (get_or nums at 0 ≡ t → ⊥) → TellsStep nums directory ends keys t table longest at best best
+    pub step_other : (get_or nums at 0 ≡ t → ⊥) → TellsStep nums directory ends keys t table longest at best best
     step_other n = record {
       told = λ P T ws e h f s. rw (other-alone t e (λ q. n (h.entry_stands.number.is ∙ q)), look_none longest ws f) s;
     }
@@ -272,13 +272,13 @@ module _ (nums directory ends keys : List ℕ) (t table i left : ℕ) where
         first_of nums directory ends keys t table i left h.program h.table_at h.worked h.entry_list
         h.sought more
 
-    slot-inside : i < 217
+    pub slot-inside : i < 217
     slot-inside = omega (arith, h.slots, more)
 
-    entry-held : get_or directory i 0 < length nums
+    pub entry-held : get_or directory i 0 < length nums
     entry-held = asked-first.first.entry_stands.number.inside
 
-    step-asked : get_or nums (get_or directory i 0) 0 ≡ t
+    pub step-asked : get_or nums (get_or directory i 0) 0 ≡ t
         → AsksStep nums directory ends keys t table (get_or directory i 0)
     step-asked q = record {
       program = h.program;
@@ -292,7 +292,7 @@ module _ (nums directory ends keys : List ℕ) (t table i left : ℕ) where
       few = h.few;
     }
 
-    look-asked : AsksLook nums directory ends keys t table (i + 1) (left - 1)
+    pub look-asked : AsksLook nums directory ends keys t table (i + 1) (left - 1)
     look-asked = record {
       program = h.program;
       table_at = h.table_at;
@@ -306,7 +306,7 @@ module _ (nums directory ends keys : List ℕ) (t table i left : ℕ) where
     }
 
   module _ (longest : Bool) (best : Option Best) where
-    look-ended : left ≡ 0 → TellsLook nums directory ends keys t table longest i left best best
+    pub look-ended : left ≡ 0 → TellsLook nums directory ends keys t table longest i left best best
     unfolding look_up entries_of
     look-ended e = record { told = λ P T ws es h f s. go ws es h.counts f s }
       where
@@ -315,7 +315,7 @@ module _ (nums directory ends keys : List ℕ) (t table i left : ℕ) where
         go ws [] c f s = s
         go ws (x ∷ es) c f s = absurd (omega (arith, e, c))
 
-    look-settled : (a : Option Best) (b : Bool) → (left ≡ 0 → ⊥)
+    pub look-settled : (a : Option Best) (b : Bool) → (left ≡ 0 → ⊥)
         → TellsStep nums directory ends keys t table longest (get_or directory i 0) best a → b ≡ settled_as longest a
         → b ≡ true → TellsLook nums directory ends keys t table longest i left best a
     look-settled a b more u q k =
@@ -334,7 +334,7 @@ module _ (nums directory ends keys : List ℕ) (t table i left : ℕ) where
             )
             here
 
-    look-further : (a r : Option Best) → (left ≡ 0 → ⊥)
+    pub look-further : (a r : Option Best) → (left ≡ 0 → ⊥)
         → TellsStep nums directory ends keys t table longest (get_or directory i 0) best a
         → TellsLook nums directory ends keys t table longest (i + 1) (left - 1) a r
         → TellsLook nums directory ends keys t table longest i left best r

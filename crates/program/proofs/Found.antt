@@ -225,7 +225,7 @@ module _ (ends : List ℕ) (at count done next : ℕ) (w : KeysLeft ends at coun
   unfolding KeysInside
   key_left n k = k
 
-  key_end : (n : ℕ) → keys_end ends next (suc n) ≡ keys_end ends (get_or ends (next + 1) 0) n
+  pub key_end : (n : ℕ) → keys_end ends next (suc n) ≡ keys_end ends (get_or ends (next + 1) 0) n
   unfolding keys_end
   key_end n = refl
 

@@ -169,7 +169,7 @@ module _ {nums directory ends : List ℕ} {scope : coded.Scope} {slots₀ slots 
     unfolding and_then_run
     onward-rest ending e = rw e refl
 
-    rest-again : ended ≡ Onward
+    pub rest-again : ended ≡ Onward
         → Rest nums directory ends scope slots₀ slots₁ frame₀ frame₁ depth (get_or ends next 0)
         (left - 1) Γ used es s ss
     rest-again e =
@@ -191,7 +191,7 @@ module _ {nums directory ends : List ℕ} {scope : coded.Scope} {slots₀ slots 
           same = omega (arith, b.same, h.same);
         }
 
-    stops-ran : (ended ≡ Onward → ⊥)
+    pub stops-ran : (ended ≡ Onward → ⊥)
         → Ran nums directory ends scope slots₀ slots₁ frame₀ frame₁ Γ (stmts_in Γ used es ss s) (Ends ended)
     unfolding more
     stops-ran n =

@@ -75,7 +75,7 @@ found_none : {nums : List ℕ} {at count number : ℕ} → TellsEqual nums at co
 found_none (none_equal f) = f
 
 -- the first equal value of some pairs
-pairs-inside : (nums : List ℕ) (at : ℕ) (ps : List Pair) → StandsPairs nums at ps → (i : ℕ) → i < length ps
+pub pairs-inside : (nums : List ℕ) (at : ℕ) (ps : List Pair) → StandsPairs nums at ps → (i : ℕ) → i < length ps
     → at + 2 * i + 1 < length nums
 unfolding StandsPairs
 pairs-inside nums at [] w i h = absurd (omega arith)

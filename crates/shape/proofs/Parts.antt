@@ -135,7 +135,7 @@ module _ (version : ℕ) (nums : List ℕ) where
   frame-keeps : Keeps (list_of 0 most_locals (stands_for (type_of version)))
   frame-keeps = keeps-list 0 most_locals (keeps-stands _)
 
-  scans-frame : Scans (read_frame version) nums
+  pub scans-frame : Scans (read_frame version) nums
       (λ at. on_scan (list_scan (scan_of (read_parameter version) nums) 0 most_parameters nums at)
       (list_scan (scan_of (stands_for (type_of version)) nums) 0 most_locals nums))
   unfolding read_frame
@@ -144,7 +144,7 @@ module _ (version : ℕ) (nums : List ℕ) where
       scans-last frame-keeps scans-locals
       λ ls. scans-pure _
 
-  scans-default : Scans (read_default version) nums
+  pub scans-default : Scans (read_default version) nums
       (λ at. on_scan (scan_of (read_numeral version) nums at)
       (list_scan (scan_of (read_numeral version) nums) 0 most_arguments nums))
   unfolding read_default

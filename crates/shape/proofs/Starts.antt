@@ -80,28 +80,28 @@ list-scans : {A : Type 0} (one : Reader A) (nums : List ℕ) (least most at : �
 list-scans one nums least most at h = (scans-items least most h (scans-self one nums)).scan at
 
 module _ (version : ℕ) (nums : List ℕ) (at : ℕ) (found mid : List ℕ) (a : Scan) where
-  headers-lay : WalkedList (scan_of (read_header version) nums) 0 most_headers nums at headers_slot found mid a
+  pub headers-lay : WalkedList (scan_of (read_header version) nums) 0 most_headers nums at headers_slot found mid a
       → Lays (list_of 0 most_headers (read_header version)) (λ xs next slots. listed slots headers_slot
       (map (λ h. h.at) xs)) nums at found mid a
   headers-lay w =
       lays-list nums (keeps-header version) (starts-header version) 0 most_headers at headers_slot found mid a w
       (list-scans _ nums 0 most_headers at (keeps-header version))
 
-  globals-lay : WalkedList (scan_of (read_global version) nums) 0 most_globals nums at globals_slot found mid a
+  pub globals-lay : WalkedList (scan_of (read_global version) nums) 0 most_globals nums at globals_slot found mid a
       → Lays (list_of 0 most_globals (read_global version)) (λ xs next slots. listed slots globals_slot
       (map (λ g. g.at) xs)) nums at found mid a
   globals-lay w =
       lays-list nums (keeps-global version) (starts-global version) 0 most_globals at globals_slot found mid a w
       (list-scans _ nums 0 most_globals at (keeps-global version))
 
-  callables-lay : WalkedList (scan_of (read_callable version) nums) 0 most_callables nums at callables_slot found mid a
+  pub callables-lay : WalkedList (scan_of (read_callable version) nums) 0 most_callables nums at callables_slot found mid a
       → Lays (list_of 0 most_callables (read_callable version))
       (λ xs next slots. listed slots callables_slot (map (λ c. c.at) xs)) nums at found mid a
   callables-lay w =
       lays-list nums (keeps-callable version) (starts-callable version) 0 most_callables at callables_slot found mid a w
       (list-scans _ nums 0 most_callables at (keeps-callable version))
 
-  tables-lay : WalkedList (scan_of (read_table version) nums) 0 most_tables nums at tables_slot found mid a
+  pub tables-lay : WalkedList (scan_of (read_table version) nums) 0 most_tables nums at tables_slot found mid a
       → Lays (list_of 0 most_tables (read_table version)) (λ xs next slots. listed slots tables_slot
       (map (λ t. t.at) xs)) nums at found mid a
   tables-lay w =
@@ -200,7 +200,7 @@ scans-parts read nums h =
     rw e.1 (lays-scan ends.now e.0)
 
 module _ (version : ℕ) (nums : List ℕ) (at : ℕ) (found filled : List ℕ) (slots slots₂ : List ℕ) (r : Scan) where
-  header-ends : WalkedList (scan_of (read_header version) nums) 0 most_headers nums at headers_slot slots slots₂ r
+  pub header-ends : WalkedList (scan_of (read_header version) nums) 0 most_headers nums at headers_slot slots slots₂ r
       → list_ends (scan_of (read_header version) nums) (laid_by (read_header version) no_ends nums)
       (value_of 0 most_headers nums at) found filled
       → Lays (list_of 0 most_headers (read_header version)) no_ends nums at found filled r
@@ -210,7 +210,7 @@ module _ (version : ℕ) (nums : List ℕ) (at : ℕ) (found filled : List ℕ) 
         no_ends 0 most_headers at found filled l;
   })
 
-  global-ends : WalkedList (scan_of (read_global version) nums) 0 most_globals nums at globals_slot slots slots₂ r
+  pub global-ends : WalkedList (scan_of (read_global version) nums) 0 most_globals nums at globals_slot slots slots₂ r
       → list_ends (scan_of (read_global version) nums) (laid_by (read_global version) no_ends nums)
       (value_of 0 most_globals nums at) found filled
       → Lays (list_of 0 most_globals (read_global version)) no_ends nums at found filled r
@@ -220,7 +220,7 @@ module _ (version : ℕ) (nums : List ℕ) (at : ℕ) (found filled : List ℕ) 
         no_ends 0 most_globals at found filled l;
   })
 
-  callable-ends : WalkedList (scan_of (read_callable version) nums) 0 most_callables nums at callables_slot slots slots₂ r
+  pub callable-ends : WalkedList (scan_of (read_callable version) nums) 0 most_callables nums at callables_slot slots slots₂ r
       → list_ends (scan_of (read_callable version) nums) (laid_by (read_callable version) lay_callable nums)
       (value_of 0 most_callables nums at) found filled
       → Lays (list_of 0 most_callables (read_callable version)) (lay_all callable_at lay_callable) nums at found filled r
@@ -231,7 +231,7 @@ module _ (version : ℕ) (nums : List ℕ) (at : ℕ) (found filled : List ℕ) 
         lay_callable 0 most_callables at found filled l;
   }
 
-  table-ends : WalkedList (scan_of (read_table version) nums) 0 most_tables nums at tables_slot slots slots₂ r
+  pub table-ends : WalkedList (scan_of (read_table version) nums) 0 most_tables nums at tables_slot slots slots₂ r
       → list_ends (scan_of (read_table version) nums) (laid_by (read_table version) lay_table nums)
       (value_of 0 most_tables nums at) found filled
       → Lays (list_of 0 most_tables (read_table version)) (lay_all table_at lay_table) nums at found filled r

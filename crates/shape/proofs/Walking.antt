@@ -13,7 +13,7 @@ use Rattle.rules.specs.Reading.{got, Reader}
 use Rattle.shape.specs.Scans.{told, forget, scan_of, Scan, Past, Fault}
 use Rattle.shape.specs.Leads.{value_of, Of, Unread}
 use Rattle.shape.specs.Directory.{slot_count}
-use Rattle.shape.specs.Walks.{starts_after, starts, Walked, laid_list, LaysPart, ends_after, parts_ends, list_ends, Called, Walks, WalksList}
+use Rattle.shape.specs.Walks.{starts_after, starts, Walked, WalkedList, laid_list, LaysPart, ends_after, parts_ends, list_ends, Called, Walks, WalksList}
 use Rattle.shape.proofs.Laws.{AtMost, value-most}
 use Rattle.shape.proofs.Listings.{items-none, items-past, items-fault, list_of, list-fault}
 
@@ -131,17 +131,24 @@ module _ {post : Called} {count at slot : ℕ} {found ends : List ℕ} {entry ne
         w.rest (set now entry next) lent'.now (told (Err f))
         (walks-fault post (slot + count - entry) next entry now lent lent' (λ z. omega arith) f p)
 
--- a list of parts
+-- a list of parts, of one scan and of what is called
+module _ (one : ℕ → Scan) (least most : ℕ) (nums : List ℕ) (at slot : ℕ) (found : List ℕ) where
+  pub walked-list : (n next : ℕ) (r : Scan) (filled : List ℕ) → Of n next ≡ value_of least most nums at
+      → Walked one n next (slot + 1) (set found slot n) filled r
+      → WalkedList one least most nums at slot found filled r
+  unfolding laid_list
+  walked-list n next r filled q w = record {
+    scan = list_of one least most nums at (Of n next) q n next r refl w.scan;
+    laid = w.laid ∙ rw (← q, add-one slot);
+  }
+
 module _ (post : Called) (least most : ℕ) (nums : List ℕ) (at slot : ℕ) (found ends : List ℕ) where
   pub list-walked : (n next : ℕ) (r : Scan) (filled ends' : List ℕ) → Of n next ≡ value_of least most nums at
       → Walks post n next (slot + 1) (set found slot n) filled ends ends' r
       → WalksList post least most nums at slot found filled ends ends' r
-  unfolding laid_list list_ends
+  unfolding list_ends
   list-walked n next r filled ends' q w = record {
-    walked = λ one lay t. record {
-      scan = list_of one least most nums at (Of n next) q n next r refl (w.walked one lay t).scan;
-      laid = (w.walked one lay t).laid ∙ rw (← q, add-one slot);
-    };
+    walked = λ one lay t. walked-list one least most nums at slot found n next r filled q (w.walked one lay t);
     laid = λ one lay t. rw (← q) (w.laid one lay t);
   }
 
