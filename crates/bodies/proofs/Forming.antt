@@ -29,14 +29,15 @@ use Rattle.bodies.specs.Leaves.{TypedIn, header_ty}
 use Rattle.bodies.specs.Forms.{Forms, ruled, ruled_both, Makes, Chooses, FormsIn, called_in, returned_in, applied_in, Applies, left_in, parsed_in, MarksIn}
 
 -- a rule that holds, and one that does not
-module _ (reason : Reason) (at : ℕ) (holds returns : Bool) where
-  pub rule-holds : holds ≡ true → Forms (Ok returns) (ruled (number_of reason) at holds returns)
+module _ (at : ℕ) (holds returns : Bool) where
+  pub rule-holds : (number : ℕ) → holds ≡ true → Forms (Ok returns) (ruled number at holds returns)
   unfolding ruled told_stmt need ◌>>=◌
-  rule-holds e = record { judged = rw e }
+  rule-holds number e = record { judged = rw e }
 
-  pub rule-not : holds ≡ false → Forms (refused reason at) (ruled (number_of reason) at holds returns)
+  pub rule-not : (reason : Reason) → holds ≡ false
+      → Forms (refused reason at) (ruled (number_of reason) at holds returns)
   unfolding ruled told_stmt need ◌>>=◌
-  rule-not e = record { judged = rw e }
+  rule-not reason e = record { judged = rw e }
 
 module _ (at : ℕ) (first second : Bool) where
   pub rules-second : (r : Formed) → first ≡ true → Forms r (ruled 8 at second false) → Forms r (ruled_both at first second)
