@@ -1,7 +1,7 @@
 -- What an if answers, in the rules' words: `chosen_as` of what its branches answered, whatever type their faults have and
 -- whatever number these say.
 use mathlib.Core.Bool.{Bool}
-use mathlib.Core.Path.{◌≡◌, refl, sym, ap, ◌∙◌}
+use mathlib.Core.Path.{◌≡◌, refl, ap}
 use Prim.Native.Nat.{ℕ}
 use lib.Dec.{eqb}
 use Rattle.std.specs.Prelude.{Result, Ok, Err}
@@ -12,6 +12,7 @@ use Rattle.bodies.specs.declared.Numbered.{Numbered}
 use Rattle.bodies.specs.Numbers.{numbered}
 use Rattle.bodies.specs.Claims.{Formed, told_stmt}
 use Rattle.bodies.specs.Forms.{Forms, ruled, chosen_as, Makes, Chooses}
+use Rattle.bodies.proofs.Forming.{chosen-fine, chosen-fault}
 
 -- an answer in the rules' words, by the number and the index that a fault says
 unfoldable pub told_by : {E : Type 0} → (E → ℕ) → (E → ℕ) → Result Bool E → Res Bool
@@ -32,19 +33,16 @@ module _ {E : Type 0} (gives : Fault → E → Type 0) (number index : E → ℕ
   chosen-told at t (Err wrong) r c = ap (told_by number index) (c.handed wrong refl)
 
 -- of our own faults
-told-ours : (r : Formed) → told_by (λ f. number_of f.reason) (λ f. f.index) r ≡ told_stmt r
-unfolding told_by told_stmt
-told-ours (Ok returns) = refl
-told-ours (Err wrong) = refl
+made-ours : (is : Res Bool) (r : Formed) → Makes (λ f wrong. wrong ≡ f) is r → Forms r is
+unfolding Makes
+made-ours is (Ok returns) m = m
+made-ours is (Err wrong) m = rw m.2 m.1
 
 pub chosen-forms : (at t : ℕ) (branches r : Formed) → Chooses (λ f wrong. wrong ≡ f) at t branches r
     → Forms r (chosen_as at t (told_stmt branches))
-chosen-forms at t branches r c = record {
-  judged =
-      sym (told-ours r)
-      ∙ chosen-told (λ f wrong. wrong ≡ f) _ _ (λ f wrong e. (rw e refl, rw e refl)) at t branches r c
-      ∙ ap (chosen_as at t) (told-ours branches);
-}
+chosen-forms at t (Ok returns) r c =
+    chosen-fine at t (Ok returns) returns refl r (made-ours (ruled 7 at (eqb t 0) returns) r (c.own returns refl))
+chosen-forms at t (Err wrong) r c = rw (c.handed wrong refl) (chosen-fault at t (Err wrong) wrong refl)
 
 -- of faults of any number
 pub chosen-numbered : (at t : ℕ) (branches r : Result Bool Numbered) → Chooses (λ f wrong. wrong ≡ numbered f) at t branches r

@@ -26,7 +26,7 @@ use Rattle.program.proofs.Seen.{is_kind, one_kind, two_kinds}
 use Rattle.program.proofs.Members.{same-types}
 use Rattle.bodies.specs.Claims.{Formed, refused, told_ty, told_stmt}
 use Rattle.bodies.specs.Leaves.{TypedIn, header_ty}
-use Rattle.bodies.specs.Forms.{Forms, ruled, ruled_both, Makes, Chooses, FormsIn, called_in, returned_in, applied_in, Applies, left_in, parsed_in, MarksIn}
+use Rattle.bodies.specs.Forms.{Forms, ruled, ruled_both, chosen_as, Makes, Chooses, FormsIn, called_in, returned_in, applied_in, Applies, left_in, parsed_in, MarksIn}
 
 -- a rule that holds, and one that does not
 module _ (at : ℕ) (holds returns : Bool) where
@@ -48,7 +48,19 @@ module _ (at : ℕ) (first second : Bool) where
   unfolding ruled_both told_stmt need ◌>>=◌
   rules-not e = record { judged = rw e }
 
--- the branches of an if are fine, or not; and then its own rule
+-- the branches of an if are fine, or not
+module _ (at t : ℕ) (branches : Formed) where
+  pub chosen-fine : (x : Bool) → branches ≡ Ok x → (r : Formed) → Forms r (ruled 7 at (eqb t 0) x)
+      → Forms r (chosen_as at t (told_stmt branches))
+  unfolding chosen_as told_stmt ◌>>=◌
+  chosen-fine x e r f = record { judged = rw e f.judged }
+
+  pub chosen-fault : (wrong : Fault) → branches ≡ Err wrong
+      → Forms (Err wrong) (chosen_as at t (told_stmt branches))
+  unfolding chosen_as told_stmt ◌>>=◌
+  chosen-fault wrong e = record { judged = rw e }
+
+-- the same of faults of any type; the if's own is made one of them
 module _ {E : Type 0} (gives : Fault → E → Type 0) (at t : ℕ) (branches : Result Bool E) where
   one-fine : (x y : Bool) → branches ≡ Ok x → branches ≡ Ok y → x ≡ y
   one-fine x y p q = cc
@@ -56,24 +68,24 @@ module _ {E : Type 0} (gives : Fault → E → Type 0) (at t : ℕ) (branches : 
   not-both : (x : Bool) (wrong : E) → branches ≡ Ok x → branches ≡ Err wrong → ⊥
   not-both x wrong p q = cc
 
-  pub chosen-fine : (x y : Bool) → branches ≡ Ok x → Forms (Ok y) (ruled 7 at (eqb t 0) x)
+  pub chooses-fine : (x y : Bool) → branches ≡ Ok x → Forms (Ok y) (ruled 7 at (eqb t 0) x)
       → Chooses gives at t branches (Ok y)
   unfolding Makes
-  chosen-fine x y e f = record {
+  chooses-fine x y e f = record {
     handed = λ wrong w. absurd (not-both x wrong e w);
     own = λ z q. rw (one-fine z x q e) f;
   }
 
-  pub chosen-fault : (wrong : E) → branches ≡ Err wrong → Chooses gives at t branches (Err wrong)
-  chosen-fault wrong e = record {
+  pub chooses-fault : (wrong : E) → branches ≡ Err wrong → Chooses gives at t branches (Err wrong)
+  chooses-fault wrong e = record {
     handed = λ other w. sym e ∙ w;
     own = λ z q. absurd (not-both z wrong q e);
   }
 
-  pub chosen-off : (x : Bool) (f : Fault) (wrong : E) → branches ≡ Ok x → Forms (Err f) (ruled 7 at (eqb t 0) x)
+  pub chooses-off : (x : Bool) (f : Fault) (wrong : E) → branches ≡ Ok x → Forms (Err f) (ruled 7 at (eqb t 0) x)
       → gives f wrong → Chooses gives at t branches (Err wrong)
   unfolding Makes
-  chosen-off x f wrong e l g = record {
+  chooses-off x f wrong e l g = record {
     handed = λ other w. absurd (not-both x other e w);
     own = λ z q. (f, rw (one-fine z x q e) l, g);
   }
@@ -176,7 +188,9 @@ pub ruleset ruling = (
   rules-not,
   chosen-fine,
   chosen-fault,
-  chosen-off,
+  chooses-fine,
+  chooses-fault,
+  chooses-off,
   called-in,
   returned-in,
   returned-out,
