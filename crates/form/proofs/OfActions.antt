@@ -57,8 +57,8 @@ module _ (nums directory : List ℕ) (at count : ℕ) where
       go P [] h = refl
       go P (n ∷ ns) h = absurd (omega (arith, e, h.counted))
 
-  missing-here : (r : Formal) → told_form r ≡ fault 6 at → (count ≡ 0 → ⊥) → get_or directory 42 0 ≤ get_or nums at 0
-      → JudgesExist nums directory at count r
+  pub missing-here : (r : Formal) → told_form r ≡ fault 6 at → (count ≡ 0 → ⊥)
+      → get_or directory 42 0 ≤ get_or nums at 0 → JudgesExist nums directory at count r
   unfolding judge_actions named ◌>>=◌
   missing-here r e more l = record {
     judged = λ ends P end ns s h.
@@ -71,7 +71,7 @@ module _ (nums directory : List ℕ) (at count : ℕ) where
         );
   }
 
-  exists-here : (r : Formal) → (count ≡ 0 → ⊥) → get_or nums at 0 < get_or directory 42 0
+  pub exists-here : (r : Formal) → (count ≡ 0 → ⊥) → get_or nums at 0 < get_or directory 42 0
       → JudgesExist nums directory (at + 1) (count - 1) r → JudgesExist nums directory at count r
   unfolding judge_actions named ◌>>=◌
   exists-here r more l j = record {
@@ -115,6 +115,9 @@ module _ (nums directory : List ℕ) (at count : ℕ) where
 
       pub exist-inside : next < length nums
       exist-inside = named-first.stands.holds.inside
+
+      pub exist-small : next + 1 < 2 ^ 64
+      exist-small = omega (arith, exist-inside, e.asks.numbers)
 
       abbrev there : Bool
       there = ltb (get_or nums next 0) (get_or directory 42 0)
@@ -166,7 +169,7 @@ module _ (nums : List ℕ) (at count : ℕ) where
       go [] h = refl
       go (p ∷ ps) h = absurd (omega (arith, e, h.counted))
 
-  given-here : (r : Bool) → (count ≡ 0 → ⊥) → get_or nums at 0 ≡ 0 → GivesAll nums (at + 2) (count - 1) r
+  pub given-here : (r : Bool) → (count ≡ 0 → ⊥) → get_or nums at 0 ≡ 0 → GivesAll nums (at + 2) (count - 1) r
       → GivesAll nums at count r
   unfolding table_gives_all
   given-here r more z j = record {
@@ -176,7 +179,7 @@ module _ (nums : List ℕ) (at count : ℕ) where
         (j.gives p.others (parameters-behind p));
   }
 
-  not-here : (count ≡ 0 → ⊥) → (get_or nums at 0 ≡ 0 → ⊥) → GivesAll nums at count false
+  pub not-here : (count ≡ 0 → ⊥) → (get_or nums at 0 ≡ 0 → ⊥) → GivesAll nums at count false
   unfolding table_gives_all
   not-here more x = record {
     gives = λ ps h.
@@ -217,6 +220,10 @@ module _ (nums : List ℕ) (at count : ℕ) where
 
       pub given-small : Fits w64 (at + 2 * done)
       given-small = record { fits = omega (arith, given_inside, g.asks.numbers) }
+
+      -- the index behind it
+      pub given-behind : at + 2 * done + 2 < 2 ^ 64
+      given-behind = omega (arith, given_inside, g.asks.numbers)
 
       pub given-not : (get_or nums (at + 2 * done) 0 ≡ 0 → ⊥) → GivesAll nums at count false
       given-not x = g.rest false (not-here nums (at + 2 * done) (count - done) given_left x)
@@ -325,7 +332,7 @@ module _ (nums directory ends : List ℕ) (at count : ℕ) (more : count ≡ 0 �
             ← g.gives l.callable.first.parameters (record { stand = d.parameters_stand; counted = d.count_is }),
           ) (sym is ∙ e)
 
-      unlisted-here : (r : Formal) → told_form r ≡ fault 8 at → fine ≡ false
+      pub unlisted-here : (r : Formal) → told_form r ≡ fault 8 at → fine ≡ false
           → JudgesListed nums directory ends at count r
       unfolding judge_listed need ◌>>=◌
       unlisted-here r f e = record {
@@ -336,7 +343,7 @@ module _ (nums directory ends : List ℕ) (at count : ℕ) (more : count ≡ 0 �
             ∙ rw (listable-is P end ns cs s l false e, l.numeral.stands.index));
       }
 
-      listed-here : (r : Formal) → fine ≡ true → JudgesListed nums directory ends (at + 1) (count - 1) r
+      pub listed-here : (r : Formal) → fine ≡ true → JudgesListed nums directory ends (at + 1) (count - 1) r
           → JudgesListed nums directory ends at count r
       unfolding judge_listed need ◌>>=◌
       listed-here r e j = record {
@@ -385,6 +392,9 @@ module _ (nums directory ends : List ℕ) (at count : ℕ) where
 
       pub listed-inside : next < length nums
       listed-inside = here-inside nums directory ends next e.left more_left e.asks
+
+      pub listed_small : next + 1 < 2 ^ 64
+      listed_small = omega (arith, listed-inside, e.asks.stands.numbers)
 
       pub listed-head : Has callables_of nums directory ends (get_or nums next 0)
       listed-head = here-head nums directory ends next e.left more_left e.asks

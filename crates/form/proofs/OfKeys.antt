@@ -158,7 +158,7 @@ module _ (nums directory ends : List ℕ) (at count slot : ℕ) (widths : List �
       lay P (k ∷ ks) h = absurd (omega (arith, e, h.counted))
 
   module _ (more : count ≡ 0 → ⊥) where
-    fault-here : (wrong : Fault) → JudgesKey nums directory ends (at + 1) (Err wrong)
+    pub fault-here : (wrong : Fault) → JudgesKey nums directory ends (at + 1) (Err wrong)
         → JudgesKeys nums directory ends at count slot widths widths (Err wrong)
     unfolding told_keys told_ty judge_keys ◌>>=◌
     fault-here wrong j = record {
@@ -184,7 +184,7 @@ module _ (nums directory ends : List ℕ) (at count slot : ℕ) (widths : List �
       both-judged (ok ts) first others b i e = rw (e, i, add-one at)
       both-judged (fault number index) first others b i e = rw e
 
-      judged-here : (b r : Keyed) (widths' : List ℕ)
+      pub judged-here : (b r : Keyed) (widths' : List ℕ)
           → JudgesKeys nums directory ends (get_or ends (at + 1) 0) (count - 1) (slot + 1) (set widths slot t) widths' b
           → WithFirst (at + 1) t b r → JudgesKeys nums directory ends at count slot widths widths' r
       unfolding judge_keys key_widths key_width ◌>>=◌

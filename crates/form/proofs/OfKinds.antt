@@ -46,7 +46,7 @@ module _ (nums ends : List ℕ) (at count : ℕ) (seen : Bool) where
         → (seen && is_lpm o.first.kind) ≡ b
     second_is ks o b e = rw (← is-lpm o.first.kind (get_or nums at 0) o.kind.is) (sym is ∙ e)
 
-    second-here : (r : Formal) → told_form r ≡ fault 8 at → second ≡ true → JudgesKinds nums ends at count seen r
+    pub second-here : (r : Formal) → told_form r ≡ fault 8 at → second ≡ true → JudgesKinds nums ends at count seen r
     unfolding one_lpm need ◌>>=◌
     second-here r f e = record {
       judged = λ ks h.
@@ -54,7 +54,7 @@ module _ (nums ends : List ℕ) (at count : ℕ) (seen : Bool) where
           f ∙ rw (o.same, second_is ks o true e, o.index);
     }
 
-    fine-here : (later : Bool) (r : Formal) → second ≡ false → later ≡ (seen || eqb (get_or nums at 0) 1)
+    pub fine-here : (later : Bool) (r : Formal) → second ≡ false → later ≡ (seen || eqb (get_or nums at 0) 1)
         → JudgesKinds nums ends (get_or ends (at + 1) 0) (count - 1) later r → JudgesKinds nums ends at count seen r
     unfolding one_lpm need ◌>>=◌
     fine-here later r e l j = record {

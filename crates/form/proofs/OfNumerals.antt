@@ -57,7 +57,7 @@ module _ (nums : List ℕ) (parameter at count : ℕ) where
           (n : FirstNumeral nums at count ns) (b : Bool) → fit ≡ b → fits p.first.ty n.first.number ≡ b
       fit_is ps ns p n b e = rw (← p.ty.is, ← n.stands.holds.is) (sym is ∙ e)
 
-      unfit-here : (r : Formal) → told_form r ≡ fault 7 at → fit ≡ false → JudgesLiterals nums parameter at count r
+      pub unfit-here : (r : Formal) → told_form r ≡ fault 7 at → fit ≡ false → JudgesLiterals nums parameter at count r
       unfolding literals_fit need ◌>>=◌
       unfit-here r f e = record {
         judged = λ ps ns h k.
@@ -66,7 +66,7 @@ module _ (nums : List ℕ) (parameter at count : ℕ) where
             f ∙ rw (p.same, n.same, fit_is ps ns p n false e, n.stands.index);
       }
 
-      fit-here : (r : Formal) → fit ≡ true → JudgesLiterals nums (parameter + 2) (at + 1) (count - 1) r
+      pub fit-here : (r : Formal) → fit ≡ true → JudgesLiterals nums (parameter + 2) (at + 1) (count - 1) r
           → JudgesLiterals nums parameter at count r
       unfolding literals_fit need ◌>>=◌
       fit-here r e j = record {
@@ -114,6 +114,9 @@ module _ (nums : List ℕ) (parameter at count : ℕ) where
       pub literal-small : Fits w64 (at + done)
       literal-small = record { fits = omega (arith, literal-inside, e.asks.numbers) }
 
+      pub literal-next : at + done + 1 < 2 ^ 64
+      literal-next = omega (arith, literal-inside, e.asks.numbers)
+
       pub type-inside : parameter + 2 * done + 1 < length nums
       type-inside = wanted.ty.inside
 
@@ -125,6 +128,9 @@ module _ (nums : List ℕ) (parameter at count : ℕ) where
 
       pub type-next : parameter + 2 * done + 1 < 2 ^ 64
       type-next = omega (arith, type-inside, e.asks.numbers)
+
+      pub parameter-next : parameter + 2 * done + 2 < 2 ^ 64
+      parameter-next = omega (arith, type-inside, e.asks.numbers)
 
       pub type-most : get_or nums (parameter + 2 * done + 1) 0 ≤ widest
       type-most = wanted.ty.most

@@ -61,7 +61,7 @@ module _ (nums directory : List ℕ) (n at count : ℕ) where
       go P (p ∷ ps) c = absurd (omega (arith, e, c))
 
   module _ (more : count ≡ 0 → ⊥) where
-    stop-here : (wrong : Fault) → JudgesLater nums directory n (at + 1) (Err wrong)
+    pub stop-here : (wrong : Fault) → JudgesLater nums directory n (at + 1) (Err wrong)
         → JudgesPairs nums directory n at count (Err wrong)
     unfolding told_form judge_pairs ◌>>=◌
     stop-here wrong j = record {
@@ -70,7 +70,7 @@ module _ (nums directory : List ℕ) (n at count : ℕ) where
           rw (p.same, ill-is _ wrong (j.judged ends P end p.first.state s p.state));
     }
 
-    later-here : (r : Formal) → JudgesLater nums directory n (at + 1) (Ok tt)
+    pub later-here : (r : Formal) → JudgesLater nums directory n (at + 1) (Ok tt)
         → JudgesPairs nums directory n (at + 2) (count - 1) r → JudgesPairs nums directory n at count r
     unfolding judge_pairs ◌>>=◌
     later-here r j m = record {
@@ -96,6 +96,9 @@ module _ (nums : List ℕ) (at count done : ℕ) (h : AsksPairs nums (at + 2 * d
 
   pair-inside : at + 2 * done + 1 < length nums
   pair-inside = some_pair.state.holds.inside
+
+  pub pair_small : at + 2 * done + 2 < 2 ^ 64
+  pair_small = omega (arith, pair-inside, h.numbers)
 
   pub pairs-left : AsksPairs nums (at + 2 * (done + 1)) (count - (done + 1))
   pairs-left =
@@ -167,7 +170,7 @@ module _ (nums : List ℕ) (width at count : ℕ) where
       go (p ∷ ps) c = absurd (omega (arith, e, c))
 
   module _ (more : count ≡ 0 → ⊥) (fit : Bool) (is : fit ≡ fits_width width (get_or nums at 0)) where
-    unfit-here : (r : Formal) → told_form r ≡ fault 7 at → fit ≡ false → JudgesValues nums width at count r
+    pub unfit-here : (r : Formal) → told_form r ≡ fault 7 at → fit ≡ false → JudgesValues nums width at count r
     unfolding values_fit need ◌>>=◌
     unfit-here r f e = record {
       judged = λ ps h.
@@ -175,7 +178,7 @@ module _ (nums : List ℕ) (width at count : ℕ) where
           f ∙ rw (p.same, ← p.value.holds.is, ← is, e, p.value.index);
     }
 
-    fit-here : (r : Formal) → fit ≡ true → JudgesValues nums width (at + 2) (count - 1) r
+    pub fit-here : (r : Formal) → fit ≡ true → JudgesValues nums width (at + 2) (count - 1) r
         → JudgesValues nums width at count r
     unfolding values_fit need ◌>>=◌
     fit-here r e m = record {
@@ -213,6 +216,9 @@ module _ (nums : List ℕ) (width at count : ℕ) where
 
       pub value-small : Fits w64 (at + 2 * done)
       value-small = record { fits = omega (arith, value-inside, e.asks.numbers) }
+
+      pub values-small : at + 2 * done + 2 < 2 ^ 64
+      values-small = pair_small nums at count done e.asks l
 
       module _ (fit : Bool) (is : fit ≡ fits_width width (get_or nums (at + 2 * done) 0)) where
         pub values-unfit : (wrong : Fault) → Says (Err wrong) (need 7 (at + 2 * done) fit)

@@ -24,7 +24,7 @@ use Rattle.bodies.specs.Claims.{refused}
 use Rattle.form.specs.Parts.{Keyed, told_keys, AsksKeys, JudgesKeys, TableAt, names_of, AsksNames, JudgesNames, NamedTable, JudgesNamed, default_is, kinds_are, behind_keys, behind_names, AsksLays, LaysNamed, table_is, tables_are, LaysTable, LaysTables}
 use Rattle.form.proofs.OfNames.{TableParts, table-parts, all_named}
 use Rattle.form.proofs.Steps.{well-is, ill-is}
-use Rattle.form.proofs.Walking.{Walk, Walked, walk-first, walk-asks, walk-done, here, walk-next, walk-stop}
+use Rattle.form.proofs.Walking.{Walk, Walked, walk-first, walk-asks, walk-done, here, walk-next, walk-stop, parts-next}
 
 -- keys that are judged, then that each is bits, then what stands behind
 keys-then : (x : Res (List Ty)) (f : List Ty → Res (Unit {0})) (y : Res (Unit {0})) (b : Res (Res (Unit {0})))
@@ -235,25 +235,25 @@ tables-walk = record {
   count = λ nums directory ends P end s. s.tables.count;
 }
 
--- those before a number are judged and fine, and their keys' widths are laid
-pub record Laid (nums directory ends : List ℕ) (t : ℕ) (widths now : List ℕ) : Type 0 where
-  walked : Walked tables_of tables_are nums directory ends t
+-- those from a number on are judged and fine, up to another, and their keys' widths are laid
+pub record Laid (nums directory ends : List ℕ) (from t : ℕ) (widths now : List ℕ) : Type 0 where
+  walked : Walked tables_of tables_are nums directory ends from t
   left : (P : Program) (end : ℕ) → StandsProgram nums directory ends P end
-      → lay_tables P 0 P.tables widths ≡ lay_tables P t (drop t P.tables) now
+      → lay_tables P from (drop from P.tables) widths ≡ lay_tables P t (drop t P.tables) now
 
 module _ (nums directory ends widths : List ℕ) where
-  pub tables-first : Laid nums directory ends 0 widths widths
-  tables-first = record { walked = walk-first tables-walk nums directory ends; left = λ P end s. refl }
+  pub tables-first : (from : ℕ) → Laid nums directory ends from from widths widths
+  tables-first from = record { walked = walk-first tables-walk nums directory ends from; left = λ P end s. refl }
 
   module _ (t : ℕ) (now : List ℕ) where
     pub tables-ask : SomeProgram nums directory ends → t < get_or directory 59 0 → Has tables_of nums directory ends t
     tables-ask = walk-asks tables-walk nums directory ends t
 
-    module _ (d : Laid nums directory ends t widths now) where
-      pub tables-done : get_or directory 59 0 ≤ t → LaysTables nums directory ends 0 widths now (Ok tt)
+    module _ (from : ℕ) (d : Laid nums directory ends from t widths now) where
+      pub tables-done : get_or directory 59 0 ≤ t → LaysTables nums directory ends from widths now (Ok tt)
       unfolding tables_of lay_tables
       tables-done l = record {
-        judges = walk-done tables-walk nums directory ends t d.walked l;
+        judges = walk-done tables-walk nums directory ends from t d.walked l;
         laid = λ q P end s.
             let past : length P.tables ≤ t = omega (arith, l, s.tables.count) in
             sym (d.left P end s ∙ rw (drop_of_length-le P.tables past));
@@ -261,22 +261,33 @@ module _ (nums directory ends widths : List ℕ) where
 
       module _ (l : t < get_or directory 59 0) (next : List ℕ) where
         pub tables-next : LaysTable nums directory ends t now next (Ok tt)
-            → Laid nums directory ends (t + 1) widths next
+            → Laid nums directory ends from (t + 1) widths next
         unfolding tables_of lay_tables
         tables-next j = record {
-          walked = walk-next tables-walk nums directory ends t d.walked l j.judges;
+          walked = walk-next tables-walk nums directory ends from t d.walked l j.judges;
           left = λ P end s.
-              let x : At P.tables t = here tables-walk nums directory ends t d.walked l P end s in
+              let x : At P.tables t = here tables-walk nums directory ends t l P end s in
               let e : next ≡ sets now (4 * t) (key_widths P x.member.keys) = j.laid refl P end x.member s x.is in
               d.left P end s
               ∙ rw (drop-member P.tables t x.member x.is, add-one t, e);
         }
 
         pub tables-stop : (wrong : Fault) → LaysTable nums directory ends t now next (Err wrong)
-            → LaysTables nums directory ends 0 widths next (Err wrong)
+            → LaysTables nums directory ends from widths next (Err wrong)
         tables-stop wrong j = record {
-          judges = walk-stop tables-walk nums directory ends t d.walked l wrong j.judges;
+          judges = walk-stop tables-walk nums directory ends from t d.walked l wrong j.judges;
           laid = λ q P end s. let z : ◌≡◌ {A = ℕ} 0 1 = cc in absurd (omega arith);
         }
+
+  -- where a table is fine, those from it on are judged and laid as those behind it
+  pub laid-next : (t : ℕ) → t < get_or directory 59 0 → (next last : List ℕ) (r : Formal)
+      → LaysTable nums directory ends t widths next (Ok tt) → LaysTables nums directory ends (t + 1) next last r
+      → LaysTables nums directory ends t widths last r
+  laid-next t l next last r j m =
+      let d : Laid nums directory ends t (t + 1) widths next = tables-next t widths t (tables-first t) l next j in
+      record {
+        judges = parts-next tables-walk nums directory ends t l j.judges r m.judges;
+        laid = λ q P end s. m.laid q P end s ∙ sym (d.left P end s);
+      }
 
 pub ruleset walked = (tables-first, tables-ask, tables-done, tables-next, tables-stop)

@@ -28,14 +28,14 @@ forgotten (ok a) y = refl
 forgotten (fault number index) y = refl
 
 -- a rule that holds, and one that does not
-module _ (reason : Reason) (at : ℕ) (holds : Bool) where
-  pub rule-holds : holds ≡ true → Says (Ok tt) (need (number_of reason) at holds)
-  unfolding told_form need
-  rule-holds e = record { judged = rw e }
+pub rule-holds : (number at : ℕ) (holds : Bool) → holds ≡ true → Says (Ok tt) (need number at holds)
+unfolding told_form need
+rule-holds number at holds e = record { judged = rw e }
 
-  pub rule-not : holds ≡ false → Says (refused reason at) (need (number_of reason) at holds)
-  unfolding told_form need
-  rule-not e = record { judged = rw e }
+pub rule-not : (reason : Reason) (at : ℕ) (holds : Bool) → holds ≡ false
+    → Says (refused reason at) (need (number_of reason) at holds)
+unfolding told_form need
+rule-not reason at holds e = record { judged = rw e }
 
 pub ruleset ruling = (rule-holds, rule-not)
 

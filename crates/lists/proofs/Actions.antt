@@ -111,6 +111,10 @@ module _ (nums : List ℕ) (parameter count at done next : ℕ) (w : ArgumentsLe
       pub parameter-next : parameter + 2 * done + 1 < 2 ^ 64
       parameter-next = omega (arith, parameter-inside, h.numbers)
 
+      -- the index behind it
+      pub parameter-behind : parameter + 2 * done + 2 < 2 ^ 64
+      parameter-behind = omega (arith, parameter-inside, h.numbers)
+
       pub parameter-most : get_or nums (parameter + 2 * done + 1) 0 ≤ widest
       parameter-most = type-most nums (parameter + 2 * done) (count - done) (w.asks h) more
 

@@ -8,7 +8,7 @@ use lib.ListN.{length, get_or, drop}
 use Rattle.rules.specs.Syntax.{Program}
 use Rattle.rules.specs.Reading.{bad, and_then, ◌>>=◌, pure}
 use Rattle.rules.specs.Lists.{slots_of, read_entries, read_cells, read_store}
-use Rattle.shape.specs.Scans.{Past, told}
+use Rattle.shape.specs.Scans.{Scan, Past, told}
 use Rattle.shape.specs.Walks.{Laid, Lays}
 use Rattle.program.specs.Stands.{StandsProgram}
 use Rattle.std.specs.Prelude.{Ok, Err}
@@ -56,6 +56,12 @@ module _ (nums directory ends widths entries starts : List ℕ) (store : ℕ)
         past-read nums (end_of directory) store (Past store) (placed-entries P) (w.judged P end s known).scan refl
 
     module _ (offsets slots : List ℕ) where
+      store-judged : (b : Scan)
+          → JudgesCells nums directory ends 0 (get_or directory 9 0) store store offsets slots b
+          → (P : Program) (end : ℕ) → StandsProgram nums directory ends P end
+          → Lays (read_cells P P.globals) (lay_offsets P 0 (store - store)) nums store offsets slots b
+      store-judged b v P end s = v.judged P end s (omega (arith, s.globals.count))
+
       -- a fault of the store
       pub lists-no-store : (e : rules.Fault)
           → JudgesCells nums directory ends 0 (get_or directory 9 0) store store offsets slots (told (Err e))
@@ -67,7 +73,7 @@ module _ (nums directory ends widths entries starts : List ℕ) (store : ℕ)
             = read-entries P end s known in
             let g : read_cells P P.globals (drop store nums) store ≡ bad (number_of e.reason) e.index
             = fault-read (read_cells P P.globals) nums store _ _ (told (Err e))
-            (v.judged P end s (omega (arith, s.globals.count))).scan refl in
+            (store-judged (told (Err e)) v P end s).scan refl in
             rw (← s.ending)
             (record { answer = rw (d.gave, g); entries_are = rw (d.gave, g); offsets_are = rw (d.gave, g) });
       }
@@ -75,14 +81,11 @@ module _ (nums directory ends widths entries starts : List ℕ) (store : ℕ)
       module _ (last : ℕ)
           (v : JudgesCells nums directory ends 0 (get_or directory 9 0) store store offsets slots (Past last))
         where
-          store-judged : (P : Program) (end : ℕ) → StandsProgram nums directory ends P end
-              → Lays (read_cells P P.globals) (lay_offsets P 0 (store - store)) nums store offsets slots (Past last)
-          store-judged P end s = v.judged P end s (omega (arith, s.globals.count))
-
           read-cells : (P : Program) (end : ℕ) → StandsProgram nums directory ends P end
               → Read (CellsAt P P.globals) (read_cells P P.globals) nums store last
           read-cells P end s =
-              past-read nums store last (Past last) (placed-cells P P.globals) (store-judged P end s).scan refl
+              past-read nums store last (Past last) (placed-cells P P.globals)
+              (store-judged (Past last) v P end s).scan refl
 
           pub lists_length : AsksLists nums directory ends widths → store ≤ last
           lists_length h = omega (arith, (read-cells h.program h.end h.stands).stands.after)
@@ -124,7 +127,8 @@ module _ (nums directory ends widths entries starts : List ℕ) (store : ℕ)
                 rw (← s.ending) (record {
                   answer = rw (d.gave, e.gave, g.gave, m, ← d.stands.after);
                   entries_are = rw (d.gave, e.gave, g.gave) (rw d.gave at (w.judged P end s known).laid);
-                  offsets_are = rw (d.gave, e.gave, g.gave) (rw (e.gave, o) at (store-judged P end s).laid);
+                  offsets_are = rw (d.gave, e.gave, g.gave)
+                      (rw (e.gave, o) at (store-judged (Past last) v P end s).laid);
                 });
           }
 

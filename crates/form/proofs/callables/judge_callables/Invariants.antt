@@ -6,4 +6,4 @@ use Rattle.form.proofs.Walking.{Walked}
 use Rattle.form.proofs.callables.judge_callables.Given as goal
 
 abbrev pub invariant-loop-n : goal.invariant-loop-n
-invariant-loop-n l = In (Walked callables_of judge_callables) l.source l.n
+invariant-loop-n l = In (Walked callables_of judge_callables) l.source 0 l.n

@@ -6,4 +6,4 @@ use Rattle.form.proofs.Walking.{Walked}
 use Rattle.form.proofs.globals.judge_globals.Given as goal
 
 abbrev pub invariant-loop-g : goal.invariant-loop-g
-invariant-loop-g l = In (Walked globals_of globals_are) l.source l.g
+invariant-loop-g l = In (Walked globals_of globals_are) l.source 0 l.g

@@ -6,4 +6,4 @@ use Rattle.form.proofs.Walking.{Walked}
 use Rattle.form.proofs.states.judge_states.Given as goal
 
 abbrev pub invariant-loop-n : goal.invariant-loop-n
-invariant-loop-n l = In (Walked states_of judge_states) l.source l.n
+invariant-loop-n l = In (Walked states_of judge_states) l.source 0 l.n

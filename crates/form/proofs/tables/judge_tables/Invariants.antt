@@ -4,4 +4,4 @@ use Rattle.form.proofs.OfTables.{Laid}
 use Rattle.form.proofs.tables.judge_tables.Given as goal
 
 abbrev pub invariant-loop-t : goal.invariant-loop-t
-invariant-loop-t l = In Laid l.source l.t l.initial.widths l.widths
+invariant-loop-t l = In Laid l.source 0 l.t l.initial.widths l.widths
