@@ -209,6 +209,11 @@ module _ (nums directory ends : List ℕ) (f : ℕ) where
         };
   }
 
+-- keys end where those behind the first do
+pub key_end : (ends : List ℕ) (at n : ℕ) → keys_end ends at (suc n) ≡ keys_end ends (get_or ends (at + 1) 0) n
+unfolding keys_end
+key_end ends at n = refl
+
 -- keys are stepped over one by one: what is left of them is inside, and ends where all of them do
 pub record KeysLeft (ends : List ℕ) (at count done next : ℕ) : Type 0 where
   pub inside : KeysInside ends next (count - done)
@@ -225,10 +230,6 @@ module _ (ends : List ℕ) (at count done next : ℕ) (w : KeysLeft ends at coun
   unfolding KeysInside
   key_left n k = k
 
-  pub key_end : (n : ℕ) → keys_end ends next (suc n) ≡ keys_end ends (get_or ends (next + 1) 0) n
-  unfolding keys_end
-  key_end n = refl
-
   module _ (more : done < count) where
     left-is : count - done ≡ suc (count - (done + 1))
     left-is = omega arith
@@ -239,7 +240,7 @@ module _ (ends : List ℕ) (at count done next : ℕ) (w : KeysLeft ends at coun
     pub keys-next : KeysLeft ends at count (done + 1) (get_or ends (next + 1) 0)
     keys-next = record {
       inside = (key_left (count - (done + 1)) (rw left-is at w.inside)).1;
-      end = sym (key_end (count - (done + 1))) ∙ (rw left-is at w.end);
+      end = sym (key_end ends next (count - (done + 1))) ∙ (rw left-is at w.end);
     }
 
   pub keys-done : count ≤ done → next ≡ keys_end ends at count
