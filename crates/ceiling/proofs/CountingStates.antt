@@ -41,6 +41,9 @@ module _ (nums filled : List ℕ) (at count : ℕ) (a : AsksDearest nums filled 
   pub pair_inside : at + 1 < length nums
   pair_inside = pair_of.state.holds.inside
 
+  pub pair-behind : at + 2 < 2 ^ 64
+  pair-behind = omega (arith, pair_inside, a.numbers)
+
   pub pairs-rest : AsksDearest nums filled (at + 2) (count - 1)
   pairs-rest = record {
     later = a.later;

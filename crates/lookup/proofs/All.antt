@@ -96,6 +96,12 @@ module _ (nums directory ends keys : List ℕ) (from count slot j at : ℕ)
     pub from_next : from + 1 < 2 ^ 64
     from_next = omega (arith, asked-first.begins, h.numbers)
 
+    pub slot_next : slot + 1 < 2 ^ 64
+    slot_next = omega (arith, h.slots, more)
+
+    pub place-next : j + 1 < 2 ^ 64
+    place-next = omega (arith, h.place, more)
+
     others-asked : (m l : Bool) (next prefix : ℕ) → TellsOne nums directory keys from slot j at m next l prefix
         → AsksMatch nums directory ends keys (get_or ends (from + 1) 0) (count - 1) (slot + 1) (j + 1) next
     others-asked m l next prefix t = record {
@@ -287,6 +293,9 @@ module _ (nums directory ends keys : List ℕ) (from count slot at : ℕ) where
 
       pub matching-width : slot + j < 2 ^ 64
       matching-width = omega (arith, h.asks.slots)
+
+      pub matching-place : j + 1 < 2 ^ 64
+      matching-place = place-next nums directory ends keys key (count - j) (slot + j) j next h.asks more
 
       module _ (m : Bool) (behind : ℕ) (q : Option ℕ)
           (t : TellsOne nums directory keys key (slot + j) j next m behind (is_some q) (unwrap_or q 0)) where

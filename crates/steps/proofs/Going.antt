@@ -201,6 +201,21 @@ module _ {nums directory ends : List ℕ} {scope : coded.Scope} {Γ : Scope} whe
     answers = r;
   }
 
+  pub ran-map : {A : Type 0} {Answers Others : A → Type 0} {slots slots' frame frame' : List ℕ} {o : Out State A}
+      → Ran nums directory ends scope slots slots' frame frame' Γ o Answers
+      → ((a : A) → Answers a → Others a)
+      → Ran nums directory ends scope slots slots' frame frame' Γ o Others
+  ran-map h f = record {
+    answer = h.answer;
+    state = h.state;
+    seen = h.seen;
+    is = h.is;
+    scene = h.scene;
+    counted = h.counted;
+    same = h.same;
+    answers = f h.answer h.answers;
+  }
+
   pub ran_then : {A B : Type 0} {Answers : A → Type 0} {Others : B → Type 0}
       {slots slots₁ slots₂ frame frame₁ frame₂ : List ℕ} (m : M State A) (k : A → M State B) (s : State)
       → (h : Ran nums directory ends scope slots slots₁ frame frame₁ Γ (m s) Answers)
