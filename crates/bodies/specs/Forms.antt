@@ -31,7 +31,7 @@ unfoldable pub Makes : {E : Type 0} → (Fault → E → Type 0) → Res Bool �
 Makes gives is (Ok returns) = Forms (Ok returns) is
 Makes gives is (Err wrong) = (f : Fault) × Forms (Err f) is × gives f wrong
 
--- a fault of the branches is handed on as it is
+-- a fault of the branches is handed on as it is; where they are fine, the if's own rule answers
 pub record Chooses {E : Type 0} (gives : Fault → E → Type 0) (at t : ℕ) (branches r : Result Bool E) : Type 0 where
   pub handed : (wrong : E) → branches ≡ Err wrong → r ≡ Err wrong
   pub own : (returns : Bool) → branches ≡ Ok returns → Makes gives (ruled 7 at (eqb t 0) returns) r

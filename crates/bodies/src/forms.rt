@@ -79,7 +79,7 @@ pub fn parsed(scope: &Scope, at: usize, holds: bool) -> Formed
     rules(at, holds, scope.kind == Kind::State)
 }
 
-// An if with a condition of a type: a fault of its branches comes before its own, and is handed on, of whatever type it is.
+// An if with a condition of a type: a fault of its branches comes before its own, and is handed on, whatever its type.
 pub fn chosen<E: From<Fault> + Drop>(
     at: usize,
     t: u64,

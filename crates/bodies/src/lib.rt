@@ -22,8 +22,8 @@ pub type Typed = Result<u64, Fault>;
 // Whether a statement that is fine returns a value on each path, or the first fault.
 pub type Formed = Result<bool, Fault>;
 
-// What is wrong, of any number, where a `Fault` has one of those in the table of refusals: `forms::chosen` hands on the one
-// as it does the other.
+// What is wrong, of any number, where a `Fault` has one of those in the table of refusals: `forms::chosen` hands on
+// either.
 #[derive(Clone, Copy)]
 pub struct Numbered {
     pub number: u64,

@@ -151,7 +151,7 @@ module _ {nums directory ends : List ℕ} {scope : coded.Scope} {slots₀ slots 
     {Γ : Scope} {used : ℕ} {es : List Entry} {s : State} {ss : Stmts}
     (b : Rest nums directory ends scope slots₀ slots frame₀ frame depth next left Γ used es s ss)
     (v : MemberView nums ends depth next left b.rest) where
-  member-begun : Begun (counter_of slots) (stmt_in Γ used es v.first) (then_rest Γ used es v.others) b.state
+  pub member-begun : Begun (counter_of slots) (stmt_in Γ used es v.first) (then_rest Γ used es v.others) b.state
   member-begun = then-goes _ _ b.state
       (rw (members-split Γ used es b.state b.rest v.first v.others v.same) at b.going)
 
