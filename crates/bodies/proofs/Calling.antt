@@ -14,11 +14,12 @@ use Rattle.std.specs.Prelude.{Ok, Some, None}
 use Rattle.rules.specs.declared.Reason.TheVariants as reason
 use Rattle.rules.specs.Words.{widest}
 use Rattle.rules.specs.Syntax.{Ty, Parameter}
-use Rattle.rules.specs.Form.{Res, ok, fault, ◌>>=◌, need, function_ty, may_call}
+use Rattle.rules.specs.Form.{Res, ok, fault, ◌>>=◌, need, function_ty, may_call, Body}
 use Rattle.program.specs.Codes.{ty_of}
 use Rattle.program.specs.Stands.{StandsParameters}
 use Rattle.program.specs.Looks.{returns_of}
-use Rattle.program.specs.Scopes.{kind_number, body_numbered}
+use Rattle.program.specs.Scopes.{kind_number, kind_numbered, body_numbered}
+use Rattle.program.proofs.Numbered.{kind-body, kind-returns}
 use Rattle.program.proofs.Seen.{is_kind}
 use Rattle.bodies.specs.declared.Agreed.{Agreed}
 use Rattle.bodies.specs.declared.Parameter as coded_parameter
@@ -81,35 +82,43 @@ value-is at kinds.State kinds.Function returns returned = refl
 value-is at kinds.State kinds.Apply returns returned = refl
 value-is at kinds.State kinds.State returns returned = refl
 
-module _ (scope : coded.Scope) (at : ℕ) (kind : Kind) (returns : ℕ) (b action state : Bool) (e : b ≡ (action || state))
-    (is_action : action ≡ is_kind kind kinds.Action) (is_state : state ≡ is_kind scope.kind kinds.State) where
-  pub no_value : b ≡ true → TellsIn scope (value_ty at (kind_number kind) returns) (refused reason.Form at)
+module _ (scope : coded.Scope) (at kind returns : ℕ) (j k : Kind) (callee : j ≡ kind_numbered kind)
+    (own : k ≡ kind_numbered scope.kind) (b action state : Bool) (e : b ≡ (action || state))
+    (is_action : action ≡ is_kind j kinds.Action) (is_state : state ≡ is_kind k kinds.State) where
+  value-same : (body : Body) → body_numbered scope.kind scope.returns ≡ body
+      → value_ty at kind returns body ≡ valued at returns b
+  unfolding value_ty
+  value-same body i =
+      rw (← i, ← kind-body k scope.kind scope.returns own, ← kind-returns j kind returns callee)
+      (value-is at j k returns scope.returns ∙ rw (e, is_action, is_state) refl)
+
+  pub no_value : b ≡ true → TellsIn scope (value_ty at kind returns) (refused reason.Form at)
   unfolding told_ty TyMost
-  no_value k = record {
-    judged = λ body i. rw (← i, value-is at kind scope.kind returns (scope.returns), ← is_action, ← is_state, ← e, k);
+  no_value h = record {
+    judged = λ body i. rw (value-same body i, h) refl;
     most = tt;
   }
 
-  pub some-value : returns ≤ widest → b ≡ false → TellsIn scope (value_ty at (kind_number kind) returns) (Ok returns)
+  pub some-value : returns ≤ widest → b ≡ false → TellsIn scope (value_ty at kind returns) (Ok returns)
   unfolding told_ty TyMost
-  some-value m k = record {
-    judged = λ body i. rw (← i, value-is at kind scope.kind returns (scope.returns), ← is_action, ← is_state, ← e, k);
+  some-value m h = record {
+    judged = λ body i. rw (value-same body i, h) refl;
     most = m;
   }
 
-module _ (at : ℕ) (kind : Kind) (returns : ℕ) where
+module _ (at kind returns : ℕ) where
   -- a call whose arguments are judged
   module _ (types places : Bool) where
     pub settled : returns ≤ widest → types ≡ true → places ≡ true
-        → Settles at (kind_number kind) returns types places (Ok (record { kind = kind; returns = returns }))
+        → Settles at kind returns types places (Ok (record { kind = kind; returns = returns }))
     unfolding told_call CalledMost need ◌>>=◌
     settled m e f = record { told = rw (e, f); most = m }
 
-    pub unsettled-place : types ≡ true → places ≡ false → Settles at (kind_number kind) returns types places (refused reason.Form at)
+    pub unsettled-place : types ≡ true → places ≡ false → Settles at kind returns types places (refused reason.Form at)
     unfolding told_call CalledMost need ◌>>=◌
     unsettled-place e f = record { told = rw (e, f); most = tt }
 
-    pub unsettled-type : types ≡ false → Settles at (kind_number kind) returns types places (refused reason.Type at)
+    pub unsettled-type : types ≡ false → Settles at kind returns types places (refused reason.Type at)
     unfolding told_call CalledMost need ◌>>=◌
     unsettled-type e = record { told = rw e; most = tt }
 

@@ -19,7 +19,8 @@ use Rattle.rules.specs.Syntax.{Ty}
 use Rattle.rules.specs.Form.{Res, ok, fault, ◌>>=◌, named, need, judge_header_at, need_ty, may_call, judge_returned, is_apply, is_function, is_state, may_leave}
 use Rattle.rules.proofs.Predicates.{no_member}
 use Rattle.program.specs.Codes.{ty_of}
-use Rattle.program.specs.Scopes.{kind_number, body_numbered}
+use Rattle.program.specs.Scopes.{kind_number, kind_numbered, body_numbered}
+use Rattle.program.proofs.Numbered.{kind-body, kind-returns}
 use Rattle.program.specs.Looks.{returns_of}
 use Rattle.program.proofs.Found.{At, member-at}
 use Rattle.program.proofs.Seen.{is_kind, one_kind, two_kinds}
@@ -139,47 +140,53 @@ no-function at kinds.Function returned u x = absurd (x refl)
 no-function at kinds.Apply returned u x = refl
 no-function at kinds.State returned u x = refl
 
-module _ (scope : coded.Scope) (at : ℕ) (r : Formed) where
-  pub called-in : (kind : Kind) (returns : ℕ) (a b : Bool)
-      → a ≡ (not (is_kind kind kinds.Action) || not (is_kind scope.kind kinds.Function))
-      → b ≡ (not (is_kind scope.kind kinds.State) && a) → Forms r (ruled 8 at b false)
-      → FormsIn scope (called_in at (kind_number kind) returns) r
-  unfolding called_in
-  called-in kind returns a b e g f = record {
-    judged = λ body k. f.judged ∙ rw (g, e, ← k, may-call scope.kind kind (scope.returns) returns);
+module _ (scope : coded.Scope) (at : ℕ) (k : Kind) (own : k ≡ kind_numbered scope.kind) where
+  own-body : body_numbered (kind_number k) scope.returns ≡ body_numbered scope.kind scope.returns
+  own-body = kind-body k scope.kind scope.returns own
+
+  module _ (r : Formed) where
+    pub called-in : (kind returns : ℕ) (j : Kind) → j ≡ kind_numbered kind → (a b : Bool)
+        → a ≡ (not (is_kind j kinds.Action) || not (is_kind k kinds.Function))
+        → b ≡ (not (is_kind k kinds.State) && a) → Forms r (ruled 8 at b false)
+        → FormsIn scope (called_in at kind returns) r
+    unfolding called_in
+    called-in kind returns j c a b e g f = record {
+      judged = λ body i.
+          f.judged
+          ∙ rw (g, e, ← i, ← own-body, ← kind-returns j kind returns c, may-call k j scope.returns returns);
+    }
+
+    pub returned-in : (t : ℕ) (b : Bool) → b ≡ is_kind k kinds.Function → b ≡ true
+        → Forms r (ruled 7 at (eqb scope.returns t) true) → FormsIn scope (returned_in at t) r
+    unfolding returned_in ruled judge_returned body_numbered need_ty
+    returned-in t b h j f =
+        let q : k ≡ kinds.Function = one_kind b _ _ h j in
+        record { judged = λ body e. f.judged ∙ rw (← e, ← own-body, q, same-types scope.returns t) }
+
+    pub applied-in : Forms r (ruled 8 at (is_kind k kinds.Apply) false) → FormsIn scope (applied_in at) r
+    unfolding applied_in
+    applied-in f = record { judged = λ body e. f.judged ∙ rw (← e, ← own-body, is-apply k scope.returns) }
+
+    pub left-in : (b : Bool) → b ≡ (not (is_kind k kinds.Function) && not (is_kind k kinds.State))
+        → Forms r (ruled 8 at b false) → FormsIn scope (left_in at) r
+    unfolding left_in
+    left-in b e f = record {
+      judged = λ body i. f.judged ∙ rw (e, ← i, ← own-body, may-leave k scope.returns);
+    }
+
+    pub parsed-in : (holds : Bool) → Forms r (ruled_both at holds (is_kind k kinds.State))
+        → FormsIn scope (parsed_in at holds) r
+    unfolding parsed_in
+    parsed-in holds f = record {
+      judged = λ body i. f.judged ∙ rw (← i, ← own-body, is-state k scope.returns);
+    }
+
+  pub returned-out : (t : ℕ) (b : Bool) → b ≡ is_kind k kinds.Function → b ≡ false
+      → FormsIn scope (returned_in at t) (refused reason.Form at)
+  unfolding returned_in told_stmt ◌>>=◌
+  returned-out t b h j = record {
+    judged = λ body e. rw (← e, ← own-body, no-function at k scope.returns (ty_of t) (two_kinds b _ _ h j));
   }
-
-  pub returned-in : (t : ℕ) (b : Bool) → b ≡ is_kind scope.kind kinds.Function → b ≡ true
-      → Forms r (ruled 7 at (eqb (scope.returns) t) true) → FormsIn scope (returned_in at t) r
-  unfolding returned_in ruled judge_returned body_numbered need_ty
-  returned-in t b h j f =
-      let k : scope.kind ≡ kinds.Function = one_kind b _ _ h j in
-      record { judged = λ body e. f.judged ∙ rw (← e, k, same-types (scope.returns) t) }
-
-  pub applied-in : Forms r (ruled 8 at (is_kind scope.kind kinds.Apply) false) → FormsIn scope (applied_in at) r
-  unfolding applied_in
-  applied-in f = record { judged = λ body e. f.judged ∙ rw (← e, is-apply scope.kind (scope.returns)) }
-
-  pub left-in : (b : Bool) → b ≡ (not (is_kind scope.kind kinds.Function) && not (is_kind scope.kind kinds.State))
-      → Forms r (ruled 8 at b false) → FormsIn scope (left_in at) r
-  unfolding left_in
-  left-in b e f = record {
-    judged = λ body k. f.judged ∙ rw (e, ← k, may-leave scope.kind (scope.returns));
-  }
-
-  pub parsed-in : (holds : Bool) → Forms r (ruled_both at holds (is_kind scope.kind kinds.State))
-      → FormsIn scope (parsed_in at holds) r
-  unfolding parsed_in
-  parsed-in holds f = record {
-    judged = λ body k. f.judged ∙ rw (← k, is-state scope.kind (scope.returns));
-  }
-
-pub returned-out : (scope : coded.Scope) (at t : ℕ) (b : Bool) → b ≡ is_kind scope.kind kinds.Function → b ≡ false
-    → FormsIn scope (returned_in at t) (refused reason.Form at)
-unfolding returned_in told_stmt ◌>>=◌
-returned-out scope at t b h j = record {
-  judged = λ body e. rw (← e, no-function at scope.kind (scope.returns) (ty_of t) (two_kinds b _ _ h j));
-}
 
 pub ruleset ruling = (
   rule-holds,

@@ -12,7 +12,7 @@ use Rattle.rules.specs.Words.{widest}
 use Rattle.rules.specs.Syntax.{Expr, call_expr, Args}
 use Rattle.rules.specs.Form.{Res, ok, fault, ◌>>=◌, named, callable_below, Scope, judge_given, judge_expr, judge_args}
 use Rattle.program.specs.Stands.{StandsExpr}
-use Rattle.program.specs.Scopes.{kind_number, StandsScope}
+use Rattle.program.specs.Scopes.{StandsScope}
 use Rattle.program.proofs.Views.{ExprView, CallView, expr-view, expr-begins}
 use Rattle.bodies.specs.declared.Callee.{Callee}
 use Rattle.bodies.specs.Claims.{Typed, told_ty, TyMost, AsksExpr, JudgesExpr}
@@ -121,7 +121,7 @@ module _ (nums directory ends : List ℕ) (scope : coded.Scope) (depth at : ℕ)
         ∙ value-of-call Γ at v.callable v.arguments ∙ sym (ap (judge_expr Γ) v.same)
 
     pub call-told : (callee : Callee) → JudgesCall nums directory ends scope depth at (Ok callee) → (r : Typed)
-        → TellsIn scope (value_ty at (kind_number callee.kind) callee.returns) r → JudgesExpr nums directory ends scope depth at r
+        → TellsIn scope (value_ty at callee.kind callee.returns) r → JudgesExpr nums directory ends scope depth at r
     unfolding value_ty told_call ◌>>=◌
     call-told callee j r q = record {
       judged = λ Γ x s h. q.judged Γ.body s.body ∙ call-is j Γ x s h;

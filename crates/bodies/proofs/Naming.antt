@@ -23,7 +23,8 @@ use Rattle.rules.specs.Form.{judge_field, judge_place}
 use Rattle.rules.proofs.Predicates.{no_member}
 use Rattle.program.specs.Codes.{ty_of, header_number, direction_number}
 use Rattle.program.specs.Stands.{Holds, HoldsWithin, HoldsTy, StandsWidths, StandsHeader, StandsProgram}
-use Rattle.program.specs.Scopes.{kind_number, body_numbered, StandsScope}
+use Rattle.program.specs.Scopes.{kind_number, kind_numbered, body_numbered, StandsScope}
+use Rattle.program.proofs.Numbered.{kind-body}
 use Rattle.program.proofs.Seen.{is_kind, one_kind, two_kinds}
 use Rattle.program.specs.Looks.{Has, Finds, headers_of, globals_of, GlobalNumber, FoundGlobal, FoundHeader}
 use Rattle.program.proofs.Found.{At, member-at}
@@ -281,19 +282,21 @@ seen_other kinds.Function returns x = absurd (x refl)
 seen_other kinds.Apply returns x = refl
 seen_other kinds.State returns x = refl
 
-module _ (scope : coded.Scope) (at t : ℕ) (b : Bool) (same : b ≡ is_kind scope.kind kinds.Function) where
+module _ (scope : coded.Scope) (at t : ℕ) (k : Kind) (own : k ≡ kind_numbered scope.kind) (b : Bool)
+    (same : b ≡ is_kind k kinds.Function) where
   pub seen-told : t ≤ widest → b ≡ false → SeenTyped scope at t (Ok t)
   unfolding told_ty TyMost need ◌>>=◌
   seen-told m x = record {
-    judged = λ body e. rw (← e, seen_other scope.kind (scope.returns) (two_kinds b _ _ same x));
+    judged = λ body e.
+        rw (← e, ← kind-body k scope.kind scope.returns own, seen_other k scope.returns (two_kinds b _ _ same x));
     most = m;
   }
 
   pub seen-not : b ≡ true → SeenTyped scope at t (refused reason.Form at)
   unfolding told_ty TyMost need ◌>>=◌ sees_globals body_numbered
   seen-not x =
-      let k : scope.kind ≡ kinds.Function = one_kind b _ _ same x in
-      record { judged = λ body e. rw (← e, k); most = tt }
+      let f : k ≡ kinds.Function = one_kind b _ _ same x in
+      record { judged = λ body e. rw (← e, ← kind-body k scope.kind scope.returns own, f); most = tt }
 
 -- a field
 module _ (nums : List ℕ) (at header : ℕ) where

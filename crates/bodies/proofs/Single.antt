@@ -14,7 +14,7 @@ use Rattle.rules.specs.Syntax.{Place, Expr, read_of, Args, place_in, Stmt, empty
 use Rattle.rules.specs.Form.{Res, ok, fault, ◌>>=◌, named, need, callable_below, Scope, writable_in, judge_extracted, judge_global, judge_header_at, need_ty, judge_given, may_call, judge_expr, judge_args, is_apply, is_state, judge_stmt, returns_on}
 use Rattle.program.specs.Codes.{ty_of}
 use Rattle.program.specs.Stands.{Holds, StandsExpr, on-place, StandsStmt, on-empty, on-assign, on-if, on-block, on-call-stmt, on-apply, on-return-value, on_return, on-exit, on-set-valid, on-set-invalid, on-extract, on-verify}
-use Rattle.program.specs.Scopes.{kind_number, StandsScope}
+use Rattle.program.specs.Scopes.{StandsScope}
 use Rattle.program.proofs.Views.{expr-begins, StmtView, BareView, AssignView, CallStmtView, NamedView, ReturnView, VerifyView, stmt-view, stmt-begins}
 use Rattle.program.proofs.Members.{same-types}
 use Rattle.bodies.specs.declared.Callee.{Callee}
@@ -190,7 +190,7 @@ module _ (nums directory ends : List ℕ) (scope : coded.Scope) (depth at : ℕ)
         ∙ sym (ap (λ x. judge_stmt Γ x >>= λ _. ok (returns_on x)) v.same)
 
     pub call-stmt-told : (callee : Callee) → JudgesCall nums directory ends scope depth at (Ok callee) → (r : Formed)
-        → FormsIn scope (called_in at (kind_number callee.kind) callee.returns) r → JudgesStmt nums directory ends scope depth at r
+        → FormsIn scope (called_in at callee.kind callee.returns) r → JudgesStmt nums directory ends scope depth at r
     unfolding called_in ruled told_call ◌>>=◌
     call-stmt-told callee j r f = record {
       judged = λ Γ s z h. f.judged Γ.body z.body ∙ call-is j Γ s z h;

@@ -12,7 +12,7 @@ use Rattle.rules.specs.Reading.{most_arguments}
 use Rattle.rules.specs.Form.{Res, ok, fault, ◌>>=◌, named, need, callable_below, Scope, Given, types_agree, places_agree, judge_given, judge_args}
 use Rattle.program.specs.Codes.{ty_of, direction_number, arg_count}
 use Rattle.program.specs.Stands.{Holds, HoldsWithin, StandsArgs, StandsParameters}
-use Rattle.program.specs.Scopes.{kind_number, StandsScope}
+use Rattle.program.specs.Scopes.{StandsScope}
 use Rattle.program.specs.Looks.{returns_of}
 use Rattle.bodies.specs.declared.Callee.{Callee}
 use Rattle.bodies.specs.declared.Agreed.{Agreed}
@@ -110,7 +110,7 @@ judge_call Γ at f xs = do
   ok c.returns
 
 unfoldable pub told_call : Called → Res (Option Ty)
-told_call (Ok c) = ok (returns_of (kind_number c.kind) c.returns)
+told_call (Ok c) = ok (returns_of c.kind c.returns)
 told_call (Err f) = fault (number_of f.reason) f.index
 
 unfoldable pub CalledMost : Called → Type 0

@@ -7,7 +7,7 @@ use Rattle.rules.specs.Syntax.{Stmt, Stmts}
 use Rattle.rules.specs.Form.{Res, ok, ◌>>=◌, named, need, judge_extracted, judge_global, judge_header_at, Body, Scope, may_call, judge_returned, is_apply, is_state, may_leave, judge_stmt, judge_stmts, returns_on, some_returns}
 use Rattle.program.specs.Codes.{ty_of, member_count}
 use Rattle.program.specs.Stands.{StandsStmt, StandsStmts}
-use Rattle.program.specs.Scopes.{kind_number, body_numbered, StandsScope}
+use Rattle.program.specs.Scopes.{body_numbered, StandsScope}
 use Rattle.program.specs.Looks.{returns_of}
 use Rattle.bodies.specs.Claims.{Formed, told_stmt, AsksStmt}
 
@@ -37,7 +37,7 @@ pub record Chooses {E : Type 0} (gives : Fault → E → Type 0) (at t : ℕ) (b
   pub own : (returns : Bool) → branches ≡ Ok returns → Makes gives (ruled 7 at (eqb t 0) returns) r
 
 pub record FormsIn (scope : coded.Scope) (judge : Body → Res Bool) (r : Formed) : Type 0 where
-  pub judged : (b : Body) → body_numbered (kind_number scope.kind) (scope.returns) ≡ b → told_stmt r ≡ judge b
+  pub judged : (b : Body) → body_numbered scope.kind scope.returns ≡ b → told_stmt r ≡ judge b
 
 unfoldable pub called_in : ℕ → ℕ → ℕ → Body → Res Bool
 called_in at kind returns b = ruled 8 at (may_call b (returns_of kind returns)) false

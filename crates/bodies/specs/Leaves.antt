@@ -13,7 +13,7 @@ use Rattle.rules.specs.Form.{Res, ok, ◌>>=◌, need, fits, Shape, a_variable, 
 use Rattle.program.specs.Codes.{ty_of, operator_number}
 use Rattle.program.specs.Stands.{Holds, StandsExpr, StandsWidths, StandsProgram}
 use Rattle.program.specs.Looks.{returns_of}
-use Rattle.program.specs.Scopes.{kind_number, body_numbered, StandsScope}
+use Rattle.program.specs.Scopes.{body_numbered, StandsScope}
 use Rattle.bodies.specs.declared.Found.{Found}
 use Rattle.bodies.specs.declared.Found.TheVariants.{Variable, Header}
 use Rattle.bodies.specs.Claims.{Typed, told_ty, TyMost, AsksExpr, JudgesExpr}
@@ -25,7 +25,7 @@ pub record Tells (r : Typed) (is : Res Ty) : Type 0 where
 
 -- in a body of a kind
 pub record TellsIn (scope : coded.Scope) (judge : Body → Res Ty) (r : Typed) : Type 0 where
-  pub judged : (b : Body) → body_numbered (kind_number scope.kind) (scope.returns) ≡ b → told_ty r ≡ judge b
+  pub judged : (b : Body) → body_numbered scope.kind scope.returns ≡ b → told_ty r ≡ judge b
   pub most : TyMost r
 
 -- a type where a rule holds
@@ -208,7 +208,7 @@ pub record FindsHeader (nums directory ends : List ℕ) (h : ℕ) (r : Optional 
 
 -- a type behind a global that is seen
 pub record SeenTyped (scope : coded.Scope) (at t : ℕ) (r : Typed) : Type 0 where
-  pub judged : (b : Body) → body_numbered (kind_number scope.kind) (scope.returns) ≡ b
+  pub judged : (b : Body) → body_numbered scope.kind scope.returns ≡ b
       → told_ty r ≡ (need 8 at (sees_globals b) >>= λ _. ok (ty_of t))
   pub most : TyMost r
 
@@ -220,7 +220,7 @@ pub record AsksField (nums : List ℕ) (at header : ℕ) : Type 0 where
   pub stand : StandsWidths nums (header + 1) widths
 
 pub record FieldTyped (nums : List ℕ) (scope : coded.Scope) (at header : ℕ) (r : Typed) : Type 0 where
-  pub judged : (b : Body) → body_numbered (kind_number scope.kind) (scope.returns) ≡ b → (widths : List ℕ)
+  pub judged : (b : Body) → body_numbered scope.kind scope.returns ≡ b → (widths : List ℕ)
       → Holds nums header (length widths) → StandsWidths nums (header + 1) widths
       → told_ty r ≡ (judge_field at (get_or nums (at + 2) 0) (a_header widths) >>= λ t. need 8 at
       (sees_globals b) >>= λ _. ok t)

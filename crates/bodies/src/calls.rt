@@ -1,7 +1,6 @@
 // What a call asks of its arguments and of what it calls.
 ghost use Rattle.std.specs.Prelude.{◌≤◌};
 ghost use Rattle.rules.specs.Words.{widest};
-ghost use Rattle.program.specs.Scopes.{kind_number};
 ghost use Rattle.bodies.specs.Leaves.{TellsIn, value_ty};
 ghost use Rattle.bodies.specs.Calls.{AsksWanted, IsWanted, Weighs, Settles};
 
@@ -11,11 +10,13 @@ use program::{Kind, Scope};
 use rules::{Fault, Reason};
 
 // The type of a call that is an expression: it calls functions only, and stands in no state.
-pub fn value_type(scope: &Scope, at: usize, kind: Kind, returns: u64) -> Typed
+pub fn value_type(scope: &Scope, at: usize, kind: u64, returns: u64) -> Typed
     requires { returns ≤ widest }
-    ensures { TellsIn scope.now (value_ty at (kind_number kind) returns) result }
+    ensures { TellsIn scope.now (value_ty at kind returns) result }
 {
-    if either(kind == Kind::Action, scope.kind == Kind::State) {
+    let callee = Kind::numbered(kind);
+    let body = Kind::numbered(scope.kind);
+    if either(callee == Kind::Action, body == Kind::State) {
         Err(Fault {
             reason: Reason::Form,
             index: at,
@@ -69,9 +70,9 @@ pub fn weigh(wanted: Wanted, t: u64, writable: bool, behind: Agreed) -> Agreed
 }
 
 // A call whose arguments are judged.
-pub fn settle(at: usize, kind: Kind, returns: u64, agreed: Agreed) -> Result<Callee, Fault>
+pub fn settle(at: usize, kind: u64, returns: u64, agreed: Agreed) -> Result<Callee, Fault>
     requires { returns ≤ widest }
-    ensures { Settles at (kind_number kind) returns agreed.types agreed.places result }
+    ensures { Settles at kind returns agreed.types agreed.places result }
 {
     if agreed.types {
         if agreed.places {

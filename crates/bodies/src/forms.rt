@@ -1,6 +1,5 @@
 // What a statement asks once its parts are judged: 7 before 8.
 ghost use Rattle.rules.specs.Answers.{number_of};
-ghost use Rattle.program.specs.Scopes.{kind_number};
 ghost use Rattle.bodies.specs.Claims.{told_stmt};
 ghost use Rattle.bodies.specs.Forms.{Forms, ruled, ruled_both, Chooses, FormsIn, called_in, returned_in, applied_in, left_in, parsed_in};
 
@@ -35,11 +34,13 @@ pub fn rules(at: usize, first: bool, second: bool) -> Formed
 }
 
 // A call that is a statement: a function calls functions only, and a state calls nothing.
-pub fn called(scope: &Scope, at: usize, kind: Kind, returns: u64) -> Formed
-    ensures { FormsIn scope.now (called_in at (kind_number kind) returns) result }
+pub fn called(scope: &Scope, at: usize, kind: u64, returns: u64) -> Formed
+    ensures { FormsIn scope.now (called_in at kind returns) result }
 {
-    let some = either(kind != Kind::Action, scope.kind != Kind::Function);
-    let may = both(scope.kind != Kind::State, some);
+    let callee = Kind::numbered(kind);
+    let body = Kind::numbered(scope.kind);
+    let some = either(callee != Kind::Action, body != Kind::Function);
+    let may = both(body != Kind::State, some);
     rule(Reason::Form, at, may, false)
 }
 
@@ -47,7 +48,7 @@ pub fn called(scope: &Scope, at: usize, kind: Kind, returns: u64) -> Formed
 pub fn returned(scope: &Scope, at: usize, t: u64) -> Formed
     ensures { FormsIn scope.now (returned_in at t) result }
 {
-    if scope.kind == Kind::Function {
+    if Kind::numbered(scope.kind) == Kind::Function {
         rule(Reason::Type, at, scope.returns == t, true)
     } else {
         Err(Fault {
@@ -61,14 +62,16 @@ pub fn returned(scope: &Scope, at: usize, t: u64) -> Formed
 pub fn applied(scope: &Scope, at: usize) -> Formed
     ensures { FormsIn scope.now (applied_in at) result }
 {
-    rule(Reason::Form, at, scope.kind == Kind::Apply, false)
+    let applies = Kind::numbered(scope.kind) == Kind::Apply;
+    rule(Reason::Form, at, applies, false)
 }
 
 // A return without a value, or an exit: in actions and the apply body only.
 pub fn left(scope: &Scope, at: usize) -> Formed
     ensures { FormsIn scope.now (left_in at) result }
 {
-    let may = both(scope.kind != Kind::Function, scope.kind != Kind::State);
+    let body = Kind::numbered(scope.kind);
+    let may = both(body != Kind::Function, body != Kind::State);
     rule(Reason::Form, at, may, false)
 }
 
@@ -76,7 +79,7 @@ pub fn left(scope: &Scope, at: usize) -> Formed
 pub fn parsed(scope: &Scope, at: usize, holds: bool) -> Formed
     ensures { FormsIn scope.now (parsed_in at holds) result }
 {
-    rules(at, holds, scope.kind == Kind::State)
+    rules(at, holds, Kind::numbered(scope.kind) == Kind::State)
 }
 
 // An if with a condition of a type: a fault of its branches comes before its own, and is handed on, whatever its type.

@@ -13,7 +13,6 @@ pub mod types;
 ghost use Rattle.std.specs.Prelude.{◌≡◌};
 ghost use Rattle.bodies.specs.Numbers.{numbered};
 
-use program::Kind;
 use rules::Fault;
 
 // The type of an expression as it is written (0 bool, 1 to 64 bits), or the first fault.
@@ -41,10 +40,10 @@ impl From<Fault> for Numbered {
     }
 }
 
-// What a call calls: its kind and the type that it returns.
+// What a call calls: the number of its kind and the type that it returns.
 #[derive(Clone, Copy)]
 pub struct Callee {
-    pub kind: Kind,
+    pub kind: u64,
     pub returns: u64,
 }
 

@@ -91,7 +91,7 @@ fn seen_type(scope: &Scope, at: usize, t: u64) -> Typed
     requires { t ≤ widest }
     ensures { SeenTyped scope.now at t result }
 {
-    if scope.kind == Kind::Function {
+    if Kind::numbered(scope.kind) == Kind::Function {
         Err(Fault {
             reason: Reason::Form,
             index: at,

@@ -17,7 +17,7 @@ use Rattle.rules.specs.Form.{Res, ok, fault, ◌>>=◌, named, need, table_gives
 use Rattle.rules.proofs.Predicates.{no_member}
 use Rattle.program.specs.declared.Kind.{Kind}
 use Rattle.program.specs.declared.Kind.TheVariants as kinds
-use Rattle.program.specs.Scopes.{kind_number}
+use Rattle.program.specs.Scopes.{kind_numbered}
 use Rattle.program.proofs.Seen.{is_kind}
 use Rattle.program.specs.Codes.{direction_number}
 use Rattle.program.specs.Stands.{StandsNumerals, StandsProgram}
@@ -291,12 +291,12 @@ module _ (nums directory ends : List ℕ) (at count : ℕ) (more : count ≡ 0 �
       inside = member-in h.program.callables (get_or nums at 0) listed.callable.first listed.is;
     }
 
-    here-given : (kind : Kind) (returns parameters parameter_count : ℕ)
-        → Finds callables_of (FoundHead nums (kind_number kind) returns parameters parameter_count) nums directory ends (get_or nums at 0)
+    here-given : (kind returns parameters parameter_count : ℕ)
+        → Finds callables_of (FoundHead nums kind returns parameters parameter_count) nums directory ends (get_or nums at 0)
         → AsksGiven nums parameters parameter_count
     unfolding callables_of
     here-given kind returns parameters parameter_count f =
-        let d : FoundHead nums (kind_number kind) returns parameters parameter_count listed.callable.first
+        let d : FoundHead nums kind returns parameters parameter_count listed.callable.first
         = f.finds h.program h.end listed.callable.first h.stands listed.is in
         record {
           parameters = listed.callable.first.parameters;
@@ -315,19 +315,19 @@ module _ (nums directory ends : List ℕ) (at count : ℕ) (more : count ≡ 0 �
       names = listed.callable.rest;
     }
 
-  module _ (kind : Kind) (returns parameters parameter_count : ℕ) (given action fine : Bool)
-      (f : Finds callables_of (FoundHead nums (kind_number kind) returns parameters parameter_count) nums directory ends
-      (get_or nums at 0)) (g : GivesAll nums parameters parameter_count given) (same : action ≡ is_kind kind kinds.Action) (is : fine ≡ (action && given))
+  module _ (kind returns parameters parameter_count : ℕ) (k : Kind) (own : k ≡ kind_numbered kind) (given action fine : Bool)
+      (f : Finds callables_of (FoundHead nums kind returns parameters parameter_count) nums directory ends
+      (get_or nums at 0)) (g : GivesAll nums parameters parameter_count given) (same : action ≡ is_kind k kinds.Action) (is : fine ≡ (action && given))
     where
       listable-is : (P : Program) (end : ℕ) (ns : List Numeral) (cs : List Callable)
           → StandsProgram nums directory ends P end → (l : Listed P ns cs) (b : Bool) → fine ≡ b
           → listable l.callable.first ≡ b
       unfolding callables_of listable
       listable-is P end ns cs s l b e =
-          let d : FoundHead nums (kind_number kind) returns parameters parameter_count l.callable.first
+          let d : FoundHead nums kind returns parameters parameter_count l.callable.first
           = f.finds P end l.callable.first s l.is in
           rw (
-            is-action kind l.callable.first.returns d.kind_is,
+            is-action k kind l.callable.first.returns own d.kind_is,
             ← same,
             ← g.gives l.callable.first.parameters (record { stand = d.parameters_stand; counted = d.count_is }),
           ) (sym is ∙ e)
@@ -399,22 +399,23 @@ module _ (nums directory ends : List ℕ) (at count : ℕ) where
       pub listed-head : Has callables_of nums directory ends (get_or nums next 0)
       listed-head = here-head nums directory ends next e.left more_left e.asks
 
-      module _ (kind : Kind) (returns parameters parameter_count : ℕ)
-          (f : Finds callables_of (FoundHead nums (kind_number kind) returns parameters parameter_count) nums directory ends
+      module _ (kind returns parameters parameter_count : ℕ)
+          (f : Finds callables_of (FoundHead nums kind returns parameters parameter_count) nums directory ends
           (get_or nums next 0)) where
         pub listed-given : AsksGiven nums parameters parameter_count
         listed-given =
             here-given nums directory ends next e.left more_left e.asks kind returns parameters parameter_count f
 
-        module _ (given action fine : Bool) (g : GivesAll nums parameters parameter_count given)
-            (same : action ≡ is_kind kind kinds.Action) (is : fine ≡ (action && given)) where
+        module _ (k : Kind) (own : k ≡ kind_numbered kind) (given action fine : Bool)
+            (g : GivesAll nums parameters parameter_count given) (same : action ≡ is_kind k kinds.Action)
+            (is : fine ≡ (action && given)) where
           pub listed-not : (wrong : Fault) → Says (Err wrong) (need 8 next fine)
               → JudgesListed nums directory ends at count (Err wrong)
           unfolding told_form
           listed-not wrong s =
               let z : Failed 8 next fine wrong = failed 8 next fine wrong s in
               e.rest (Err wrong) (unlisted-here nums directory ends next e.left more_left kind returns parameters
-              parameter_count given action fine f g same is (Err wrong) z.told z.not_so)
+              parameter_count k own given action fine f g same is (Err wrong) z.told z.not_so)
 
           pub listed_next : Says (Ok tt) (need 8 next fine) → Listing nums directory ends at count (next + 1)
           listed_next s = record {
@@ -422,7 +423,7 @@ module _ (nums directory ends : List ℕ) (at count : ℕ) where
             ended = omega (arith, e.ended, l);
             asks = listed-left nums directory ends next e.left more_left e.asks;
             rest = λ r j. e.rest r (listed-here nums directory ends next e.left more_left kind returns parameters
-                parameter_count given action fine f g same is r (held 8 next fine s) j);
+                parameter_count k own given action fine f g same is r (held 8 next fine s) j);
           }
 
 pub ruleset listing = (

@@ -16,7 +16,7 @@ use Rattle.rules.specs.Form.{◌>>=◌, need, is_function, judge_stmt, returns_o
 use Rattle.program.specs.Codes.{callable_kind_number}
 use Rattle.program.specs.Stands.{StandsProgram}
 use Rattle.program.specs.Looks.{Has, Finds, callables_of, FoundHead, FoundFrame}
-use Rattle.program.specs.Scopes.{kind_number, StandsScope}
+use Rattle.program.specs.Scopes.{kind_numbered, StandsScope}
 use Rattle.program.proofs.Found.{At, member-at}
 use Rattle.bodies.specs.Claims.{AsksStmt, JudgesStmt}
 use Rattle.bodies.proofs.Stating.{FineOf, fine-is, faulty-is}
@@ -25,25 +25,19 @@ use Rattle.form.specs.Parts.{Says, JudgesPart}
 use Rattle.program.proofs.Seen.{is_kind, callable_scope, callable-scope}
 use Rattle.form.proofs.Walking.{Walk}
 
-pub is-action : (kind : Kind) (x : Option Ty) → kind_number kind ≡ callable_kind_number x
-    → not (is_function (body_of x)) ≡ is_kind kind kinds.Action
-unfolding callable_kind_number is_function body_of
-is-action kinds.Action none k = refl
-is-action kinds.Action (some t) k = absurd (omega (arith, k))
-is-action kinds.Function none k = absurd (omega (arith, k))
-is-action kinds.Function (some t) k = refl
-is-action kinds.Apply none k = absurd (omega (arith, k))
-is-action kinds.Apply (some t) k = refl
-is-action kinds.State none k = absurd (omega (arith, k))
-is-action kinds.State (some t) k = refl
+pub is-action : (k : Kind) (kind : ℕ) (x : Option Ty) → k ≡ kind_numbered kind → kind ≡ callable_kind_number x
+    → not (is_function (body_of x)) ≡ is_kind k kinds.Action
+unfolding kind_numbered callable_kind_number is_function body_of
+is-action k kind none own e = rw (own, e) refl
+is-action k kind (some t) own e = rw (own, e) refl
 
 module _ (nums directory ends : List ℕ) (n : ℕ) where
   pub callable-slot : Has callables_of nums directory ends n → 43 + n < 217
   unfolding callables_of
   callable-slot h = omega (arith, h.inside, h.stands.callables.few)
 
-  module _ (kind : Kind) (returns parameters count locals local_count body : ℕ)
-      (h : Finds callables_of (FoundHead nums (kind_number kind) returns parameters count) nums directory ends n)
+  module _ (kind returns parameters count locals local_count body : ℕ)
+      (h : Finds callables_of (FoundHead nums kind returns parameters count) nums directory ends n)
       (f : Finds callables_of (FoundFrame nums ends locals local_count body) nums directory ends n)
     where
       abbrev scope : coded.Scope
@@ -75,11 +69,11 @@ module _ (nums directory ends : List ℕ) (n : ℕ) where
             rw (faulty-is j (scope_of P n c) c.body (seen P end c s e) (f.finds P end c s e).body_stands);
       }
 
-      pub callable-judged : (b action e : Bool) (r : Formal) → JudgesStmt nums directory ends scope 32 body (Ok b)
-          → action ≡ is_kind kind kinds.Action → e ≡ (action || b) → Says r (need 8 (get_or directory (43 + n) 0) e)
+      pub callable-judged : (k : Kind) → k ≡ kind_numbered kind → (b action e : Bool) (r : Formal)
+          → JudgesStmt nums directory ends scope 32 body (Ok b) → action ≡ is_kind k kinds.Action → e ≡ (action || b) → Says r (need 8 (get_or directory (43 + n) 0) e)
           → JudgesPart callables_of judge_callable nums directory ends n r
       unfolding callables_of judge_callable ◌>>=◌
-      callable-judged b action e r j a q w = record {
+      callable-judged k own b action e r j a q w = record {
         judged = λ P end c s i.
             let g : FineOf (judge_stmt (scope_of P n c) c.body) b (returns_on c.body)
             = fine-is j (scope_of P n c) c.body (seen P end c s i) (f.finds P end c s i).body_stands in
@@ -87,7 +81,7 @@ module _ (nums directory ends : List ℕ) (n : ℕ) where
             ∙ rw (
               g.is,
               (s.callables.member n c i).index,
-              is-action kind c.returns (h.finds P end c s i).kind_is,
+              is-action k kind c.returns own (h.finds P end c s i).kind_is,
               ← a,
               q,
               g.same,

@@ -51,7 +51,8 @@ pub fn judge_listed(source: &Source, at: usize, count: u64) -> Formal
     for action in at..at + count as usize {
         let head = source.head_of(source.nums[action] as usize);
         let given = gives_all(source.nums, head.parameters, head.count);
-        rule(Reason::Form, action, both(head.kind == Kind::Action, given))?;
+        let is_action = Kind::numbered(head.kind) == Kind::Action;
+        rule(Reason::Form, action, both(is_action, given))?;
     }
     Ok(())
 }

@@ -30,7 +30,8 @@ fn judge_callable(source: &Source, n: usize) -> Formal
     };
     let returns = judge_stmt(source, &scope, DEEPEST, frame.body)?;
     let at = source.directory[shape::CALLABLES + 1 + n] as usize;
-    rule(Reason::Form, at, either(head.kind == Kind::Action, returns))
+    let is_action = Kind::numbered(head.kind) == Kind::Action;
+    rule(Reason::Form, at, either(is_action, returns))
 }
 
 // The callables of a program.

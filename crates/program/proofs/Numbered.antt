@@ -22,6 +22,15 @@ numbered-returns (suc zero) returns = refl
 numbered-returns (suc (suc zero)) returns = refl
 numbered-returns (suc (suc (suc kind))) returns = refl
 
+-- the same, of a kind that was made of a number
+pub kind-body : (k : Kind) (number returns : ℕ) → k ≡ kind_numbered number
+    → body_numbered (kind_number k) returns ≡ body_numbered number returns
+kind-body k number returns e = rw e (numbered-body number returns)
+
+pub kind-returns : (k : Kind) (number returns : ℕ) → k ≡ kind_numbered number
+    → returns_of (kind_number k) returns ≡ returns_of number returns
+kind-returns k number returns e = rw e (numbered-returns number returns)
+
 -- by number
 pub numbered-action : (number : ℕ) → number ≡ 0 → kinds.Action ≡ kind_numbered number
 unfolding kind_numbered

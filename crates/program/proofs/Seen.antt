@@ -16,7 +16,7 @@ use Rattle.program.specs.declared.Kind.TheVariants as kinds
 use Rattle.program.specs.contracts.Kind.{the_type}
 use Rattle.program.specs.declared.Scope as coded
 use denote.Enum.Bare.{sameb, same_true, same_false}
-use Rattle.program.specs.Scopes.{kind_number, body_numbered, StandsScope, without_frame}
+use Rattle.program.specs.Scopes.{body_numbered, StandsScope, without_frame}
 use Rattle.program.proofs.Found.{member-in}
 
 -- the kinds of bodies, as the code tells them apart
@@ -39,7 +39,7 @@ body_is kind returns (some t) k e =
     rw (k, same)
 
 -- a callable's scope
-abbrev pub callable_scope : ℕ → ℕ → ℕ → ℕ → ℕ → Kind → ℕ → coded.Scope
+abbrev pub callable_scope : ℕ → ℕ → ℕ → ℕ → ℕ → ℕ → ℕ → coded.Scope
 callable_scope n parameters count locals local_count kind returns = record {
   reach = n;
   parameters = parameters;
@@ -50,9 +50,9 @@ callable_scope n parameters count locals local_count kind returns = record {
   returns = returns;
 }
 
-pub callable-scope : (nums directory ends : List ℕ) (n : ℕ) (kind : Kind) (returns parameters count locals local_count body : ℕ)
+pub callable-scope : (nums directory ends : List ℕ) (n kind returns parameters count locals local_count body : ℕ)
     (P : Program) (end : ℕ) (c : Callable) → StandsProgram nums directory ends P end
-    → get_elem? P.callables n ≡ some c → FoundHead nums (kind_number kind) returns parameters count c
+    → get_elem? P.callables n ≡ some c → FoundHead nums kind returns parameters count c
     → FoundFrame nums ends locals local_count body c
     → StandsScope nums directory ends (callable_scope n parameters count locals local_count kind returns) (scope_of P n c)
 unfolding scope_of
@@ -65,7 +65,7 @@ callable-scope nums directory ends n kind returns parameters count locals local_
   parameter_count = h.count_is;
   locals = f.locals_stand;
   local_count = f.count_is;
-  body = body_is (kind_number kind) returns c.returns h.kind_is h.returns_is;
+  body = body_is kind returns c.returns h.kind_is h.returns_is;
   returns = h.returns_most;
 }
 

@@ -1,5 +1,5 @@
 -- What a body sees: how many callables it reaches; where its parameters stand and how many they are;
--- the same of its locals; its kind and the type that it returns.
+-- the same of its locals; the number of its kind and the type that it returns.
 use Rattle.program.specs.declared.Kind.{Kind}
 use Rattle.program.specs.declared.Kind.TheVariants as kinds
 use Rattle.program.specs.declared.Scope as coded
@@ -38,7 +38,7 @@ pub record StandsScope (nums directory ends : List ℕ) (scope : coded.Scope) (�
   pub parameter_count : scope.parameter_count ≡ length Γ.parameters
   pub locals : StandsTypes nums (scope.locals) Γ.locals
   pub local_count : scope.local_count ≡ length Γ.locals
-  pub body : body_numbered (kind_number scope.kind) (scope.returns) ≡ Γ.body
+  pub body : body_numbered scope.kind scope.returns ≡ Γ.body
   pub returns : scope.returns ≤ widest
 
 -- of a body without parameters and locals
@@ -49,6 +49,6 @@ without_frame reach kind = record {
   parameter_count = 0;
   locals = 0;
   local_count = 0;
-  kind = kind;
+  kind = kind_number kind;
   returns = 0;
 }

@@ -8,13 +8,13 @@ ghost use Rattle.program.specs.Stands.{keys_end};
 ghost use Rattle.program.specs.In.{In};
 ghost use Rattle.program.specs.Scopes.{kind_number, kind_numbered, without_frame};
 
-// The kinds of bodies.
+// The kinds of bodies, with the number of each.
 #[derive(Clone, Copy, PartialEq, Eq)]
 pub enum Kind {
-    Action,
-    Function,
-    Apply,
-    State,
+    Action = 0,
+    Function = 1,
+    Apply = 2,
+    State = 3,
 }
 
 impl Kind {
@@ -28,6 +28,13 @@ impl Kind {
             2 => Kind::Apply,
             _ => Kind::State,
         }
+    }
+
+    // The kind's number.
+    pub fn number(self) -> u64
+        ensures { result ≡ kind_number self }
+    {
+        self as u64
     }
 }
 
@@ -43,10 +50,10 @@ pub const MOST_KEYS: usize = shape::limits::MOST_KEYS as usize;
 // How many slots the widths of keys have, four a table.
 pub const WIDTHS: usize = 32;
 
-// A callable's kind, the type that a function returns, where its parameters begin and how many they are.
+// The number of a callable's kind, the type that a function returns, where its parameters begin and how many they are.
 #[derive(Clone, Copy)]
 pub struct Head {
-    pub kind: Kind,
+    pub kind: u64,
     pub returns: u64,
     pub parameters: usize,
     pub count: u64,
@@ -69,7 +76,7 @@ pub struct Parts {
 }
 
 // What a body sees: how many callables it reaches; where its parameters stand and how many they are; the same of its
-// locals; its kind and the type that it returns.
+// locals; the number of its kind, which may be any (`Kind::numbered`), and the type that it returns.
 #[derive(Clone, Copy)]
 pub struct Scope {
     pub reach: u64,
@@ -77,7 +84,7 @@ pub struct Scope {
     pub parameter_count: u64,
     pub locals: usize,
     pub local_count: u64,
-    pub kind: Kind,
+    pub kind: u64,
     pub returns: u64,
 }
 
@@ -92,7 +99,7 @@ impl Scope {
             parameter_count: 0,
             locals: 0,
             local_count: 0,
-            kind,
+            kind: kind.number(),
             returns: 0,
         }
     }
@@ -128,19 +135,19 @@ impl Source<'_> {
     // A callable's head.
     pub fn head_of(&self, f: usize) -> Head
         requires { In (Has callables_of) self.now f }
-        ensures { In (Finds callables_of (FoundHead self.now.nums.now (kind_number result.kind) result.returns result.parameters result.count)) self.now f }
+        ensures { In (Finds callables_of (FoundHead self.now.nums.now result.kind result.returns result.parameters result.count)) self.now f }
     {
         let at = self.directory[shape::CALLABLES + 1 + f] as usize;
         if self.nums[at] == 0 {
             Head {
-                kind: Kind::Action,
+                kind: Kind::Action.number(),
                 returns: 0,
                 parameters: at + 2,
                 count: self.nums[at + 1],
             }
         } else {
             Head {
-                kind: Kind::Function,
+                kind: Kind::Function.number(),
                 returns: self.nums[at + 1],
                 parameters: at + 3,
                 count: self.nums[at + 2],

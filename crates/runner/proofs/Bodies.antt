@@ -1,7 +1,5 @@
 -- The body of a callable: its frame is made, its statement runs, and its parameters' numbers are left.
-use Rattle.program.specs.declared.Kind.{Kind}
 use Rattle.program.specs.declared.Scope as coded
-use Rattle.program.specs.Scopes.{kind_number}
 use mathlib.Core.Bool.{true, false≢true}
 use mathlib.Core.Option.{Option, none, some}
 use mathlib.Core.Path.{◌≡◌, refl, ◌∙◌, sym, ap}
@@ -113,8 +111,8 @@ module _ {nums directory ends slots frame : List ℕ} {f : ℕ} {P : Program} {c
   few : length c.parameters + length c.locals ≤ most_own
   few = omega (arith, callable-stands.parameter_count.at_most, callable-stands.local_count.at_most)
 
-  module _ (kind : Kind) {returns parameters count locals local_count body : ℕ}
-      (head : FoundHead nums (kind_number kind) returns parameters count c)
+  module _ (kind : ℕ) {returns parameters count locals local_count body : ℕ}
+      (head : FoundHead nums kind returns parameters count c)
       (framed : FoundFrame nums ends locals local_count body c) {frame₁ : List ℕ}
       (z : Clears frame frame₁ count (count + local_count)) where
     abbrev scope : coded.Scope
@@ -178,15 +176,15 @@ module _ (nums directory ends slots frame : List ℕ) (f : ℕ) where
   pub body-fall : (t : ℕ) → rank f 4000 ≡ t → rank f (2000 + 32 * 32 + 20) < t
   body-fall t e = rank-lower t f 4000 (2000 + 32 * 32 + 20) e (omega arith)
 
-  module _ (kind : Kind) (returns parameters count locals local_count body : ℕ)
-      (head : Finds callables_of (FoundHead nums (kind_number kind) returns parameters count) nums directory ends f)
+  module _ (kind returns parameters count locals local_count body : ℕ)
+      (head : Finds callables_of (FoundHead nums kind returns parameters count) nums directory ends f)
       (framed : Finds callables_of (FoundFrame nums ends locals local_count body) nums directory ends f) where
     abbrev scoped : coded.Scope
     scoped = callable_scope f parameters count locals local_count kind returns
 
     head_at : {P : Program} {c : Callable} {used : ℕ} {es : List Entry} {ns : List ℕ} {cells : List Cell}
         → Called nums directory ends slots frame f P c used es ns cells
-        → FoundHead nums (kind_number kind) returns parameters count c
+        → FoundHead nums kind returns parameters count c
     unfolding callables_of
     head_at {P} {c} w = head.finds P w.end c w.stands w.is
 
